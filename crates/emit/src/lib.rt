@@ -1,0 +1,64 @@
+// Writing into a lent slice at a place that never runs past its end: what falls past the end is dropped and the place counts on, so the
+// same functions measure on an empty part and write on the real one. Each is defined for every slice, place and text; the place stays at
+// the largest number that it can hold. What a slice holds afterwards is said by `Written` of specs/Text.antt.
+ghost use mathlib.Core.Path.{_≡_};
+ghost use mathlib.Core.List.{[], _∷_};
+ghost use Rattle.emit.specs.Text.{Written, after, decimal};
+
+// The place after one more element.
+fn advance(at: usize) -> usize
+    ensures { λ r. ⌜ r ≡ after at 1 ⌝ }
+{
+    if at < 18446744073709551615 {
+        at + 1
+    } else {
+        at
+    }
+}
+
+// One byte.
+pub fn put_byte(out: &mut [u8], at: usize, b: u8) -> usize
+    ensures { λ r. ⌜ Written (now (out .entry)) at (b ∷ []) (now (out .exit)) r ⌝ }
+{
+    if at < out.len() {
+        out[at] = b;
+        return at + 1;
+    }
+    advance(at)
+}
+
+// One atom number.
+pub fn put_index(out: &mut [u16], at: usize, n: u16) -> usize
+    ensures { λ r. ⌜ Written (now (out .entry)) at (n ∷ []) (now (out .exit)) r ⌝ }
+{
+    if at < out.len() {
+        out[at] = n;
+        return at + 1;
+    }
+    advance(at)
+}
+
+// A text.
+pub fn put_text(out: &mut [u8], at: usize, text: &[u8]) -> usize
+    ensures { λ r. ⌜ Written (now (out .entry)) at (now (text .entry)) (now (out .exit)) r ⌝ }
+{
+    let mut p = at;
+    let mut i = 0;
+    while i < text.len() {
+        p = put_byte(out, p, text[i]);
+        i += 1;
+    }
+    p
+}
+
+// The decimal digits of n, most significant first, with no leading zero.
+pub fn put_number(out: &mut [u8], at: usize, n: u32) -> usize
+    ensures { λ r. ⌜ Written (now (out .entry)) at (decimal n) (now (out .exit)) r ⌝ }
+{
+    if n < 10 {
+        put_byte(out, at, (48 + n) as u8)
+    } else {
+        let p = put_number(out, at, n / 10);
+        put_byte(out, p, (48 + n % 10) as u8)
+    }
+}
