@@ -2,7 +2,8 @@
 
 Written sentence by sentence from document 01, in its order, and not from the
 original Rust, so that a comparison of the two says something.  It is slow and
-plain on purpose.  Sections:
+plain on purpose.  Words between double quotes are 01's, some of them shortened.
+Sections:
 
   1. Token reader        bytes of a token to a chain, or 11 or 31
   2. Tail                the grammar, and the tail's atoms and bonds
@@ -113,7 +114,7 @@ class Chain:
 
 
 def trim(part):
-    """ "Trimming drops spaces." """
+    """01: "Trimming drops spaces"."""
     return part.strip(b" ")
 
 
@@ -123,7 +124,7 @@ def unreadable_unless(condition):
 
 
 def read_number(part, largest=U32):
-    """ "A number is digits after at most one `+`, at most 4,294,967,295." """
+    """01: "A number is digits after at most one `+`, at most 4,294,967,295"."""
     digits = part[1:] if part.startswith(b"+") else part
     unreadable_unless(digits.isdigit())
     value = int(digits)
@@ -138,12 +139,12 @@ def split_digits(part):
 
 
 def read_list(part, read_one):
-    """ "Positions are trimmed; an empty list is none." """
+    """01: "Positions are trimmed; an empty list is none"."""
     return [read_one(trim(p)) for p in part.split(b",")] if part else []
 
 
 def read_bond(part):
-    """ "A double bond's [position] may end in one Z, z, E or e." """
+    """01: "A double bond's [position] may end in one Z, z, E or e"."""
     letter = part[-1:].upper()
     if letter in (b"Z", b"E"):
         return Bond(read_number(part[:-1]), letter)
@@ -151,7 +152,7 @@ def read_bond(part):
 
 
 def read_prefix(chain, part):
-    """ "`iso-` or `anteiso-`, then `O-`, `P-`, or d/D/t/T before a digit, then
+    """01: "`iso-` or `anteiso-`, then `O-`, `P-`, or d/D/t/T before a digit, then
     the branch word if not yet seen."  Gives the branch word's offset (0: no
     word) and what follows."""
     offset, part = read_branch_word(part)
@@ -173,7 +174,7 @@ def read_branch_word(part):
 
 def read_carbons(chain, offset, part):
     """The carbon text.  "iso takes offset 1, anteiso 2: carbons below offset + 3
-    give 11; else c is one less, methyl at c - offset." """
+    give 11; else c is one less, methyl at c - offset"."""
     chain.written = chain.c = read_number(part)
     if chain.written > MAX_CARBONS:
         raise Refused(31)
@@ -185,7 +186,7 @@ def read_carbons(chain, offset, part):
 
 def read_ring(chain, part):
     """Ring start-end`cy`size, "each trimmed, then optionally `:n` and after it
-    `(list)`, blank n being 0". """
+    `(list)`, blank n being 0"."""
     span, _, rest = part.partition(b"cy")
     start, _, end = span.partition(b"-")
     size, _, bonds = rest.partition(b":")
@@ -206,7 +207,7 @@ def read_ring(chain, part):
 
 
 def alias_ring(chain, abbr, start):
-    """ "Start 0 or end over c gives 11, in unbounded arithmetic." """
+    """01: "Start 0 or end over c gives 11, in unbounded arithmetic"."""
     end = start + ALIAS_SPAN[abbr] - 1
     unreadable_unless(start > 0 and end <= chain.c)
     return Ring(start, end, abbr not in (b"cyc", b"cyclo"))
@@ -218,7 +219,7 @@ def read_group_branch(abbr):
 
 
 def read_counted_groups(chain, part):
-    """ "`(abbr)n`: n unlocated groups, 1 if nothing follows." """
+    """01: "`(abbr)n`: n unlocated groups, 1 if nothing follows"."""
     abbr, closed, count = part[1:].partition(b")")
     unreadable_unless(closed)
     count = read_number(count) if count else 1
@@ -228,7 +229,7 @@ def read_counted_groups(chain, part):
 
 
 def read_listed_groups(chain, part):
-    """ "`abbr(list)`: groups or alias rings there; position 0 means unlocated." """
+    """01: "`abbr(list)`: groups or alias rings there; position 0 means unlocated"."""
     abbr, _, positions = part.partition(b"(")
     unreadable_unless(positions.endswith(b")"))
     positions = read_list(positions[:-1], read_number)
@@ -240,7 +241,7 @@ def read_listed_groups(chain, part):
 
 
 def read_parts(chain, segment):
-    """ "Split at commas: digits then abbr, no digits meaning 0, a part all digits
+    """01: "Split at commas: digits then abbr, no digits meaning 0, a part all digits
     unreadable."  Gives the last oxygen count of the segment, None without one."""
     oxygens = None
     for part in segment.split(b","):
@@ -259,9 +260,9 @@ def read_parts(chain, segment):
 
 
 def seats_fit(c, used, missing):
-    """ "Missing bonds need c >= 4 and each a free seat in 2..c-1, neither it nor
+    """01: "Missing bonds need c >= 4 and each a free seat in 2..c-1, neither it nor
     a neighbour used by a position of the `(..)` list or a seat.  Look upward
-    from max(2, min(9, c-1)), past c-1 back to 2; after p start from p + 3." """
+    from max(2, min(9, c-1)), past c-1 back to 2; after p start from p + 3"."""
     if missing == 0:
         return True
     if c < 4:
@@ -285,7 +286,7 @@ def read_token(raw):
     """The chain of a token, or `Refused` with 31 or 11.
 
     "Length and bytes of the untrimmed token first, carbons with their text,
-    counts after each bond list or segment read without 11." """
+    counts after each bond list or segment read without 11"."""
     if len(raw) > MAX_TOKEN_BYTES or any(b < 32 or b > 126 for b in raw):
         raise Refused(31)
     chain = Chain()
@@ -339,7 +340,7 @@ def read_token(raw):
 
 def refuse_over_counts(chain):
     """31: "over 16 groups (a methyl counts), 8 rings or 32 written double bonds
-    with a position". """
+    with a position"."""
     if (
         len(chain.groups) > MAX_GROUPS
         or len(chain.rings) > MAX_RINGS
@@ -375,7 +376,7 @@ def atom_at(text, at):
 
 
 def plain(mark):
-    """ "`-` is plain." """
+    """01: "`-` is plain"."""
     return b"" if mark == b"-" else mark
 
 
@@ -398,7 +399,7 @@ class Tail:
             raise Tail.Outside
 
     def run(self, at, parent, depth):
-        """ "One or more atoms, each after at most one bond": reads from `at`, the
+        """01: "One or more atoms, each after at most one bond": reads from `at`, the
         first atom joined to `parent`, and gives the place after the run."""
         first = True
         while True:
@@ -428,7 +429,7 @@ class Tail:
             parent, first = index, False
 
     def digit(self, digit, index):
-        """ "Closed inside the tail between two otherwise unbonded atoms." """
+        """01: "Closed inside the tail between two otherwise unbonded atoms"."""
         if digit not in self.open_digits:
             self.open_digits[digit] = index
             return
@@ -480,7 +481,7 @@ class Placed:
         return [g for g in self.groups if not g.position]
 
     def prefix_end(self):
-        """ "Literal prefix runs to the largest of f, p+1, group positions, ring
+        """01: "Literal prefix runs to the largest of f, p+1, group positions, ring
         ends, capped at c."  Without unlocated bonds all is literal."""
         if self.n == 0:
             return self.c
@@ -530,7 +531,7 @@ class Placed:
         return self.n > 0 and bool(pins) and min(pins) > (3 if self.is_acyl else self.f + 1)
 
     def is_14(self):
-        """ "R carbons remain; R < 2n+2 gives 14." """
+        """01: "R carbons remain; R < 2n+2 gives 14"."""
         return self.n > 0 and self.c - self.prefix_end() < 2 * self.n + 2
 
     def is_15(self):
@@ -551,7 +552,7 @@ def check_request(request):
     that only 41 may still refuse; otherwise `Refused`.
 
     "Order: 20, 21, per token 31 and 11, per chain 22, then 23, per chain 32 then
-    33, per chain 12 to 15, 41." """
+    33, per chain 12 to 15, 41"."""
     if request.class_code not in TOKEN_COUNTS:
         raise Refused(20)
     if len(request.tokens) not in TOKEN_COUNTS[request.class_code]:
@@ -609,7 +610,7 @@ DOUBLE, BRIDGED, UP, DOWN, EMPTY = b"=", b"O", b"/", b"\\", b""
 
 
 def chain_bonds(placed):
-    """ "Bond k joins k and k+1: double, bridged, marked or plain": bond k for
+    """01: "Bond k joins k and k+1: double, bridged, marked or plain": bond k for
     k = 0..c, of which 0 and c are never filled."""
     bonds = [EMPTY] * (placed.c + 1)
     for ring in placed.rings:
@@ -637,7 +638,7 @@ def mark_of(bond):
 
 
 def variable_name(index):
-    """ "Variables: a..z, aa..zz." """
+    """01: "Variables: a..z, aa..zz"."""
     letters = b"abcdefghijklmnopqrstuvwxyz"
     if index < 26:
         return letters[index:index + 1]
@@ -710,8 +711,8 @@ class Drawing:
         self.slot(sn_end, self.atom(b"C", middle))
 
     def sphingoid(self, tail):
-        """ "The base's C1 and C2 are atoms 1 and 0, where its indices start; sn 1
-        has no site." """
+        """01: "The base's C1 and C2 are atoms 1 and 0, where its indices start; sn 1
+        has no site"."""
         second = self.atom(b"C", None)
         first = self.atom(b"C", second)
         self.tail(tail, first)
@@ -722,16 +723,15 @@ class Drawing:
         self.chain_body(1, second)
 
     def slot(self, sn, parent):
-        """ "Slot S is `O` and chain; `O` alone if absent or c = 0." """
+        """01: "Slot S is `O` and chain; `O` alone if absent or c = 0"."""
         oxygen = self.atom(b"O", parent)
         if sn in self.placed and self.placed[sn].c > 0:
-            self.chain(sn, oxygen)
-            # "A site is the first atom pushed for a nonempty chain": here its O.
-            self.sites[sn] = oxygen
+            self.chain(sn, oxygen, site=oxygen)
 
-    def chain(self, sn, parent):
-        """A chain from C1.  Its site is C1 where no slot's `O` belongs to it."""
-        self.sites[sn] = len(self.symbols)
+    def chain(self, sn, parent, site=None):
+        """A chain from C1.  "A site is the first atom pushed for a nonempty
+        chain": a slot's `O`, and C1 where no slot's `O` belongs to the chain."""
+        self.sites[sn] = len(self.symbols) if site is None else site
         self.carbons[sn] = []
         self.chain_body(sn, parent)
 
@@ -765,9 +765,9 @@ class Drawing:
             self.branch(group.branch, floating)
 
     def flexible_tail(self, placed, parent, mark, remaining):
-        """ "Then any mark, `C`, n-1 `C=C`, `C=CC`": 2n+2 carbons, every second
+        """01: "Then any mark, `C`, n-1 `C=C`, `C=CC`": 2n+2 carbons, every second
         bond double from the second on.  "Variables sit on P+2i for i < n and on
-        P+2n+1; their sum is R-n-1." """
+        P+2n+1; their sum is R-n-1"."""
         n = placed.n
         run = []
         for i in range(2 * n + 2):
@@ -786,7 +786,8 @@ class Drawing:
     def branch(self, branch, parent):
         drawn = []
         for symbol, hangs_from, mark in BRANCH_ATOMS[branch]:
-            drawn.append(self.atom(symbol, parent if hangs_from is None else drawn[hangs_from], mark))
+            from_atom = parent if hangs_from is None else drawn[hangs_from]
+            drawn.append(self.atom(symbol, from_atom, mark))
 
     def tail(self, tail, parent):
         first = len(self.symbols)
@@ -881,7 +882,7 @@ class Line:
             self.push_fixed(b".*" + group.branch)
 
     def carbon_text(self, placed, k):
-        """ "Text: C, labels `%10` on, `(branch)`." """
+        """01: "Text: C, labels `%10` on, `(branch)`"."""
         text = b"C"
         for i, ring in enumerate(placed.rings):
             if k in (ring.start, ring.end):
@@ -905,9 +906,9 @@ class Line:
         return range(first, first + 2 * n + 2)
 
     def finish(self):
-        """ "Blocks: sn labels (swap set, two sites or more), all Sg, all m; then
+        """01: "Blocks: sn labels (swap set, two sites or more), all Sg, all m; then
         `swappable(..)` and `constrain(..)` joined by `;`.  No block: bare
-        text." """
+        text"."""
         blocks, trailers = [], []
         if self.swap and len(self.sites) >= 2:
             entries = [b""] * (max(self.sites.values()) + 1)
@@ -945,7 +946,7 @@ def read_text(text):
 
     "A run is an atom with labels (`%`, 10 to 99) and digits 1 to 9, then any
     number of: such an atom, after at most one mark or `.`; `(`, at most one
-    mark, a run, `)`.  The text is a run." """
+    mark, a run, `)`.  The text is a run"."""
     symbols, bonds, joined = [], set(), set()
     open_labels, branch_points = {}, []
     current = None
@@ -990,8 +991,8 @@ def read_text(text):
 
 
 def read_labels(text, at, index, open_labels, bonds, joined):
-    """ "A label or digit opens, then closes with a plain bond.  One closing on
-    its own atom or on one already bonded to it is unreadable." """
+    """01: "A label or digit opens, then closes with a plain bond.  One closing on
+    its own atom or on one already bonded to it is unreadable"."""
     while True:
         if text[at:at + 1] in RING_DIGITS:
             label, at = text[at:at + 1], at + 1
@@ -1011,14 +1012,14 @@ def read_labels(text, at, index, open_labels, bonds, joined):
 
 
 def line_number(part):
-    """ "Numbers are digits without a leading zero, below 2^32." """
+    """01: "Numbers are digits without a leading zero, below 2^32"."""
     demand(part.isdigit() and (part == b"0" or part[:1] != b"0"))
     demand(int(part) <= U32)
     return int(part)
 
 
 def variable(part):
-    """ "One or two small letters." """
+    """01: "One or two small letters"."""
     demand(1 <= len(part) <= 2 and all(97 <= b <= 122 for b in part))
     return part
 
@@ -1086,8 +1087,8 @@ def read_blocks(text, atom_count, labels, variables, sites):
 
 
 def read_label_block(text, atom_count, labels):
-    """ "`$..$` names the atoms from 0, parted by `;`", "of entries empty or sn1 to
-    sn4"; "lists are not empty". """
+    """01: "`$..$` names the atoms from 0, parted by `;`", "of entries empty or sn1 to
+    sn4"; "lists are not empty"."""
     entries = text.split(b";")
     demand(len(entries) <= atom_count)
     for atom, entry in enumerate(entries):
@@ -1099,7 +1100,7 @@ def read_label_block(text, atom_count, labels):
 
 
 def read_sum(text):
-    """ "A sum is its variables parted by `+`, then `=` and its number." """
+    """01: "A sum is its variables parted by `+`, then `=` and its number"."""
     names, equals, total = text.partition(b"=")
     demand(equals)
     return tuple(variable(v) for v in names.split(b"+")), line_number(total)
@@ -1206,7 +1207,7 @@ UNREADABLE_ROW = Answer(42, 0, b"", [], [])
 
 def read_header(line):
     """The column names, or None: "a header with an unknown or doubled name or no
-    class". """
+    class"."""
     names = line.split(b"\t")
     known = all(name in COLUMNS for name in names)
     return names if known and len(set(names)) == len(names) and b"class" in names else None
@@ -1231,7 +1232,7 @@ def read_row(names, row):
 
 
 def sheet_lines(sheet):
-    """ "Lines end in LF, the last at will." """
+    """01: "Lines end in LF, the last at will"."""
     lines = sheet.split(b"\n")
     return lines[:-1] if len(lines) > 1 and not lines[-1] else lines
 
