@@ -1,0 +1,6 @@
+pub mod Ascii
+pub mod Row
+pub mod Piece
+pub mod Lexer
+pub mod Machine
+pub mod Text
