@@ -1,1 +1,4 @@
+pub mod Reading
+pub mod OpenLabels
+pub mod Frame
 pub mod Examples

@@ -4,3 +4,5 @@ pub mod Piece
 pub mod Lexer
 pub mod Machine
 pub mod Text
+pub mod Part
+pub mod Chain

@@ -1,0 +1,41 @@
+-- The open labels: what is found after one is opened or closed.
+use mathlib.Core.Path.{_≡_, refl, sym, ap, _∙_}
+use mathlib.Core.Bool.{Bool, true, false, cond}
+use mathlib.Core.Option.{Option, none, some}
+use Prim.Native.Nat.{ℕ}
+use mathlib.Core.List.{List, [], _∷_}
+use lib.Dec.{eqb}
+use borrow.Author.Tests.{eqb-true, eq-eqb, ne-eqb}
+use Rattle.reading.specs.Machine.{Entry, entry, lookup, remove}
+
+pub lookup-same : (l a : ℕ) (t : List Entry) → lookup l (entry l a ∷ t) ≡ some a
+unfolding lookup
+lookup-same l a t = rw (eq-eqb l l refl)
+
+pub lookup-other : (m l a : ℕ) (t : List Entry) → (m ≡ l → ⊥) → lookup m (entry l a ∷ t) ≡ lookup m t
+unfolding lookup
+lookup-other m l a t h = rw (ne-eqb m l h)
+
+pub lookup-removed : (l : ℕ) (t : List Entry) → lookup l (remove l t) ≡ none
+unfolding lookup remove
+lookup-removed l [] = refl
+lookup-removed l (entry k a ∷ t) = go (eqb l k) refl (lookup-removed l t)
+  where
+    go : (x : Bool) → eqb l k ≡ x → lookup l (remove l t) ≡ none → lookup l (cond x (remove l t) (entry k a ∷ remove l t)) ≡ none
+    go true e ih = ih
+    go false e ih = rw e ih
+
+pub lookup-remove-other : (m l : ℕ) (t : List Entry) → (m ≡ l → ⊥) → lookup m (remove l t) ≡ lookup m t
+unfolding lookup remove
+lookup-remove-other m l [] h = refl
+lookup-remove-other m l (entry k a ∷ t) h = go (eqb l k) refl (lookup-remove-other m l t h)
+  where
+    go : (x : Bool) → eqb l k ≡ x → lookup m (remove l t) ≡ lookup m t
+        → lookup m (cond x (remove l t) (entry k a ∷ remove l t)) ≡ cond (eqb m k) (some a) (lookup m t)
+    go true e ih = rw (ne-eqb m k (λ q. h (q ∙ sym (eqb-true l k e)))) ih
+    go false e ih = ap (cond (eqb m k) (some a)) ih
+
+-- a table in which no label is found is empty
+pub nothing-open : (t : List Entry) → ((m : ℕ) → lookup m t ≡ none) → t ≡ []
+nothing-open [] h = refl
+nothing-open (entry k a ∷ t) h = cc (h k, lookup-same k a t)
