@@ -1,4 +1,10 @@
 pub mod Reading
 pub mod OpenLabels
 pub mod Frame
+pub mod Chain
+pub mod WellFormed
+pub mod LexShow
+pub mod ShowLex
+pub mod Part
+pub mod Template
 pub mod Examples

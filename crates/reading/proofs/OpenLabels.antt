@@ -3,7 +3,7 @@ use mathlib.Core.Path.{_≡_, refl, sym, ap, _∙_}
 use mathlib.Core.Bool.{Bool, true, false, cond}
 use mathlib.Core.Option.{Option, none, some}
 use Prim.Native.Nat.{ℕ}
-use mathlib.Core.List.{List, [], _∷_}
+use mathlib.Core.List.{List, [], _∷_, _++_}
 use lib.Dec.{eqb}
 use borrow.Author.Tests.{eqb-true, eq-eqb, ne-eqb}
 use Rattle.reading.specs.Machine.{Entry, entry, lookup, remove}
@@ -39,3 +39,13 @@ lookup-remove-other m l (entry k a ∷ t) h = go (eqb l k) refl (lookup-remove-o
 pub nothing-open : (t : List Entry) → ((m : ℕ) → lookup m t ≡ none) → t ≡ []
 nothing-open [] h = refl
 nothing-open (entry k a ∷ t) h = cc (h k, lookup-same k a t)
+
+-- a label that is not open in the first is looked for in the others
+pub lookup-append : (m : ℕ) (t ext : List Entry) → lookup m t ≡ none → lookup m (t ++ ext) ≡ lookup m ext
+unfolding lookup
+lookup-append m [] ext h = refl
+lookup-append m (entry k a ∷ t) ext h = go (eqb m k) (lookup-append m t ext) h
+  where
+    go : (x : Bool) → (lookup m t ≡ none → lookup m (t ++ ext) ≡ lookup m ext) → cond x (some a) (lookup m t) ≡ none → cond x (some a) (lookup m (t ++ ext)) ≡ lookup m ext
+    go true ih q = cc
+    go false ih q = ih q

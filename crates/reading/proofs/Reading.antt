@@ -1,6 +1,6 @@
 -- Reading a text piece by piece: what is joined is read in turn, and what was read comes apart again.
 use mathlib.Core.Path.{_≡_, refl, sym, ap, _∙_, subst, fun-ext}
-use Prim.Native.Nat.{ℕ, suc, _+_}
+use Prim.Native.Nat.{ℕ, suc, _+_, _<_}
 use native.Mathlib.Omega.{arith}
 use mathlib.Core.List.{List, [], _∷_, _++_, append-assoc, append-nil}
 use lib.ListN.{length, length-append}
@@ -173,3 +173,58 @@ reads-count [] {s} {s′} {r} d =
 reads-count (u ∷ us) {s} {s′} {r} d =
     let q : Split u us s r s′ = reads-split d in
     omega (arith, steps-count (q .first), reads-count us (q .rest), ap length (q .all), length-append (q .r₁) (q .r₂))
+
+-- ---- the current atom and those of the open branches are among the atoms so far
+
+abbrev EachBelow : ℕ → List ℕ → Type 0
+EachBelow n [] = Unit {0}
+EachBelow n (p ∷ ps) = (p < n) × EachBelow n ps
+
+abbrev Joined : Phase → ℕ → ℕ → Type 0
+Joined fresh cur n = Unit {0}
+Joined opened cur n = cur < n
+Joined after cur n = cur < n
+Joined (marked m) cur n = cur < n
+
+abbrev pub Stands : State → Type 0
+Stands (st n cur stk t ph) = EachBelow n stk × Joined ph cur n
+
+abbrev StandsOut : Out → Type 0
+StandsOut fail = Unit {0}
+StandsOut (ok r s) = Stands s
+
+each-below-suc : (n : ℕ) (ps : List ℕ) → EachBelow n ps → EachBelow (suc n) ps
+each-below-suc n [] h = tt
+each-below-suc n (p ∷ ps) h = (omega (arith, h .0), each-below-suc n ps (h .1))
+
+placed-stands : (b : List ℕ) (n : ℕ) (stk : List ℕ) (g : Labelled) → EachBelow n stk → StandsOut (placed b n stk g)
+unfolding placed
+placed-stands b n stk stop h = tt
+placed-stands b n stk (links ks t) h = (each-below-suc n stk h, omega arith)
+
+step-stands : (u : Piece) (s : State) → Stands s → StandsOut (step u s)
+unfolding step
+step-stands (atom b ls) (st n cur stk t ph) h = placed-stands b n stk (labels ls n (joins ph cur) t) (h .0)
+step-stands (mark m) (st n cur stk t fresh) h = tt
+step-stands (mark m) (st n cur stk t opened) h = h
+step-stands (mark m) (st n cur stk t after) h = h
+step-stands (mark m) (st n cur stk t (marked m′)) h = tt
+step-stands dot (st n cur stk t fresh) h = tt
+step-stands dot (st n cur stk t opened) h = tt
+step-stands dot (st n cur stk t after) h = (h .0, tt)
+step-stands dot (st n cur stk t (marked m′)) h = tt
+step-stands lpar (st n cur stk t fresh) h = tt
+step-stands lpar (st n cur stk t opened) h = tt
+step-stands lpar (st n cur stk t after) h = ((h .1, h .0), h .1)
+step-stands lpar (st n cur stk t (marked m′)) h = tt
+step-stands rpar (st n cur [] t ph) h = tt
+step-stands rpar (st n cur (p ∷ stk) t fresh) h = tt
+step-stands rpar (st n cur (p ∷ stk) t opened) h = tt
+step-stands rpar (st n cur (p ∷ stk) t after) h = (h .0 .1, h .0 .0)
+step-stands rpar (st n cur (p ∷ stk) t (marked m′)) h = tt
+
+pub reads-stands : (us : List Piece) {s s′ : State} {r : List Row} → Reads us s r s′ → Stands s → Stands s′
+reads-stands [] d h = subst Stands (reads-nil-only d .state) h
+reads-stands (u ∷ us) {s} {s′} {r} d h =
+    let q : Split u us s r s′ = reads-split d in
+    reads-stands us (q .rest) (subst StandsOut (q .first .by) (step-stands u s h))

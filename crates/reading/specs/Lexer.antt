@@ -36,7 +36,7 @@ bracketed x = within (code "A") (code "Z") x || within (code "a") (code "z") x |
 
 -- the letter x makes one atom with the letter a: Cl and Br
 unfoldable pub pairs : ℕ → ℕ → Bool
-pairs a x = eqb a (code "C") && eqb x (code "l") || eqb a (code "B") && eqb x (code "r")
+pairs a x = eqb x (code "l") && eqb a (code "C") || eqb x (code "r") && eqb a (code "B")
 
 -- ---- one byte
 

@@ -6,3 +6,4 @@ pub mod Machine
 pub mod Text
 pub mod Part
 pub mod Chain
+pub mod Template

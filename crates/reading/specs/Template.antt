@@ -1,0 +1,79 @@
+-- A template: pieces of its own, in which a caller's part or a chain may stand where an atom may.
+-- 01, Templates and the builder: "Slot S is `O` and chain; `O` alone if absent or c = 0", `C(C`tail`)(`S2`)C`S1; Drawing a chain: "Atoms of
+-- the drawn molecule .. are numbered from 0 as the template stands: a slot's O, then each carbon along the chain .., then the chain's
+-- floating parts".
+use Prim.Native.Nat.{ℕ, suc, _+_}
+use mathlib.Core.Option.{Option, none, some}
+use mathlib.Core.List.{List, [], _∷_, _++_}
+use lib.ListN.{length}
+use Rattle.reading.specs.Row.{Row}
+use Rattle.reading.specs.Piece.{Piece}
+use Rattle.reading.specs.Machine.{Phase, fresh, opened, after, marked, State, st, Out, fail, ok, step, andThen, whole}
+use Rattle.reading.specs.Part.{Part, place, hung}
+use Rattle.reading.specs.Chain.{Ring, Carbon, chainEnd, chainLast, chainRows, chainPieces, floatPieces, floatRows, floatEnd, floatLast}
+
+-- a chain: its first carbon's number, its rings, its carbons, the parts that float
+pub record Chain : Type 0 where
+  pub first : ℕ
+  pub rings : List Ring
+  pub carbons : List Carbon
+  pub floats : List Part
+
+pub data Item : Type 0 where
+  piece : Piece → Item
+  part : Part → Item
+  chain : Chain → Item
+
+-- ---- what is written: each chain takes the labels after those of the chain before it
+
+unfoldable pub itemPieces : ℕ → Item → List Piece
+unfolding chainPieces floatPieces
+itemPieces l (piece u) = u ∷ []
+itemPieces l (part p) = p .pieces
+itemPieces l (chain c) = chainPieces (c .rings) l (c .first) (c .carbons) ++ floatPieces (c .floats)
+
+-- the next label
+unfoldable pub nextLabel : ℕ → Item → ℕ
+nextLabel l (piece u) = l
+nextLabel l (part p) = l
+nextLabel l (chain c) = l + length (c .rings)
+
+unfoldable pub templatePieces : ℕ → List Item → List Piece
+unfolding itemPieces nextLabel
+templatePieces l [] = []
+templatePieces l (i ∷ is) = itemPieces l i ++ templatePieces (nextLabel l i) is
+
+-- ---- what is drawn: what the machine gives where a part and a chain stand for the rows that are drawn for them
+
+unfoldable pub drawPart : Part → State → Out
+unfolding hung
+drawPart p (st n cur stk t fresh) = fail
+drawPart p (st n cur stk t opened) = ok (hung cur n p) (st (n + p .size) (place cur n (p .last)) stk t after)
+drawPart p (st n cur stk t after) = ok (hung cur n p) (st (n + p .size) (place cur n (p .last)) stk t after)
+drawPart p (st n cur stk t (marked m)) = fail
+
+-- a chain hangs on the atom before it, which is carbon f − 1 or what stands for it
+unfoldable pub drawChain : Chain → State → Out
+unfolding chainRows chainEnd chainLast floatRows floatEnd floatLast
+drawChain c (st n cur stk t fresh) = fail
+drawChain c (st n cur stk t opened) = fail
+drawChain c (st n cur stk t after) =
+    ok (chainRows (c .first) (c .rings) (c .carbons) n cur ++ floatRows (chainEnd n (c .carbons)) (c .floats))
+    (st (floatEnd (chainEnd n (c .carbons)) (c .floats)) (floatLast (chainEnd n (c .carbons)) (chainLast n cur (c .carbons)) (c .floats)) stk t after)
+drawChain c (st n cur stk t (marked m)) = fail
+
+unfoldable pub draw : Item → State → Out
+unfolding drawPart drawChain step
+draw (piece u) s = step u s
+draw (part p) s = drawPart p s
+draw (chain c) s = drawChain c s
+
+unfoldable pub drawAll : List Item → State → Out
+unfolding draw andThen
+drawAll [] s = ok [] s
+drawAll (i ∷ is) s = andThen (draw i s) (λ s′. drawAll is s′)
+
+-- the rows of a template, if its own pieces are a run
+unfoldable pub drawn : List Item → Option (List Row)
+unfolding drawAll whole
+drawn is = whole (drawAll is (st 0 0 [] [] fresh))
