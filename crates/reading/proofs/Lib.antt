@@ -7,4 +7,5 @@ pub mod LexShow
 pub mod ShowLex
 pub mod Part
 pub mod Template
+pub mod TemplateText
 pub mod Examples
