@@ -140,7 +140,9 @@ module _ (c : ParsedChain) where
   none-many b g r =
       record { stands = λ d k. rw (le-ltb maxBonds (length (d .bonds)) (keeps-within (k .bonds) b), le-ltb maxGroups (length (d .groups)) (keeps-within (k .groups) g), le-ltb maxRings (length (d .rings)) (keeps-within (k .rings) r)) (refl, k) }
 
--- ---- how answers are put together
+-- ---- how answers are put together. The invariant of a loop that reads on from a record c, having started at c₀: what is read from c is
+-- what was to be read from c₀, `(r : Parsed) → Gives c r (rest t) → Gives c₀ r (rest s)`. A turn composes it with `gives-then`, an exit ends
+-- it with `gives-stop`.
 
 -- a refusal, whatever the chain
 pub gives-refused : (c e : ParsedChain) (n : ℕ) → 0 < n → Gives c (record { refusal = n; chain = e }) (λ d. Refused n)

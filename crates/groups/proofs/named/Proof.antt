@@ -1,0 +1,28 @@
+use borrow.Author.Needs.{length-unmapped}
+use Rattle.groups.proofs.Laws.{named-is, abbr-within}
+use borrow.Author.Needs.{needs}
+use Rattle.groups.proofs.named.Statement.{statement}
+use Rattle.groups.proofs.named.Tie as tie
+
+row-at-requires : tie.Need-row-at-requires
+row-at-requires c κs = search needs
+
+sub-same : tie.Need-sub-same
+sub-same c = search needs
+
+part-same-start : tie.Need-part-same-start
+part-same-start c = search needs
+
+part-same-end : tie.Need-part-same-end
+part-same-end c = search (abbr-within, length-unmapped)
+
+same-requires : tie.Need-same-requires
+same-requires c κs = search needs
+
+returns : tie.Need-returns
+returns c = search named-is
+
+pub named-spec : {M : Type 1} → statement M
+named-spec =
+    tie.close
+    (tie.spec row-at-requires sub-same part-same-start part-same-end same-requires returns)

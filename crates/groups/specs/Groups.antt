@@ -1,0 +1,139 @@
+-- 01, Token reader: the group table, the abbreviations beside it and the alias rings. Texts are lists of bytes, with the text in a comment.
+-- Assumes nothing.
+use Prim.Native.Nat.{ℕ, suc, _+_, _≤_}
+use mathlib.Core.List.{List, [], _∷_}
+use mathlib.Core.Bool.{Bool, true, false, cond}
+use mathlib.Core.Path.{_≡_}
+use lib.ListN.{take, getD}
+use lib.Dec.{eqb}
+use Rattle.scan.specs.Part.{sameBytes}
+use Rattle.groups.specs.declared.Found.{Found}
+use Rattle.groups.specs.declared.Found.the-variants.{At, Nothing}
+use Rattle.groups.specs.declared.RingSize.{RingSize}
+use Rattle.groups.specs.declared.RingSize.the-variants.{Carbons, Nothing as NoRing}
+use Rattle.groups.specs.declared.Row.{Row}
+
+-- a group: its abbreviation, the branch that its carbon carries and the atoms of the branch
+pub record Entry : Type 0 where
+  pub abbr : List ℕ
+  pub branch : List ℕ
+  pub atoms : ℕ
+
+abbrev pub entry : List ℕ → List ℕ → ℕ → Entry
+entry a b n = record { abbr = a; branch = b; atoms = n }
+
+-- "Group table, 17 rows: Et CC, Me C, Br Br, Cl Cl, F F, I I, NO2 [N+](=O)[O-], OMe OC, NH2 N, OOH OO, SH S, OH O, oxo =O, CN C#N, P OP(=O)(O)O, S OS(=O)(=O)O, COOH C(=O)O"
+unfoldable pub entries : List Entry
+entries =
+    entry (69 ∷ 116 ∷ []) (67 ∷ 67 ∷ []) 2 ∷
+    entry (77 ∷ 101 ∷ []) (67 ∷ []) 1 ∷
+    entry (66 ∷ 114 ∷ []) (66 ∷ 114 ∷ []) 1 ∷
+    entry (67 ∷ 108 ∷ []) (67 ∷ 108 ∷ []) 1 ∷
+    entry (70 ∷ []) (70 ∷ []) 1 ∷
+    entry (73 ∷ []) (73 ∷ []) 1 ∷
+    entry (78 ∷ 79 ∷ 50 ∷ []) (91 ∷ 78 ∷ 43 ∷ 93 ∷ 40 ∷ 61 ∷ 79 ∷ 41 ∷ 91 ∷ 79 ∷ 45 ∷ 93 ∷ []) 3 ∷
+    entry (79 ∷ 77 ∷ 101 ∷ []) (79 ∷ 67 ∷ []) 2 ∷
+    entry (78 ∷ 72 ∷ 50 ∷ []) (78 ∷ []) 1 ∷
+    entry (79 ∷ 79 ∷ 72 ∷ []) (79 ∷ 79 ∷ []) 2 ∷
+    entry (83 ∷ 72 ∷ []) (83 ∷ []) 1 ∷
+    entry (79 ∷ 72 ∷ []) (79 ∷ []) 1 ∷
+    entry (111 ∷ 120 ∷ 111 ∷ []) (61 ∷ 79 ∷ []) 1 ∷
+    entry (67 ∷ 78 ∷ []) (67 ∷ 35 ∷ 78 ∷ []) 2 ∷
+    entry (80 ∷ []) (79 ∷ 80 ∷ 40 ∷ 61 ∷ 79 ∷ 41 ∷ 40 ∷ 79 ∷ 41 ∷ 79 ∷ []) 5 ∷
+    entry (83 ∷ []) (79 ∷ 83 ∷ 40 ∷ 61 ∷ 79 ∷ 41 ∷ 40 ∷ 61 ∷ 79 ∷ 41 ∷ 79 ∷ []) 5 ∷
+    entry (67 ∷ 79 ∷ 79 ∷ 72 ∷ []) (67 ∷ 40 ∷ 61 ∷ 79 ∷ 41 ∷ 79 ∷ []) 3 ∷
+    []
+
+-- past the table
+abbrev pub blank : Entry
+blank = entry [] [] 0
+
+-- row i of the table
+unfoldable pub entryAt : ℕ → Entry
+entryAt i = getD entries i blank
+
+-- the rows of Me, OH and oxo
+abbrev pub methyl : ℕ
+methyl = 1
+
+abbrev pub hydroxy : ℕ
+hydroxy = 11
+
+abbrev pub keto : ℕ
+keto = 12
+
+-- the place of the first entry with an abbreviation, counted from i
+unfoldable pub lookupFrom : ℕ → List Entry → List ℕ → Found
+lookupFrom i [] s = Nothing
+lookupFrom i (e ∷ es) s = let r = lookupFrom (suc i) es s in cond (sameBytes s (e .abbr)) (At i) r
+
+-- the abbreviations beside the table
+abbrev pub hydroxyText : List ℕ
+hydroxyText = 104 ∷ 121 ∷ 100 ∷ 114 ∷ 111 ∷ 120 ∷ 121 ∷ []
+
+abbrev pub ketoText : List ℕ
+ketoText = 107 ∷ 101 ∷ 116 ∷ 111 ∷ []
+
+abbrev pub epUpperText : List ℕ
+epUpperText = 69 ∷ 112 ∷ []
+
+abbrev pub epLowerText : List ℕ
+epLowerText = 101 ∷ 112 ∷ []
+
+abbrev pub epoxText : List ℕ
+epoxText = 101 ∷ 112 ∷ 111 ∷ 120 ∷ []
+
+abbrev pub cycText : List ℕ
+cycText = 99 ∷ 121 ∷ 99 ∷ []
+
+abbrev pub cycloText : List ℕ
+cycloText = 99 ∷ 121 ∷ 99 ∷ 108 ∷ 111 ∷ []
+
+-- "also hydroxy O, keto `=O`": no row has either abbreviation, so the order of the tests says nothing
+unfoldable pub substituentOf : List ℕ → Found
+substituentOf s =
+    cond (sameBytes s hydroxyText) (At hydroxy)
+    (cond (sameBytes s ketoText) (At keto) (lookupFrom 0 entries s))
+
+-- "Alias rings: Ep, ep, epox span 2 with an O bridge; cyc, cyclo span 3"
+unfoldable pub aliasRingSize : List ℕ → RingSize
+aliasRingSize s =
+    cond (sameBytes s epUpperText) (Carbons 2)
+    (cond (sameBytes s epLowerText) (Carbons 2)
+    (cond (sameBytes s epoxText) (Carbons 2)
+    (cond (sameBytes s cycText) (Carbons 3)
+    (cond (sameBytes s cycloText) (Carbons 3) NoRing))))
+
+-- what a row of the code holds
+unfoldable pub entryOf : Row → Entry
+entryOf r = entry (take (r .«abbr_len») (r .abbr)) (take (r .«branch_len») (r .branch)) (r .atoms)
+
+-- r is row i of the table, and its lengths are within its arrays
+pub record RowIs (i : ℕ) (r : Row) : Type 0 where
+  pub entry-is : entryOf r ≡ entryAt i
+  pub abbr-fits : r .«abbr_len» ≤ 4
+  pub branch-fits : r .«branch_len» ≤ 12
+
+-- ---- the atoms of a branch by the reading rules
+
+-- 01, Templates and the builder: an atom is one of "B C N O P S F I Cl Br b c n o s p *", or a bracket. A byte that opens one, outside of
+-- brackets: the second bytes of Cl and Br open none.
+unfoldable pub opensAtom : ℕ → Bool
+opensAtom b = within (66 ∷ 67 ∷ 78 ∷ 79 ∷ 80 ∷ 83 ∷ 70 ∷ 73 ∷ 98 ∷ 99 ∷ 110 ∷ 111 ∷ 115 ∷ 112 ∷ 42 ∷ []) b
+  where
+    within : List ℕ → ℕ → Bool
+    within [] x = false
+    within (y ∷ ys) x = cond (eqb x y) true (within ys x)
+
+-- the atoms of a text without labels, from a place in or out of brackets
+unfoldable pub atomsFrom : Bool → List ℕ → ℕ
+atomsFrom inside [] = 0
+atomsFrom true (x ∷ xs) = cond (eqb x 93) (atomsFrom false xs) (atomsFrom true xs)
+atomsFrom false (x ∷ xs) = cond (eqb x 91) (suc (atomsFrom true xs)) (cond (opensAtom x) (suc (atomsFrom false xs)) (atomsFrom false xs))
+
+unfoldable pub atomsIn : List ℕ → ℕ
+atomsIn s = atomsFrom false s
+
+-- whether an entry's count is that of its branch
+unfoldable pub countIsRight : Entry → Bool
+countIsRight e = eqb (e .atoms) (atomsIn (e .branch))

@@ -1,0 +1,277 @@
+// The group table of 01 as a constant array of 17 rows, and what an abbreviation means: a row of the table, or a ring of two or three
+// carbons. Every byte string has an answer, and a row past the table is blank. The table in words: specs/Groups.antt.
+ghost use mathlib.Core.Path.{_≡_};
+ghost use Rattle.groups.specs.Groups.{RowIs, entryAt, entries, lookupFrom, substituentOf, aliasRingSize};
+ghost use Rattle.scan.specs.Part.{sameBytes};
+
+pub const MAX_ABBR: usize = 4;
+
+pub const MAX_BRANCH: usize = 12;
+
+pub const ROW_COUNT: u8 = 17;
+// Rows that have a name of their own here: the methyl of a branch word, the oxygen of a base, and what hydroxy and keto say.
+pub const METHYL: u8 = 1;
+
+pub const HYDROXY: u8 = 11;
+
+pub const KETO: u8 = 12;
+
+// One group: its abbreviation, the branch that its carbon carries, and the atoms of that branch.
+pub struct Row {
+    pub abbr_len: usize,
+    pub abbr: [u8; MAX_ABBR],
+    pub branch_len: usize,
+    pub branch: [u8; MAX_BRANCH],
+    pub atoms: u8,
+}
+
+const ROWS: [Row; 17] = [
+    Row {
+        abbr_len: 2,
+        abbr: [b'E', b't', 0, 0],
+        branch_len: 2,
+        branch: [b'C', b'C', 0, 0, 0, 0, 0, 0, 0, 0, 0, 0],
+        atoms: 2,
+    },
+    Row {
+        abbr_len: 2,
+        abbr: [b'M', b'e', 0, 0],
+        branch_len: 1,
+        branch: [b'C', 0, 0, 0, 0, 0, 0, 0, 0, 0, 0, 0],
+        atoms: 1,
+    },
+    Row {
+        abbr_len: 2,
+        abbr: [b'B', b'r', 0, 0],
+        branch_len: 2,
+        branch: [b'B', b'r', 0, 0, 0, 0, 0, 0, 0, 0, 0, 0],
+        atoms: 1,
+    },
+    Row {
+        abbr_len: 2,
+        abbr: [b'C', b'l', 0, 0],
+        branch_len: 2,
+        branch: [b'C', b'l', 0, 0, 0, 0, 0, 0, 0, 0, 0, 0],
+        atoms: 1,
+    },
+    Row {
+        abbr_len: 1,
+        abbr: [b'F', 0, 0, 0],
+        branch_len: 1,
+        branch: [b'F', 0, 0, 0, 0, 0, 0, 0, 0, 0, 0, 0],
+        atoms: 1,
+    },
+    Row {
+        abbr_len: 1,
+        abbr: [b'I', 0, 0, 0],
+        branch_len: 1,
+        branch: [b'I', 0, 0, 0, 0, 0, 0, 0, 0, 0, 0, 0],
+        atoms: 1,
+    },
+    Row {
+        abbr_len: 3,
+        abbr: [b'N', b'O', b'2', 0],
+        branch_len: 12,
+        branch: [
+            b'[',
+            b'N',
+            b'+',
+            b']',
+            b'(',
+            b'=',
+            b'O',
+            b')',
+            b'[',
+            b'O',
+            b'-',
+            b']',
+        ],
+        atoms: 3,
+    },
+    Row {
+        abbr_len: 3,
+        abbr: [b'O', b'M', b'e', 0],
+        branch_len: 2,
+        branch: [b'O', b'C', 0, 0, 0, 0, 0, 0, 0, 0, 0, 0],
+        atoms: 2,
+    },
+    Row {
+        abbr_len: 3,
+        abbr: [b'N', b'H', b'2', 0],
+        branch_len: 1,
+        branch: [b'N', 0, 0, 0, 0, 0, 0, 0, 0, 0, 0, 0],
+        atoms: 1,
+    },
+    Row {
+        abbr_len: 3,
+        abbr: [b'O', b'O', b'H', 0],
+        branch_len: 2,
+        branch: [b'O', b'O', 0, 0, 0, 0, 0, 0, 0, 0, 0, 0],
+        atoms: 2,
+    },
+    Row {
+        abbr_len: 2,
+        abbr: [b'S', b'H', 0, 0],
+        branch_len: 1,
+        branch: [b'S', 0, 0, 0, 0, 0, 0, 0, 0, 0, 0, 0],
+        atoms: 1,
+    },
+    Row {
+        abbr_len: 2,
+        abbr: [b'O', b'H', 0, 0],
+        branch_len: 1,
+        branch: [b'O', 0, 0, 0, 0, 0, 0, 0, 0, 0, 0, 0],
+        atoms: 1,
+    },
+    Row {
+        abbr_len: 3,
+        abbr: [b'o', b'x', b'o', 0],
+        branch_len: 2,
+        branch: [b'=', b'O', 0, 0, 0, 0, 0, 0, 0, 0, 0, 0],
+        atoms: 1,
+    },
+    Row {
+        abbr_len: 2,
+        abbr: [b'C', b'N', 0, 0],
+        branch_len: 3,
+        branch: [b'C', b'#', b'N', 0, 0, 0, 0, 0, 0, 0, 0, 0],
+        atoms: 2,
+    },
+    Row {
+        abbr_len: 1,
+        abbr: [b'P', 0, 0, 0],
+        branch_len: 10,
+        branch: [
+            b'O',
+            b'P',
+            b'(',
+            b'=',
+            b'O',
+            b')',
+            b'(',
+            b'O',
+            b')',
+            b'O',
+            0,
+            0,
+        ],
+        atoms: 5,
+    },
+    Row {
+        abbr_len: 1,
+        abbr: [b'S', 0, 0, 0],
+        branch_len: 11,
+        branch: [
+            b'O',
+            b'S',
+            b'(',
+            b'=',
+            b'O',
+            b')',
+            b'(',
+            b'=',
+            b'O',
+            b')',
+            b'O',
+            0,
+        ],
+        atoms: 5,
+    },
+    Row {
+        abbr_len: 4,
+        abbr: [b'C', b'O', b'O', b'H'],
+        branch_len: 6,
+        branch: [b'C', b'(', b'=', b'O', b')', b'O', 0, 0, 0, 0, 0, 0],
+        atoms: 3,
+    },
+];
+
+// Row i of the table; past its end a blank row.
+pub fn row_at(i: u8) -> Row
+    ensures { λ r. ⌜ RowIs i r ⌝ }
+{
+    if i < ROW_COUNT {
+        let at = i as usize;
+        return ROWS[at];
+    }
+    let abbr = [0u8; MAX_ABBR];
+    let branch = [0u8; MAX_BRANCH];
+    Row {
+        abbr_len: 0,
+        abbr,
+        branch_len: 0,
+        branch,
+        atoms: 0,
+    }
+}
+
+// The row that an abbreviation names.
+pub enum Found {
+    At(u8),
+    Nothing,
+}
+
+// Whether s is the abbreviation of row i.
+fn named(s: &[u8], i: u8) -> bool
+    ensures { λ b. ⌜ b ≡ sameBytes (now (s .entry)) (entryAt i .abbr) ⌝ }
+{
+    let r = row_at(i);
+    let n = r.abbr_len;
+    let abbr = r.abbr;
+    scan::same(s, &abbr[0..n])
+}
+
+// The row of the table with an abbreviation.
+fn lookup(s: &[u8]) -> Found
+    ensures { λ r. ⌜ r ≡ lookupFrom 0 entries (now (s .entry)) ⌝ }
+{
+    let mut i = 0;
+    while i < ROW_COUNT {
+        if named(s, i) {
+            return Found::At(i);
+        }
+        i += 1;
+    }
+    Found::Nothing
+}
+
+// The group that an abbreviation means: a row's own, and hydroxy and keto.
+pub fn substituent(s: &[u8]) -> Found
+    ensures { λ r. ⌜ r ≡ substituentOf (now (s .entry)) ⌝ }
+{
+    if scan::same(s, b"hydroxy") {
+        return Found::At(HYDROXY);
+    }
+    if scan::same(s, b"keto") {
+        return Found::At(KETO);
+    }
+    lookup(s)
+}
+
+// The carbons that an alias ring spans.
+pub enum RingSize {
+    Carbons(u16),
+    Nothing,
+}
+
+// The alias rings: an epoxide spans two carbons, a cyclopropane three.
+pub fn alias_ring_size(s: &[u8]) -> RingSize
+    ensures { λ r. ⌜ r ≡ aliasRingSize (now (s .entry)) ⌝ }
+{
+    if scan::same(s, b"Ep") {
+        return RingSize::Carbons(2);
+    }
+    if scan::same(s, b"ep") {
+        return RingSize::Carbons(2);
+    }
+    if scan::same(s, b"epox") {
+        return RingSize::Carbons(2);
+    }
+    if scan::same(s, b"cyc") {
+        return RingSize::Carbons(3);
+    }
+    if scan::same(s, b"cyclo") {
+        return RingSize::Carbons(3);
+    }
+    RingSize::Nothing
+}
