@@ -22,16 +22,17 @@ class Difference(Exception):
 
 
 def compare_tokens(tokens):
-    """The stored answers of `tokens`, and how many of them the original gave."""
+    """The records of `tokens`, and the places of those that the original gave
+    too."""
     answers = [model.show_token(t) for t in tokens]
     asked = [i for i, a in enumerate(answers) if a != b"31"]
-    by_original = 0
+    by_original = []
     for i, said in zip(asked, oracle.ask_tokens([tokens[i] for i in asked])):
         if said == OVERFLOW:
             continue
         if said != answers[i]:
             raise Difference(f"token {tokens[i]!r}: model {answers[i]!r}, original {said!r}")
-        by_original += 1
+        by_original.append(i)
     return answers, by_original
 
 
@@ -52,8 +53,8 @@ def shown(answer):
 
 
 def compare_rows(header, rows):
-    """The answers to the rows of a sheet, and how many the original gave.  Demand
-    3 is checked on every accepted one."""
+    """The answers to the rows of a sheet, and the places of those that the
+    original gave too.  Demand 3 is checked on every accepted one."""
     names = model.read_header(header)
     requests = [model.read_row(names, r) for r in rows]
     answers = [model.UNREADABLE_ROW if q is None else model.answer(q) for q in requests]
@@ -62,11 +63,11 @@ def compare_rows(header, rows):
         if wrong:
             raise Difference(f"row {row!r}: demand 3: {wrong}; line {answer.line!r}")
     asked = [i for i, (q, a) in enumerate(zip(requests, answers)) if may_ask(q, a)]
-    by_original = 0
+    by_original = []
     for i, said in zip(asked, oracle.ask_rows(header, [rows[i] for i in asked])):
         if said == OVERFLOW:
             continue
         if said != shown(answers[i]):
             raise Difference(f"row {rows[i]!r}: model {answers[i]!r}, original {said!r}")
-        by_original += 1
+        by_original.append(i)
     return answers, by_original

@@ -257,7 +257,7 @@ def short_tokens():
     yield from (b"6:1" + w for w in words(split(b"()3Z,"), 4))
     yield from (b"6:0;" + w for w in words(split(b"3OH,()"), 4))
     yield from (b"9:0;2-4cy3" + w for w in words(split(b":1(3)"), 4))
-    yield from (b"6:0;" + w for w in words([b"[", b"]", b" ", b"3OH", b";"], 3))
+    yield from (b"6:0;" + w for w in words([b"[", b"]", b" ", b"3OH", b";"], 4))
 
 
 def boundary_tokens():
@@ -286,6 +286,15 @@ def boundary_tokens():
         for count in range(max(1, (carbons - 2) // 3 - 1), (carbons - 2) // 2 + 2):
             if carbons < 28 or count % 7 == 0:
                 yield b"%d:%d" % (carbons, count)
+    # Seats keep clear of the `(..)` list, not of a ring's bonds or that of `P-`.
+    for carbons in range(6, 15):
+        for count in range(1, 6):
+            yield b"P-%d:%d" % (carbons, count)
+            yield b"iso-%d:%d" % (carbons, count)
+            yield b"%d:%d;2-4cy3:1(3)" % (carbons, count)
+            yield b"%d:%d;3-6cy4:2(3,5Z)" % (carbons, count)
+            yield b"%d:%d(3,9)" % (carbons, count)
+            yield b"%d:%d(1,20)" % (carbons, count)
     for used in itertools.combinations(range(2, 11), 2):
         yield b"12:4(%d,%d)" % used
         yield b"12:5(%d,%d)" % used
@@ -560,7 +569,11 @@ def boundary_rows():
     yield row(b"CL", [full] * 3 + [b"242:0;(OH)13;(Cl)2"])
     yield row(b"CL", [full] * 3 + [b"242:0;(OH)12;(Cl)3"])
     yield row(b"CL", [full] * 4, swap=b"1")
-    # Many variables: past z, past az.
+    # Many variables: past z, past az, in one chain and in the next.
+    for count in (24, 25, 26, 51, 52):
+        yield row(b"FA", [b"160:%d" % count])
+        yield row(b"GL2", [b"8:1", b"160:%d" % count], swap=b"1")
+        yield row(b"SA", [b"d160:%d" % count, b"9:2"], b"O")
     yield row(b"FA", [b"255:86"])
     yield row(b"CL", [b"60:12"] * 4, swap=b"1")
     yield row(b"GL3", [b"255:60"] * 3)
