@@ -1,8 +1,15 @@
 """An independent model of document 01: chain tokens as CXSMILES lines.
 
-Written sentence by sentence from document 01, in its order, and not from the
-original Rust, so that a comparison of the two says something.  It is slow and
-plain on purpose.  Words between double quotes are 01's, some of them shortened.
+Written sentence by sentence from document 01, in its order; it carries no code of
+the original Rust.  Points that 01 leaves open follow the project's decisions, some
+of which were settled by what the original does, so there agreement with it shows
+only that the model keeps the decision.  It is slow and plain on purpose.  Words
+between double quotes are 01's, some of them shortened.
+
+Drawing and line share the chain in its place (`Placed`) and `chain_bonds`, and all
+that reads text shares `atom_at`.  A fault there is not seen by demand 3, only by
+the comparison with the original.
+
 Sections:
 
   1. Token reader        bytes of a token to a chain, or 11 or 31
