@@ -9,3 +9,7 @@ pub mod Part
 pub mod Template
 pub mod TemplateText
 pub mod Examples
+pub mod PartingLaws
+pub mod NumeralLaws
+pub mod NameLaws
+pub mod BlockLaws

@@ -7,3 +7,11 @@ pub mod Text
 pub mod Part
 pub mod Chain
 pub mod Template
+pub mod Parting
+pub mod Numeral
+pub mod Names
+pub mod Molecule
+pub mod Blocks
+pub mod Trailer
+pub mod Line
+pub mod Show
