@@ -12,4 +12,8 @@ pub mod Examples
 pub mod PartingLaws
 pub mod NumeralLaws
 pub mod NameLaws
+pub mod ListLaws
 pub mod BlockLaws
+pub mod TrailerLaws
+pub mod NoBlank
+pub mod LineLaws

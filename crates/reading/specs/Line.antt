@@ -10,7 +10,7 @@ use Rattle.reading.specs.Lexer.{memb}
 use Rattle.reading.specs.Row.{Row}
 use Rattle.reading.specs.Text.{readText}
 use Rattle.reading.specs.Parting.{_>>=_, parted, follows, closed, enclosed}
-use Rattle.reading.specs.Molecule.{At, at, atomsOf, notesOf, Sum, sum, Molecule, moleculeOf}
+use Rattle.reading.specs.Molecule.{At, at, atomsOf, notesOf, Sum, variablesOf, Molecule, moleculeOf}
 use Rattle.reading.specs.Blocks.{Blocks, blocks, readBlocks, labelled}
 use Rattle.reading.specs.Trailer.{Trailer, trailer, readTrailer}
 
@@ -43,7 +43,7 @@ flat (xs ∷ r) = xs ++ flat r
 -- the variables of the sums, in order
 unfoldable pub summed : List Sum → List ℕ
 summed [] = []
-summed (sum vs n ∷ ss) = vs ++ summed ss
+summed (s ∷ ss) = variablesOf s ++ summed ss
 
 -- every number is below n
 unfoldable pub below : ℕ → List ℕ → Bool

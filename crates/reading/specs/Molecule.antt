@@ -22,6 +22,12 @@ pub data Bond : Type 0 where
 pub data Sum : Type 0 where
   sum : List ℕ → ℕ → Sum
 
+abbrev pub variablesOf : Sum → List ℕ
+variablesOf (sum vs n) = vs
+
+abbrev pub numberOf : Sum → ℕ
+numberOf (sum vs n) = n
+
 pub data Molecule : Type 0 where
   molecule : List Atom → List Bond → List Sum → Molecule
 

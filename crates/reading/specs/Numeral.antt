@@ -4,7 +4,7 @@ use mathlib.Core.Bool.{Bool, true, false, cond, not}
 use mathlib.Core.Option.{Option, none, some}
 use mathlib.Core.List.{List, [], _∷_}
 use lib.Dec.{eqb}
-use Rattle.scan.specs.Number.{digitsUpTo, numberLimit}
+use Rattle.scan.specs.Number.{isDigit, allDigits, valueFrom, checked, digitsUpTo, numberLimit}
 use Rattle.scan.specs.declared.Number.{Number}
 use Rattle.scan.specs.declared.Number.the-variants.{Value, Unreadable}
 
@@ -20,5 +20,5 @@ valueOf Unreadable = none
 
 -- digits only, at least one
 unfoldable pub number : List ℕ → Option ℕ
-unfolding leads valueOf digitsUpTo
+unfolding leads valueOf digitsUpTo checked allDigits isDigit valueFrom
 number xs = cond (leads xs) (valueOf (digitsUpTo numberLimit xs)) none
