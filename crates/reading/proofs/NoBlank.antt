@@ -3,7 +3,7 @@
 use Prim.Native.Nat.{ℕ}
 use native.Mathlib.Omega.{arith}
 use mathlib.Core.Path.{_≡_, refl, sym, ap, _∙_, subst}
-use mathlib.Core.Bool.{Bool, true, false, cond, not, _||_, _&&_, and-false}
+use mathlib.Core.Bool.{Bool, true, false, cond, not, _||_, _&&_}
 use mathlib.Core.Option.{Option, none, some}
 use mathlib.Core.List.{List, [], _∷_, _++_}
 use lib.ListN.{length}
@@ -18,7 +18,7 @@ use Rattle.reading.proofs.PartingLaws.{and-both, clear}
 no-second : (b ls : List ℕ) → second 32 b ls ≡ false
 unfolding second pairs
 no-second [] ls = refl
-no-second (a ∷ []) [] = rw (and-false (eqb a 67), and-false (eqb a 66))
+no-second (a ∷ []) [] = refl
 no-second (a ∷ []) (l ∷ ls) = refl
 no-second (a ∷ a′ ∷ b) ls = refl
 
