@@ -1,0 +1,5 @@
+pub mod Lists
+pub mod Features
+pub mod Refusals
+pub mod Bonds
+pub mod Drawing
