@@ -1,0 +1,131 @@
+-- The grammar of a tail: a reader that goes from byte to byte.
+-- 01, Templates and the builder: "Its grammar, 1 to 255 bytes: one or more atoms, each after at most one bond (`- = # / \`, of which `-` is
+-- plain) (B C N O P S F I Cl Br b c n o s p * or brackets of 1 to 16 letters, digits, `+ - @`), digits 1 to 9 straight after an atom, closed
+-- inside the tail between two otherwise unbonded atoms, and branches in branches to depth 16, each opening as a tail does. A branch follows
+-- an atom, its digits or another branch."
+use Prim.Native.Nat.{ℕ, zero, suc, _+_, _-_}
+use Prim.Native.Char.{code}
+use mathlib.Core.Bool.{Bool, true, false, cond, _||_, _&&_}
+use mathlib.Core.List.{List, [], _∷_}
+use lib.ListN.{length, getD, set, replicate}
+use lib.Dec.{eqb, ltb}
+use Rattle.tail.specs.declared.Rings.{Rings}
+use Rattle.reading.specs.Lexer.{memb, within, organic, marks, bracketed, pairs}
+
+-- ---- the atoms and digits so far
+-- `Rings` counts the atoms of the tail from 1, atom 0 being the one that the tail hangs on. It has the last atom; the current one; the one
+-- that this joined; by digit the atom on which it is open, 0 for none; and by atom the last one that a digit joined to it.
+
+abbrev pub noRings : Rings
+noRings = record { last = 0; current = 0; parent = 0; opened = replicate 10 0; joined = replicate 256 0 }
+
+-- one more atom, which joins the current one
+abbrev pub withAtom : Rings → Rings
+withAtom r = record { last = r .last + 1; current = r .last + 1; parent = r .current; opened = r .opened; joined = r .joined }
+
+-- the atom a is the current one again, after a branch
+abbrev pub backTo : ℕ → Rings → Rings
+backTo a r = record { last = r .last; current = a; parent = r .parent; opened = r .opened; joined = r .joined }
+
+-- the atom a is the current one, or bonded to it: joined by it, or by a digit
+unfoldable pub bonded : ℕ → Rings → Bool
+bonded a r = eqb a (r .current) || (eqb a (r .parent) || eqb (getD (r .joined) a 0) (r .current))
+
+-- the digit d is open on an atom to which there can be no further bond: "between two otherwise unbonded atoms"
+unfoldable pub clashes : ℕ → Rings → Bool
+unfolding bonded
+clashes d r = cond (eqb (getD (r .opened) d 0) 0) false (bonded (getD (r .opened) d 0) r)
+
+-- the digit d on the current atom: it opens, or closes
+unfoldable pub withDigit : ℕ → Rings → Rings
+withDigit d r =
+    cond (eqb (getD (r .opened) d 0) 0)
+    (record { last = r .last; current = r .current; parent = r .parent; opened = set (r .opened) d (r .current); joined = r .joined })
+    (record { last = r .last; current = r .current; parent = r .parent; opened = set (r .opened) d 0; joined = set (r .joined) (getD (r .opened) d 0) (r .current) })
+
+-- no digit is open: "closed inside the tail"
+unfoldable pub noneOpen : List ℕ → Bool
+noneOpen [] = true
+noneOpen (a ∷ rest) = cond (eqb a 0) (noneOpen rest) false
+
+-- ---- one byte
+
+-- Where the reader stands: at an opening, where a bond or an atom comes; after a bond; after a letter, which may be the first of two; in a
+-- bracket, with so many bytes in it; after an atom or its digits; after a branch
+pub data Place : Type 0 where
+  opening afterBond whole closed : Place
+  letter inside : ℕ → Place
+
+-- a place, the atoms at which the open branches started, the atoms and digits so far; or no tail goes on so
+pub data State : Type 0 where
+  wrong : State
+  stands : Place → List ℕ → Rings → State
+
+unfoldable pub atomBegins : ℕ → List ℕ → Rings → State
+unfolding memb organic
+atomBegins x stk r = cond (memb x organic) (stands (letter x) stk (withAtom r)) (cond (eqb x (code "[")) (stands (inside 0) stk (withAtom r)) wrong)
+
+unfoldable pub bondOrAtom : ℕ → List ℕ → Rings → State
+unfolding memb marks atomBegins
+bondOrAtom x stk r = cond (memb x marks) (stands afterBond stk r) (atomBegins x stk r)
+
+unfoldable pub branchCloses : List ℕ → Rings → State
+branchCloses [] r = wrong
+branchCloses (a ∷ stk) r = stands closed stk (backTo a r)
+
+-- "branches in branches to depth 16"
+unfoldable pub branchOpens : List ℕ → Rings → State
+branchOpens stk r = cond (ltb (length stk) 16) (stands opening (r .current ∷ stk) r) wrong
+
+-- after an atom with its digits, or after a branch
+unfoldable pub goesOn : ℕ → List ℕ → Rings → State
+unfolding branchCloses branchOpens bondOrAtom
+goesOn x stk r = cond (eqb x (code ")")) (branchCloses stk r) (cond (eqb x (code "(")) (branchOpens stk r) (bondOrAtom x stk r))
+
+unfoldable pub digitOr : ℕ → List ℕ → Rings → State
+unfolding within clashes withDigit goesOn
+digitOr x stk r =
+    cond (within (code "1") (code "9") x) (cond (clashes (x - code "0") r) wrong (stands whole stk (withDigit (x - code "0") r))) (goesOn x stk r)
+
+unfoldable pub bracketOn : ℕ → ℕ → List ℕ → Rings → State
+unfolding bracketed within
+bracketOn x k stk r = cond (bracketed x) (stands (inside (suc k)) stk r) (cond (eqb x (code "]") && within 1 16 k) (stands whole stk r) wrong)
+
+unfoldable pub step : State → ℕ → State
+unfolding bondOrAtom atomBegins digitOr goesOn bracketOn pairs
+step wrong x = wrong
+step (stands opening stk r) x = bondOrAtom x stk r
+step (stands afterBond stk r) x = atomBegins x stk r
+step (stands (letter a) stk r) x = cond (pairs a x) (stands whole stk r) (digitOr x stk r)
+step (stands (inside k) stk r) x = bracketOn x k stk r
+step (stands whole stk r) x = digitOr x stk r
+step (stands closed stk r) x = goesOn x stk r
+
+-- ---- all bytes
+
+-- the tail may end here: after an atom, its digits or a branch, with no branch and no digit open
+unfoldable pub finished : List ℕ → Rings → Bool
+unfolding noneOpen
+finished [] r = noneOpen (r .opened)
+finished (a ∷ stk) r = false
+
+unfoldable pub done : State → Bool
+unfolding finished
+done wrong = false
+done (stands opening stk r) = false
+done (stands afterBond stk r) = false
+done (stands (letter a) stk r) = finished stk r
+done (stands (inside k) stk r) = false
+done (stands whole stk r) = finished stk r
+done (stands closed stk r) = finished stk r
+
+-- whether a tail goes on so from a state
+unfoldable pub scan : State → List ℕ → Bool
+unfolding step done
+scan q [] = done q
+scan q (x ∷ xs) = scan (step q x) xs
+
+-- whether the bytes are a tail
+unfoldable pub isTail : List ℕ → Bool
+unfolding scan within
+isTail xs = cond (within 1 255 (length xs)) (scan (stands opening [] noRings) xs) false
