@@ -16,4 +16,6 @@ pub mod ListLaws
 pub mod BlockLaws
 pub mod TrailerLaws
 pub mod NoBlank
+pub mod SetLaws
 pub mod LineLaws
+pub mod Refusals

@@ -11,7 +11,7 @@ use lib.Dec.{ltb, leb}
 use borrow.Author.Tests.{lt-ltb, le-ltb, le-leb, leb-true}
 use Rattle.reading.specs.Lexer.{within}
 use Rattle.reading.specs.Names.{small, nameBelow, nameOf, variable}
-use Rattle.reading.proofs.PartingLaws.{every}
+use Rattle.reading.proofs.PartingLaws.{and-left, and-right, every}
 
 small-yes : (d : ℕ) → d < 26 → small (97 + d) ≡ true
 unfolding small within
@@ -52,3 +52,47 @@ names-differ i j h g e =
     let q : variable (nameOf j) ≡ some j = variable-name j g in
     let r : variable (nameOf i) ≡ variable (nameOf j) = ap variable e in
     cc
+
+small-both : (x : ℕ) → small x ≡ true → (97 ≤ x) × (x ≤ 122)
+unfolding small within
+small-both x e = (leb-true 97 x (and-left (leb 97 x) (leb x 122) e), leb-true x 122 (and-right (leb 97 x) (leb x 122) e))
+
+below-one : (i : ℕ) → i < 26 → nameOf i ≡ (97 + i) ∷ []
+unfolding nameOf nameBelow
+below-one i h = let e : i % 702 ≡ i = omega arith in rw (e, lt-ltb i 26 h)
+
+below-two : (a b : ℕ) → a < 26 → b < 26 → nameOf (26 + 26 * a + b) ≡ (97 + a) ∷ (97 + b) ∷ []
+unfolding nameOf nameBelow
+below-two a b h g =
+    let i : ℕ = 26 + 26 * a + b in
+    let e : i % 702 ≡ i = omega arith in
+    let p : (i - 26) / 26 ≡ a = omega arith in
+    let q : (i - 26) % 26 ≡ b = omega arith in
+    rw (e, le-ltb i 26 (omega arith), p, q)
+
+-- and a name that is read is shown as itself: every name of one or two small letters is that of one index below 702
+pub name-variable : (xs : List ℕ) (i : ℕ) → variable xs ≡ some i → (i < 702) × (nameOf i ≡ xs)
+unfolding variable
+name-variable [] i e = let z : _≡_ {A = ℕ} 0 1 = cc in absurd (omega arith)
+name-variable (x ∷ []) i e = go (small x) refl e
+  where
+    go : (b : Bool) → small x ≡ b → cond b (some (x - 97)) none ≡ some i → (i < 702) × (nameOf i ≡ x ∷ [])
+    go false s p = let z : _≡_ {A = ℕ} 0 1 = cc in absurd (omega arith)
+    go true s p =
+        let w : (97 ≤ x) × (x ≤ 122) = small-both x s in
+        let q : x - 97 ≡ i = cc in
+        (omega arith, below-one i (omega arith) ∙ ap (λ (z : ℕ). z ∷ []) (omega arith))
+name-variable (x ∷ y ∷ []) i e = go (small x) refl (small y) refl e
+  where
+    go : (b : Bool) → small x ≡ b → (c : Bool) → small y ≡ c → cond (b && c) (some (26 + 26 * (x - 97) + (y - 97))) none ≡ some i
+        → (i < 702) × (nameOf i ≡ x ∷ y ∷ [])
+    go false s c t p = let z : _≡_ {A = ℕ} 0 1 = cc in absurd (omega arith)
+    go true s false t p = let z : _≡_ {A = ℕ} 0 1 = cc in absurd (omega arith)
+    go true s true t p =
+        let w : (97 ≤ x) × (x ≤ 122) = small-both x s in
+        let u : (97 ≤ y) × (y ≤ 122) = small-both y t in
+        let q : 26 + 26 * (x - 97) + (y - 97) ≡ i = cc in (
+          omega arith,
+          ap nameOf (sym q) ∙ (below-two (x - 97) (y - 97) (omega arith) (omega arith) ∙ ap₂ (λ (z z′ : ℕ). z ∷ z′ ∷ []) (omega arith) (omega arith)),
+        )
+name-variable (x ∷ y ∷ z ∷ xs) i e = let w : _≡_ {A = ℕ} 0 1 = cc in absurd (omega arith)

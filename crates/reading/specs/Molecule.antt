@@ -51,11 +51,11 @@ insert key a (b ∷ bs) =
     let more = insert key a bs in
     cond (before (key a) (key b)) (a ∷ b ∷ bs) (cond (before (key b) (key a)) (b ∷ more) (b ∷ bs))
 
--- the elements of a list put into a set
-unfoldable pub insertAll : {A : Type 0} → (A → List ℕ) → List A → List A → List A
+-- the set of the elements of a list
+unfoldable pub setOf : {A : Type 0} → (A → List ℕ) → List A → List A
 unfolding insert
-insertAll key [] s = s
-insertAll key (a ∷ r) s = insert key a (insertAll key r s)
+setOf key [] = []
+setOf key (a ∷ r) = insert key a (setOf key r)
 
 -- bonds stand by lower, then by higher atom
 unfoldable pub bondKey : Bond → List ℕ
@@ -69,16 +69,11 @@ unfoldable pub bondsTo : ℕ → List Link → List Bond
 bondsTo n [] = []
 bondsTo n (link a m ∷ ks) = bond a n m ∷ bondsTo n ks
 
--- the set of the bonds of rows that are numbered from n
+-- the bonds of rows that are numbered from n
 unfoldable pub bondsFrom : ℕ → List Row → List Bond
-unfolding bondsTo insertAll bondKey
+unfolding bondsTo
 bondsFrom n [] = []
-bondsFrom n (row b ks ∷ rs) = insertAll bondKey (bondsTo n ks) (bondsFrom (suc n) rs)
-
--- the set of sums
-unfoldable pub sumSet : List Sum → List Sum
-unfolding insertAll sumKey
-sumSet ss = insertAll sumKey ss []
+bondsFrom n (row b ks ∷ rs) = bondsTo n ks ++ bondsFrom (suc n) rs
 
 -- ---- what is noted of atoms
 
@@ -108,5 +103,5 @@ atomsFrom n (row b ks ∷ rs) labels marks sites = atom b (look n labels) (look 
 
 -- the molecule of rows with sn labels, marks and site lists at some of their atoms, and with sums
 unfoldable pub moleculeOf : List Row → List (At ℕ) → List (At ℕ) → List (At (List ℕ)) → List Sum → Molecule
-unfolding atomsFrom bondsFrom sumSet
-moleculeOf rs labels marks sites sums = molecule (atomsFrom zero rs labels marks sites) (bondsFrom zero rs) (sumSet sums)
+unfolding atomsFrom bondsFrom setOf bondKey sumKey
+moleculeOf rs labels marks sites sums = molecule (atomsFrom zero rs labels marks sites) (setOf bondKey (bondsFrom zero rs)) (setOf sumKey sums)
