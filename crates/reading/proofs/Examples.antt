@@ -8,8 +8,9 @@ use mathlib.Core.Option.{Option, none, some}
 use mathlib.Core.List.{List, [], _∷_, map}
 use lib.ListN.{length}
 use Rattle.reading.specs.Ascii.{ascii}
-use Rattle.reading.specs.Row.{Row, Bond, bond, bonds}
+use Rattle.reading.specs.Row.{Row}
 use Rattle.reading.specs.Text.{readText}
+use Rattle.reading.specs.Molecule.{Bond, bond, bondsOf}
 
 pub data Example : Type 0 where
   reads : String → ℕ → List Bond → Example
@@ -21,7 +22,7 @@ pub data Answer : Type 0 where
 
 answerOf : Option (List Row) → Answer
 answerOf none = unreadable
-answerOf (some rs) = molecule (length rs) (bonds rs)
+answerOf (some rs) = molecule (length rs) (bondsOf rs)
 
 pub found : Example → Answer
 unfolding answerOf
@@ -61,15 +62,15 @@ examples =
     ∷ reads "F/C=C/F" 4 (up 0 1 ∷ double 1 2 ∷ up 2 3 ∷ [])
     ∷ reads "C(\\F)=C/F" 4 (down 0 1 ∷ double 0 2 ∷ up 2 3 ∷ [])
     -- branches: the atom after a branch joins the one before it
-    ∷ reads "CCC(CC)CO" 7 (plain 0 1 ∷ plain 1 2 ∷ plain 2 3 ∷ plain 3 4 ∷ plain 2 5 ∷ plain 5 6 ∷ [])
+    ∷ reads "CCC(CC)CO" 7 (plain 0 1 ∷ plain 1 2 ∷ plain 2 3 ∷ plain 2 5 ∷ plain 3 4 ∷ plain 5 6 ∷ [])
     ∷ reads "OS(=O)(=S)O" 5 (plain 0 1 ∷ double 1 2 ∷ double 1 3 ∷ plain 1 4 ∷ [])
-    ∷ reads "C(C(C(C)))C" 5 (plain 0 1 ∷ plain 1 2 ∷ plain 2 3 ∷ plain 0 4 ∷ [])
+    ∷ reads "C(C(C(C)))C" 5 (plain 0 1 ∷ plain 0 4 ∷ plain 1 2 ∷ plain 2 3 ∷ [])
     -- rings
-    ∷ reads "C1CCCCC1" 6 (plain 0 1 ∷ plain 1 2 ∷ plain 2 3 ∷ plain 3 4 ∷ plain 0 5 ∷ plain 4 5 ∷ [])
+    ∷ reads "C1CCCCC1" 6 (plain 0 1 ∷ plain 0 5 ∷ plain 1 2 ∷ plain 2 3 ∷ plain 3 4 ∷ plain 4 5 ∷ [])
     ∷ reads "C%25CC%25" 3 (plain 0 1 ∷ plain 0 2 ∷ plain 1 2 ∷ [])
     ∷ reads "C1CC1C1CC1" 6 (plain 0 1 ∷ plain 0 2 ∷ plain 1 2 ∷ plain 2 3 ∷ plain 3 4 ∷ plain 3 5 ∷ plain 4 5 ∷ [])
-    ∷ reads "C12(CC1)CC2" 5 (plain 0 1 ∷ plain 0 2 ∷ plain 1 2 ∷ plain 0 3 ∷ plain 0 4 ∷ plain 3 4 ∷ [])
-    ∷ reads "C1CC2CC21" 5 (plain 0 1 ∷ plain 1 2 ∷ plain 2 3 ∷ plain 0 4 ∷ plain 2 4 ∷ plain 3 4 ∷ [])
+    ∷ reads "C12(CC1)CC2" 5 (plain 0 1 ∷ plain 0 2 ∷ plain 0 3 ∷ plain 0 4 ∷ plain 1 2 ∷ plain 3 4 ∷ [])
+    ∷ reads "C1CC2CC21" 5 (plain 0 1 ∷ plain 0 4 ∷ plain 1 2 ∷ plain 2 3 ∷ plain 2 4 ∷ plain 3 4 ∷ [])
     -- parts that nothing joins
     ∷ reads "[Na+].[Cl-]" 2 []
     ∷ reads "C1.C1" 2 (plain 0 1 ∷ [])
@@ -118,5 +119,5 @@ examples =
     ∷ []
 
 pub worked-examples : map found examples ≡ map expected examples
-unfolding examples found expected readText ascii bonds plain double triple up down
+unfolding examples found expected readText ascii bondsOf plain double triple up down
 worked-examples = refl

@@ -15,7 +15,7 @@ use Rattle.reading.specs.Lexer.{memb, within}
 use Rattle.reading.specs.Row.{Row, row}
 use Rattle.reading.specs.Text.{readText}
 use Rattle.reading.specs.Parting.{_>>=_, parted, follows, closed, enclosed, joined}
-use Rattle.reading.specs.Molecule.{At, at, atomsOf, notesOf, look, Atom, atom, Bond, Sum, sum, variablesOf, numberOf, Molecule, molecule, atomsFrom, bondsFrom, setOf, bondKey, sumKey, moleculeOf}
+use Rattle.reading.specs.Molecule.{At, at, atomsOf, notesOf, look, Atom, atom, Bond, Sum, sum, variablesOf, numberOf, Molecule, molecule, atomsFrom, bondsOf, setOf, sumKey, moleculeOf}
 use Rattle.reading.specs.Blocks.{Blocks, blocks, readBlocks, labelled}
 use Rattle.reading.specs.Trailer.{Trailer, trailer, readTrailer}
 use Rattle.reading.specs.Line.{Apart, apart, barred, apartOf, flat, summed, below, distinct, times, once, rising, placedWell, swapsWell, sumsWell, judged, judgedApart, readLine}
@@ -264,7 +264,7 @@ atoms-same n (row x ks ∷ rows) a b ms fs h = rw (h n, atoms-same (suc n) rows 
 pub molecule-same : (rows : List Row) (a b ms : List (At ℕ)) (fs : List (At (List ℕ))) (ss : List Sum) → ((i : ℕ) → look i a ≡ look i b)
     → moleculeOf rows a ms fs ss ≡ moleculeOf rows b ms fs ss
 unfolding moleculeOf
-molecule-same rows a b ms fs ss h = ap (λ (z : List Atom). molecule z (setOf bondKey (bondsFrom zero rows)) (setOf sumKey ss)) (atoms-same zero rows a b ms fs h)
+molecule-same rows a b ms fs ss h = ap (λ (z : List Atom). molecule z (bondsOf rows) (setOf sumKey ss)) (atoms-same zero rows a b ms fs h)
 
 -- THE LINE READS BACK: a text with labels, marks, site lists and sums that keep the rules is shown as a line that reads to exactly the molecule
 -- of the text's rows with those labels, marks, site lists and sums

@@ -75,6 +75,11 @@ unfolding bondsTo
 bondsFrom n [] = []
 bondsFrom n (row b ks ∷ rs) = bondsTo n ks ++ bondsFrom (suc n) rs
 
+-- the set of the bonds of rows
+unfoldable pub bondsOf : List Row → List Bond
+unfolding setOf bondKey bondsFrom
+bondsOf rs = setOf bondKey (bondsFrom zero rs)
+
 -- ---- what is noted of atoms
 
 -- something that stands at an atom: the atom's number, and what it is
@@ -103,5 +108,5 @@ atomsFrom n (row b ks ∷ rs) labels marks sites = atom b (look n labels) (look 
 
 -- the molecule of rows with sn labels, marks and site lists at some of their atoms, and with sums
 unfoldable pub moleculeOf : List Row → List (At ℕ) → List (At ℕ) → List (At (List ℕ)) → List Sum → Molecule
-unfolding atomsFrom bondsFrom setOf bondKey sumKey
-moleculeOf rs labels marks sites sums = molecule (atomsFrom zero rs labels marks sites) (setOf bondKey (bondsFrom zero rs)) (setOf sumKey sums)
+unfolding atomsFrom bondsOf setOf sumKey
+moleculeOf rs labels marks sites sums = molecule (atomsFrom zero rs labels marks sites) (bondsOf rs) (setOf sumKey sums)
