@@ -19,3 +19,4 @@ pub mod NoBlank
 pub mod SetLaws
 pub mod LineLaws
 pub mod Refusals
+pub mod LineExamples
