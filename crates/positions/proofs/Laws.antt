@@ -1,0 +1,124 @@
+-- Laws of positions and of lists of double bonds: one for each way out.
+-- Assumes nothing.
+use Prim.Native.Nat.{ℕ, _+_, _-_, _≤_, _<_}
+use native.Mathlib.Nat.{sub-zero}
+use native.Mathlib.Omega.{arith}
+use mathlib.Core.Path.{_≡_, refl, sym, ap, _∙_}
+use mathlib.Core.Bool.{Bool, true, false, cond}
+use mathlib.Core.List.{List}
+use lib.ListN.{length, take, getD}
+use lib.Dec.{eqb, ltb}
+use borrow.Author.Tests.{lt-ltb, le-ltb, eq-eqb, ne-eqb}
+use mir.Syntax.{w32}
+use mir.Val.{Fits}
+use Rattle.scan.specs.Part.{trimmed}
+use Rattle.scan.specs.Number.{numberUpTo, numberLimit}
+use Rattle.scan.specs.declared.Number.{Number}
+use Rattle.scan.specs.declared.Number.the-variants.{Value as Number·Value, Unreadable as Number·Unreadable}
+use Rattle.scan.proofs.Laws.{number-bound}
+use Rattle.form.specs.Parts.{listParts}
+use Rattle.record.specs.declared.DbPos.{DbPos}
+use Rattle.record.specs.declared.Geometry.{Geometry}
+use Rattle.record.specs.declared.Geometry.the-variants.{Unstated, Cis, Trans}
+use Rattle.record.specs.declared.ParsedChain.{ParsedChain}
+use Rattle.record.specs.declared.Parsed.{Parsed}
+use Rattle.record.specs.Chain.{Chain, Outcome, Read, Refused, withBond, unreadable, Gives, Takes, Holds, Stands}
+use Rattle.record.proofs.Laws.{gives-refused, gives-read, gives-same}
+use Rattle.positions.specs.declared.Position.{Position}
+use Rattle.positions.specs.declared.Position.the-variants.{At, Unreadable}
+use Rattle.positions.specs.Each.{each}
+use Rattle.positions.specs.Positions.{geometryOf, positioned, numbered, lettered, positionOf, withPosition, bondAt, bondList, inside, ringBondAt, ringBondList}
+use Rattle.positions.proofs.Each.{each-same}
+
+-- ---- one position
+
+module _ (s : List ℕ) (g : Geometry) (r : Number) (e : r ≡ numberUpTo numberLimit s) where
+  pub numbered-unreadable : r ≡ Number·Unreadable → Unreadable ≡ numbered g s
+  unfolding numbered
+  numbered-unreadable f = sym (rw (sym e ∙ f))
+
+  pub numbered-is : (n : ℕ) → r ≡ Number·Value n → At (record { pos = n; geom = g }) ≡ numbered g s
+  unfolding numbered
+  numbered-is n f = sym (rw (sym e ∙ f))
+
+-- a number that was read fits a position
+pub numbered-fits : (s : List ℕ) (r : Number) (n : ℕ) → r ≡ numberUpTo numberLimit s → r ≡ Number·Value n → Fits w32 n
+numbered-fits s r n e f = record { fits = omega (arith, number-bound numberLimit s r n e f) }
+
+module _ (s t : List ℕ) (e : t ≡ trimmed s) where
+  pub position-blank : length t ≡ 0 → Unreadable ≡ positionOf s
+  unfolding positionOf
+  position-blank h = rw (← e, eq-eqb (length t) 0 h)
+
+  module _ (n : length t ≡ 0 → ⊥) (g : Geometry) (f : g ≡ geometryOf (getD t (length t - 1) 0)) (r : Position) where
+    pub position-plain : g ≡ Unstated → r ≡ numbered g t → r ≡ positionOf s
+    unfolding positionOf
+    position-plain h k = k ∙ rw (← e, ne-eqb (length t) 0 n, ← f, h)
+
+    pub position-cis : g ≡ Cis → r ≡ numbered g (take (length t - 1 - 0) t) → r ≡ positionOf s
+    unfolding positionOf
+    position-cis h k = k ∙ rw (← e, ne-eqb (length t) 0 n, ← f, h, sub-zero (length t - 1))
+
+    pub position-trans : g ≡ Trans → r ≡ numbered g (take (length t - 1 - 0) t) → r ≡ positionOf s
+    unfolding positionOf
+    position-trans h k = k ∙ rw (← e, ne-eqb (length t) 0 n, ← f, h, sub-zero (length t - 1))
+
+-- ---- one double bond
+
+module _ (s : List ℕ) (start end : ℕ) (c : ParsedChain) (p : Position) (e : p ≡ positionOf s) where
+  pub bond-unreadable : p ≡ Unreadable → Gives c (record { refusal = 11; chain = c }) (ringBondAt start end s)
+  unfolding ringBondAt
+  bond-unreadable f = gives-same (gives-refused c c unreadable (omega arith)) (λ d k. sym (rw (sym e ∙ f)))
+
+  module _ (b : DbPos) (f : p ≡ At b) where
+    pub bond-below : b .pos < start → Gives c (record { refusal = 11; chain = c }) (ringBondAt start end s)
+    unfolding ringBondAt
+    bond-below h = gives-same (gives-refused c c unreadable (omega arith)) (λ d k. sym (rw (sym e ∙ f, lt-ltb (b .pos) start h)))
+
+    pub bond-above : start ≤ b .pos → end ≤ b .pos → Gives c (record { refusal = 11; chain = c }) (ringBondAt start end s)
+    unfolding ringBondAt
+    bond-above h l = gives-same (gives-refused c c unreadable (omega arith)) (λ d k. sym (rw (sym e ∙ f, le-ltb (b .pos) start h, le-ltb (b .pos) end l)))
+
+    pub bond-inside : (q : ParsedChain) → start ≤ b .pos → b .pos < end → Takes c q (withBond b) → Gives c (record { refusal = 0; chain = q }) (ringBondAt start end s)
+    unfolding ringBondAt
+    bond-inside q h l w = gives-same (gives-read w) (λ d k. sym (rw (sym e ∙ f, le-ltb (b .pos) start h, lt-ltb (b .pos) end l)))
+
+-- ---- the list
+
+positioned-below : (g : Geometry) (s : List ℕ) (r : Number) (b : DbPos) → r ≡ numberUpTo numberLimit s → positioned g r ≡ At b → b .pos < 4294967296
+positioned-below g s (Number·Value n) b e f = let z : n ≡ b .pos = ap pos-of f in omega (arith, number-bound numberLimit s (Number·Value n) n e refl)
+  where
+    pos-of : Position → ℕ
+    pos-of (At b) = b .pos
+    pos-of Unreadable = 0
+positioned-below g s Number·Unreadable b e f = let z : _≡_ {A = ℕ} 0 1 = cc in absurd (omega arith)
+
+numbered-below : (g : Geometry) (s : List ℕ) (b : DbPos) → numbered g s ≡ At b → b .pos < 4294967296
+unfolding numbered
+numbered-below g s b f = positioned-below g s (numberUpTo numberLimit s) b refl f
+
+lettered-below : (g : Geometry) (t : List ℕ) (b : DbPos) → lettered g t ≡ At b → b .pos < 4294967296
+lettered-below Unstated t b f = numbered-below Unstated t b f
+lettered-below Cis t b f = numbered-below Cis (take (length t - 1) t) b f
+lettered-below Trans t b f = numbered-below Trans (take (length t - 1) t) b f
+
+position-below : (s : List ℕ) (p : Position) (b : DbPos) → positionOf s ≡ p → p ≡ At b → b .pos < 4294967296
+unfolding positionOf
+position-below s p b e f = go (eqb (length (trimmed s)) 0) (e ∙ f)
+  where
+    go : (a : Bool) → cond a Unreadable (lettered (geometryOf (getD (trimmed s) (length (trimmed s) - 1) 0)) (trimmed s)) ≡ At b → b .pos < 4294967296
+    go true h = let z : _≡_ {A = ℕ} 0 1 = cc in absurd (omega arith)
+    go false h = lettered-below (geometryOf (getD (trimmed s) (length (trimmed s) - 1) 0)) (trimmed s) b h
+
+-- the `(..)` list is a list with every number in range
+any-bond : (s : List ℕ) (d : Chain) → ringBondAt 0 4294967296 s d ≡ bondAt s d
+unfolding ringBondAt bondAt
+any-bond s d = go (positionOf s) refl
+  where
+    go : (p : Position) → positionOf s ≡ p → inside 0 4294967296 p d ≡ withPosition p d
+    go (At b) e = rw (le-ltb (b .pos) 0 (omega arith), lt-ltb (b .pos) 4294967296 (position-below s (At b) b e refl))
+    go Unreadable e = refl
+
+pub any-list : (s : List ℕ) (c : ParsedChain) (r : Parsed) → Gives c r (ringBondList 0 4294967296 s) → Gives c r (bondList s)
+unfolding ringBondList bondList
+any-list s c r w = record { stands = λ d k. rw (each-same (ringBondAt 0 4294967296) bondAt any-bond (listParts s) d) at (w .stands d k) }

@@ -1,0 +1,128 @@
+// Lists of double bonds, `9Z,12E`: the `(..)` list after a chain's bond count, and the list of a ring. Every byte string has an answer; an
+// unreadable list is refused by 11, and how many bonds a chain may have is judged by its record afterwards. 01's sentences stand in
+// specs/Positions.antt.
+use record::DbPos;
+use record::Geometry;
+use record::Parsed;
+use record::ParsedChain;
+use scan::Number;
+ghost use mathlib.Core.Path.{_≡_};
+ghost use Rattle.record.specs.Chain.{Gives};
+ghost use Rattle.positions.specs.Positions.{geometryOf, numbered, positionOf, bondList, ringBondAt, ringBondList};
+
+// A position as it was read.
+pub enum Position {
+    At(DbPos),
+    Unreadable,
+}
+
+// What the last letter of a position states.
+fn geometry_of(b: u8) -> Geometry
+    ensures { λ r. ⌜ r ≡ geometryOf b ⌝ }
+{
+    if b == b'Z' {
+        return Geometry::Cis;
+    }
+    if b == b'z' {
+        return Geometry::Cis;
+    }
+    if b == b'E' {
+        return Geometry::Trans;
+    }
+    if b == b'e' {
+        return Geometry::Trans;
+    }
+    Geometry::Unstated
+}
+
+// The number of a position whose geometry is known.
+fn numbered_position(s: &[u8], geom: Geometry) -> Position
+    ensures { λ r. ⌜ r ≡ numbered geom (now (s .entry)) ⌝ }
+{
+    let Number::Value(n) = scan::read_number(s, 4294967295) else {
+        return Position::Unreadable;
+    };
+    Position::At(DbPos {
+        pos: n as u32,
+        geom,
+    })
+}
+
+// A double bond's position: trimmed, with at most one letter at its end.
+fn read_position(s: &[u8]) -> Position
+    ensures { λ r. ⌜ r ≡ positionOf (now (s .entry)) ⌝ }
+{
+    let t = scan::trim(s);
+    if t.len() == 0 {
+        return Position::Unreadable;
+    }
+    let n = t.len() - 1;
+    let g = geometry_of(t[n]);
+    match g {
+        Geometry::Unstated => numbered_position(t, g),
+        Geometry::Cis => numbered_position(&t[0..n], g),
+        Geometry::Trans => numbered_position(&t[0..n], g),
+    }
+}
+
+// One double bond more, from the carbon `start` up to, not including, the carbon `end`.
+fn parse_bond(s: &[u8], start: u64, end: u64, chain: ParsedChain) -> Parsed
+    ensures { λ r. ⌜ Gives chain r (ringBondAt start end (now (s .entry))) ⌝ }
+{
+    let Position::At(bond) = read_position(s) else {
+        return Parsed {
+            refusal: record::UNREADABLE,
+            chain,
+        };
+    };
+    let pos = bond.pos as u64;
+    if pos < start {
+        return Parsed {
+            refusal: record::UNREADABLE,
+            chain,
+        };
+    }
+    if end <= pos {
+        return Parsed {
+            refusal: record::UNREADABLE,
+            chain,
+        };
+    }
+    let longer = chain.push_bond(bond);
+    Parsed {
+        refusal: 0,
+        chain: longer,
+    }
+}
+
+// The double bonds that the list of a ring from `start` to `end` gives.
+pub fn parse_ring_bonds(s: &[u8], start: u64, end: u64, chain: ParsedChain) -> Parsed
+    ensures { λ r. ⌜ Gives chain r (ringBondList start end (now (s .entry))) ⌝ }
+{
+    if s.len() == 0 {
+        return Parsed { refusal: 0, chain };
+    }
+    let mut t = s;
+    let mut c = chain;
+    loop {
+        let n = scan::find(t, b',');
+        let parsed = parse_bond(&t[0..n], start, end, c);
+        let refusal = parsed.refusal;
+        if refusal != 0 {
+            return parsed;
+        }
+        if n == t.len() {
+            return parsed;
+        }
+        let next = parsed.chain;
+        c = next;
+        t = &t[n + 1..];
+    }
+}
+
+// The double bonds of the `(..)` list: every number that can be read is below 4,294,967,296, so none is out of range.
+pub fn parse_position_list(s: &[u8], chain: ParsedChain) -> Parsed
+    ensures { λ r. ⌜ Gives chain r (bondList (now (s .entry))) ⌝ }
+{
+    parse_ring_bonds(s, 0, 4294967296, chain)
+}
