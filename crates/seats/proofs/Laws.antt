@@ -1,0 +1,279 @@
+-- Laws of the seats: the search by an array of used positions is the search by the definition.
+-- Assumes nothing.
+use Prim.Native.Nat.{ℕ, zero, suc, _+_, _-_, _≤_, _<_, min, max}
+use native.Mathlib.Nat.{le-refl}
+use native.Mathlib.Numerals.{add-one}
+use native.Mathlib.Omega.{arith}
+use native.Mathlib.Decide.{ℕ-discrete}
+use mir.Syntax.{w16}
+use mir.Val.{Fits}
+use mathlib.Core.Path.{_≡_, refl, sym, ap, _∙_}
+use mathlib.Core.Bool.{Bool, true, false, not, cond, true≢false}
+use mathlib.Core.List.{List, [], _∷_, _++_}
+use lib.ListN.{length, getD, set, take, length-set, replicate}
+use lib.Seq.{getD-set-same, getD-set-other, set-out, take-suc, take-all}
+use lib.Dec.{eqb, ltb}
+use borrow.Author.Tests.{lt-ltb, le-ltb, eq-eqb, ne-eqb, ltb-true}
+use Rattle.record.specs.declared.DbPos.{DbPos}
+use Rattle.record.specs.declared.Geometry.the-variants.{Unstated}
+use Rattle.seats.specs.declared.Seat.{Seat}
+use Rattle.seats.specs.declared.Seat.the-variants.{At, Nothing}
+use Rattle.seats.specs.Seats.{among, also, free, firstFree, orElse, seatFrom, onSeat, seatsFrom, firstStart, seated, usedIn, positions, NoMarks, Marks, MarksAll, Seated}
+
+-- what an index past the end reads
+abbrev noBond : DbPos
+noBond = record { pos = 0; geom = Unstated }
+
+-- ---- a free seat
+
+module _ (xs : List Bool) (p : ℕ) where
+  pub used-itself : getD xs p false ≡ true → false ≡ free (usedIn xs) p
+  unfolding free
+  used-itself e = rw e
+
+  pub used-below : getD xs p false ≡ false → getD xs (p - 1) false ≡ true → false ≡ free (usedIn xs) p
+  unfolding free
+  used-below e f = rw (e, f)
+
+  pub used-above : getD xs p false ≡ false → getD xs (p - 1) false ≡ false → not (getD xs (p + 1) false) ≡ free (usedIn xs) p
+  unfolding free
+  used-above e f = rw (e, f)
+
+module _ (A : Seat) (u : ℕ → Bool) (p to : ℕ) (v : A ≡ firstFree u (to - p) p) where
+  seat-first : p < to → A ≡ cond (free u p) (At p) (firstFree u (to - (p + 1)) (suc p))
+  unfolding firstFree
+  seat-first h =
+      let e : to - p ≡ suc (to - (p + 1)) = omega arith in
+      v ∙ rw e
+
+  pub seat-here : (b : Bool) → p < to → b ≡ free u p → b ≡ true → At p ≡ A
+  seat-here b h e f = sym (seat-first h ∙ rw (sym e ∙ f))
+
+  pub seat-next : (b : Bool) → p < to → b ≡ free u p → b ≡ false → A ≡ firstFree u (to - (p + 1)) (p + 1)
+  seat-next b h e f = rw (add-one p) (seat-first h ∙ rw (sym e ∙ f, add-one p))
+
+  pub seat-none : to ≤ p → Nothing ≡ A
+  unfolding firstFree
+  seat-none h =
+      let e : to - p ≡ 0 = omega arith in
+      sym (v ∙ rw e)
+
+-- ---- upward from a start, and from 2 on again
+
+module _ (c : ℕ) (u : ℕ → Bool) (s : ℕ) where
+  pub start-past : (r : Seat) → c ≤ s → r ≡ firstFree u (c - 2) 2 → r ≡ seatFrom c u s
+  unfolding seatFrom
+  start-past r h e = rw (le-ltb s c h) e
+
+  pub found-above : (r : Seat) (p : ℕ) → s < c → r ≡ firstFree u (c - s) s → r ≡ At p → r ≡ seatFrom c u s
+  unfolding seatFrom
+  found-above r p h e f = rw (lt-ltb s c h, sym e ∙ f) f
+
+  pub found-below : (r q : Seat) → s < c → r ≡ firstFree u (c - s) s → r ≡ Nothing → q ≡ firstFree u (s - 2) 2 → q ≡ seatFrom c u s
+  unfolding seatFrom
+  found-below r q h e f g = rw (lt-ltb s c h, sym e ∙ f) g
+
+-- ---- where a seat is
+
+first-range : (u : ℕ → Bool) (n a p : ℕ) → firstFree u n a ≡ At p → (a ≤ p) × (p < a + n)
+unfolding firstFree
+first-range u zero a p e = let z : _≡_ {A = ℕ} 0 1 = cc in absurd (omega arith)
+first-range u (suc n) a p e = go (free u a) e (first-range u n (suc a) p)
+  where
+    go : (b : Bool) → cond b (At a) (firstFree u n (suc a)) ≡ At p → (firstFree u n (suc a) ≡ At p → (suc a ≤ p) × (p < suc a + n)) → (a ≤ p) × (p < a + suc n)
+    go true e f = let z : a ≡ p = cc in (omega arith, omega arith)
+    go false e f = let w = f e in (omega (arith, w .0, w .1), omega (arith, w .0, w .1))
+
+-- a seat is one of 2..c−1
+pub seat-range : (c : ℕ) (u : ℕ → Bool) (s p : ℕ) → 2 ≤ s → 2 ≤ c → seatFrom c u s ≡ At p → (2 ≤ p) × (p < c)
+unfolding seatFrom
+seat-range c u s p h k e = go (ltb s c) refl e
+  where
+    low : firstFree u (c - 2) 2 ≡ At p → (2 ≤ p) × (p < c)
+    low e = let w = first-range u (c - 2) 2 p e in (w .0, omega (arith, w .1))
+
+    two : (r : Seat) → firstFree u (c - s) s ≡ r → s < c → orElse r (firstFree u (s - 2) 2) ≡ At p → (2 ≤ p) × (p < c)
+    two (At q) f l e = let z : q ≡ p = cc in let w = first-range u (c - s) s q f in (omega (arith, w .0), omega (arith, w .1))
+    two Nothing f l e = let w = first-range u (s - 2) 2 p e in (w .0, omega (arith, w .1))
+
+    go : (b : Bool) → ltb s c ≡ b → cond b (orElse (firstFree u (c - s) s) (firstFree u (s - 2) 2)) (firstFree u (c - 2) 2) ≡ At p → (2 ≤ p) × (p < c)
+    go true t e = two (firstFree u (c - s) s) refl (omega (arith, ltb-true s c t)) e
+    go false t e = low e
+
+-- ---- the array marks what is used
+
+pub not-marked : (xs : List Bool) (p : ℕ) → length xs ≤ p → Marks xs p xs
+not-marked xs p h = record { marked = sym (set-out xs p true h) }
+
+pub marks-length : (n : ℕ) (xs : List Bool) (p : ℕ) (ys : List Bool) → Marks xs p ys → length xs ≡ n → length ys ≡ n
+marks-length n xs p ys m l = ap length (m .marked) ∙ length-set xs p true ∙ l
+
+also-set : (xs : List Bool) (p k : ℕ) → k < length xs → also p (usedIn xs) k ≡ usedIn (set xs p true) k
+unfolding also
+also-set xs p k h = go (ℕ-discrete p k)
+  where
+    go : Dec (p ≡ k) → cond (eqb p k) true (getD xs k false) ≡ getD (set xs p true) k false
+    go (yes e) = rw (eq-eqb p k e, e, getD-set-same xs k true false h)
+    go (no n) = rw (ne-eqb p k n, getD-set-other xs p k true false (λ e. n (sym e)))
+
+among-one : (ps : List ℕ) (p k : ℕ) → among (ps ++ (p ∷ [])) k ≡ cond (eqb p k) true (among ps k)
+unfolding among
+among-one [] p k = refl
+among-one (q ∷ ps) p k = rw (among-one ps p k) (go (eqb q k) (eqb p k))
+  where
+    go : (a b : Bool) → cond a true (cond b true (among ps k)) ≡ cond b true (cond a true (among ps k))
+    go true true = refl
+    go true false = refl
+    go false b = refl
+
+positions-one : (bs : List DbPos) (b : DbPos) → positions (bs ++ (b ∷ [])) ≡ positions bs ++ (b .pos ∷ [])
+unfolding positions
+positions-one [] b = refl
+positions-one (x ∷ bs) b = ap (λ (r : List ℕ). x .pos ∷ r) (positions-one bs b)
+
+-- nothing marked yet
+pub marks-none : (xs : List Bool) (bs : List DbPos) → MarksAll xs (positions (take 0 bs)) xs
+unfolding positions among
+marks-none xs bs = record { same-length = refl; marked = λ k h. refl }
+
+-- one listed bond more
+pub marks-one : (xs ys zs : List Bool) (bs : List DbPos) (i : ℕ) → length bs ≡ 32 → i < 32
+    → MarksAll xs (positions (take i bs)) ys → Marks ys (getD bs i noBond .pos) zs → MarksAll xs (positions (take (i + 1) bs)) zs
+unfolding also
+marks-one xs ys zs bs i l h m n = record { same-length = ap length (n .marked) ∙ length-set ys _ true ∙ m .same-length; marked = each }
+  where
+    p : ℕ
+    p = getD bs i noBond .pos
+
+    more : positions (take (i + 1) bs) ≡ positions (take i bs) ++ (p ∷ [])
+    more = rw (add-one i, take-suc bs i noBond (omega arith)) (positions-one (take i bs) (getD bs i noBond))
+
+    each : (k : ℕ) → k < length xs → usedIn zs k ≡ cond (among (positions (take (i + 1) bs)) k) true (usedIn xs k)
+    each k g =
+        rw (more, among-one (positions (take i bs)) p k)
+        (ap (λ (z : List Bool). usedIn z k) (n .marked) ∙ sym (also-set ys p k (omega (arith, m .same-length))) ∙ rw (m .marked k g) (go (eqb p k) (among (positions (take i bs)) k)))
+      where
+        go : (a b : Bool) → cond a true (cond b true (usedIn xs k)) ≡ cond (cond a true b) true (usedIn xs k)
+        go true b = refl
+        go false b = refl
+
+pub marks-all : (xs ys : List Bool) (bs : List DbPos) (i n : ℕ) → i ≤ n → n ≤ i → MarksAll xs (positions (take i bs)) ys → MarksAll xs (positions (take n bs)) ys
+marks-all xs ys bs i n h k m = let e : i ≡ n = omega arith in rw e at m
+
+pub marks-whole : (xs ys : List Bool) (bs : List DbPos) (i n : ℕ) → length bs ≡ 32 → 32 ≤ i → i < n → MarksAll xs (positions (take i bs)) ys → MarksAll xs (positions (take n bs)) ys
+marks-whole xs ys bs i n l k h m = rw (take-all i bs (omega arith), ← take-all n bs (omega arith)) at m
+
+-- two ways to say what is used, up to the carbon c
+abbrev pub Agree : ℕ → (ℕ → Bool) → (ℕ → Bool) → Type 0
+Agree c u v = (k : ℕ) → k ≤ c → u k ≡ v k
+
+module _ (c : ℕ) (u v : ℕ → Bool) (g : Agree c u v) where
+  free-agree : (p : ℕ) → p < c → free u p ≡ free v p
+  unfolding free
+  free-agree p h = rw (g p (omega arith), g (p - 1) (omega arith), g (p + 1) (omega arith))
+
+  first-agree : (n a : ℕ) → a + n ≤ c → firstFree u n a ≡ firstFree v n a
+  unfolding firstFree
+  first-agree zero a h = refl
+  first-agree (suc n) a h = rw (free-agree a (omega arith), first-agree n (suc a) (omega arith))
+
+  seat-agree : (s : ℕ) → 2 ≤ c → seatFrom c u s ≡ seatFrom c v s
+  unfolding seatFrom
+  seat-agree s k = go (ltb s c) refl
+    where
+      go : (b : Bool) → ltb s c ≡ b
+          → cond b (orElse (firstFree u (c - s) s) (firstFree u (s - 2) 2)) (firstFree u (c - 2) 2) ≡ cond b (orElse (firstFree v (c - s) s) (firstFree v (s - 2) 2)) (firstFree v (c - 2) 2)
+      go true t = let l = ltb-true s c t in rw (first-agree (c - s) s (omega arith), first-agree (s - 2) 2 (omega arith))
+      go false t = first-agree (c - 2) 2 (omega arith)
+
+also-agree : (c p : ℕ) (u v : ℕ → Bool) → Agree c u v → Agree c (also p u) (also p v)
+unfolding also
+also-agree c p u v g k h = rw (g k h)
+
+pub seats-agree : (c : ℕ) (u v : ℕ → Bool) (s n : ℕ) → 2 ≤ c → Agree c u v → seatsFrom c u s n ≡ seatsFrom c v s n
+unfolding seatsFrom
+seats-agree c u v s zero k g = refl
+seats-agree c u v s (suc n) k g = rw (seat-agree c u v g s k) (go (seatFrom c v s) (λ p. seats-agree c (also p u) (also p v) (p + 3) n k (also-agree c p u v g)))
+  where
+    go : (r : Seat) → ((p : ℕ) → seatsFrom c (also p u) (p + 3) n ≡ seatsFrom c (also p v) (p + 3) n)
+        → onSeat r (λ p. seatsFrom c (also p u) (p + 3) n) ≡ onSeat r (λ p. seatsFrom c (also p v) (p + 3) n)
+    go (At p) f = f p
+    go Nothing f = refl
+
+-- ---- one seat after the other
+
+module _ (A : Bool) (xs : List Bool) (c s n : ℕ) (v : A ≡ seatsFrom c (usedIn xs) s n) where
+  pub no-seat : (r : Seat) → 0 < n → r ≡ seatFrom c (usedIn xs) s → r ≡ Nothing → false ≡ A
+  unfolding seatsFrom
+  no-seat r h e f =
+      let m : n ≡ suc (n - 1) = omega arith in
+      sym (v ∙ rw (m, sym e ∙ f))
+
+  pub next-seat : (r : Seat) (p : ℕ) (ys : List Bool) → 0 < n → 4 ≤ c → (m : ℕ) → c < m → length xs ≡ m → r ≡ seatFrom c (usedIn xs) s → r ≡ At p → Marks xs p ys
+      → A ≡ seatsFrom c (usedIn ys) (p + 3) (n - 1)
+  unfolding seatsFrom
+  next-seat r p ys h g q l₀ l e f m =
+      let t : n ≡ suc (n - 1) = omega arith in
+      let w : seatsFrom c (usedIn xs) s (suc (n - 1)) ≡ seatsFrom c (also p (usedIn xs)) (p + 3) (n - 1) = rw (sym e ∙ f) in
+      rw (m .marked) (v ∙ ap (seatsFrom c (usedIn xs) s) t ∙ w ∙ seats-agree c (also p (usedIn xs)) (usedIn (set xs p true)) (p + 3) (n - 1) (omega arith) (λ k h. also-set xs p k (omega arith)))
+
+  pub all-seated : n ≤ 0 → true ≡ A
+  unfolding seatsFrom
+  all-seated h =
+      let m : n ≡ 0 = omega arith in
+      sym (v ∙ rw m)
+
+-- the next start fits
+pub seat-next-fits : (c : ℕ) (u : ℕ → Bool) (s : ℕ) (r : Seat) (p : ℕ) → 2 ≤ s → 4 ≤ c → c ≤ 255 → r ≡ seatFrom c u s → r ≡ At p → Fits w16 (p + 3)
+seat-next-fits c u s r p h k l e f = record { fits = omega (arith, seat-range c u s p h (omega arith) (sym e ∙ f) .1) }
+
+-- ---- the whole
+
+pub first-small : (c : ℕ) → c < 3 → 2 ≡ firstStart c
+unfolding firstStart
+first-small c h = omega arith
+
+pub first-last : (c : ℕ) → 3 ≤ c → c < 10 → c - 1 ≡ firstStart c
+unfolding firstStart
+first-last c h k = omega arith
+
+pub first-nine : (c : ℕ) → 10 ≤ c → 9 ≡ firstStart c
+unfolding firstStart
+first-nine c h = omega arith
+
+pub first-low : (c s : ℕ) → s ≡ firstStart c → 2 ≤ s
+unfolding firstStart
+first-low c s e = omega arith
+
+module _ (c : ℕ) (ps : List ℕ) (n : ℕ) where
+  pub seats-none : n ≡ 0 → Seated c ps n true
+  unfolding seated
+  seats-none e = record { is = λ h. rw (eq-eqb n 0 e) }
+
+  pub seats-short : (n ≡ 0 → ⊥) → c < 4 → Seated c ps n false
+  unfolding seated
+  seats-short e h = record { is = λ k. rw (ne-eqb n 0 e, lt-ltb c 4 h) }
+
+  pub seats-large : 255 < c → Seated c ps n false
+  seats-large h = record { is = λ k. absurd (omega arith) }
+
+  pub seats-found : (xs ys : List Bool) (s : ℕ) (r : Bool) → (n ≡ 0 → ⊥) → 4 ≤ c → c ≤ 255 → NoMarks xs → MarksAll xs ps ys
+      → s ≡ firstStart c → r ≡ seatsFrom c (usedIn ys) s n → Seated c ps n r
+  unfolding seated
+  seats-found xs ys s r e h l z m f g = record { is = λ k. rw (ne-eqb n 0 e, le-ltb c 4 h, ← f) (g ∙ seats-agree c (usedIn ys) (among ps) s n (omega arith) agree) }
+    where
+      clear : (a b : Bool) → b ≡ false → cond a true b ≡ a
+      clear true b e = refl
+      clear false b e = e
+
+      agree : Agree c (usedIn ys) (among ps)
+      agree k g = m .marked k (omega (arith, z .room)) ∙ clear (among ps k) (usedIn xs k) (z .clear k)
+
+-- a place for each carbon
+pub marked-room : (c : ℕ) (xs ys : List Bool) (ps : List ℕ) → c ≤ 255 → NoMarks xs → MarksAll xs ps ys → c < length ys
+marked-room c xs ys ps h z m = omega (arith, z .room, m .same-length)
+
+pub none-marked : (n k : ℕ) → getD (replicate n false) k false ≡ false
+none-marked zero k = refl
+none-marked (suc n) zero = refl
+none-marked (suc n) (suc k) = none-marked n k

@@ -1,0 +1,65 @@
+use borrow.Author.Needs.{needs}
+use Prim.Native.Nat.{_≤_, _-_}
+use lib.ListN.{take}
+use native.Mathlib.Omega.{arith}
+use Rattle.seats.specs.Seats.{MarksAll, positions}
+use Rattle.seats.proofs.Laws.{marks-none, marks-one, marks-all, marks-whole}
+use Rattle.seats.proofs.mark_listed.Statement.{statement}
+use Rattle.seats.proofs.mark_listed.Tie as tie
+
+abbrev Inv-loop : tie.InvT-loop
+Inv-loop used₀ listed bonds i₀ used i = MarksAll used₀ (positions (take i bonds)) used × (i ≤ listed)
+
+abbrev μ-loop : tie.MeasureT-loop
+μ-loop used₀ listed bonds i₀ used i = listed - i
+
+loop-holds : tie.Need-loop-holds Inv-loop μ-loop
+loop-holds c = (search marks-none, omega arith)
+
+same-length : tie.Need-same-length Inv-loop μ-loop
+same-length c = search needs
+
+returns : tie.Need-returns Inv-loop μ-loop
+returns c = search marks-whole
+
+mul-bond : tie.Need-mul-bond Inv-loop μ-loop
+mul-bond c = search needs
+
+array-copy-out-bond : tie.Need-array-copy-out-bond Inv-loop μ-loop
+array-copy-out-bond c = search needs
+
+mark-requires : tie.Need-mark-requires Inv-loop μ-loop
+mark-requires c κs = search needs
+
+add-i : tie.Need-add-i Inv-loop μ-loop
+add-i c = search needs
+
+loop-less : tie.Need-loop-less Inv-loop μ-loop
+loop-less c = search needs
+
+loop-again : tie.Need-loop-again Inv-loop μ-loop
+loop-again c = (search marks-one, omega arith)
+
+same-length-2 : tie.Need-same-length-2 Inv-loop μ-loop
+same-length-2 c = search needs
+
+returns-2 : tie.Need-returns-2 Inv-loop μ-loop
+returns-2 c = search marks-all
+
+pub mark-listed-spec : {M : Type 1} → statement M
+mark-listed-spec =
+    tie.close
+    (tie.spec
+    Inv-loop
+    μ-loop
+    loop-holds
+    same-length
+    returns
+    mul-bond
+    array-copy-out-bond
+    mark-requires
+    add-i
+    loop-less
+    loop-again
+    same-length-2
+    returns-2)

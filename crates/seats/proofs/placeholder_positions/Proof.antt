@@ -1,0 +1,49 @@
+use Rattle.seats.proofs.Laws.{seats-none, seats-short, seats-large, seats-found, first-low, marked-room}
+use borrow.Author.Needs.{needs}
+use Rattle.seats.proofs.placeholder_positions.Statement.{statement}
+use Rattle.seats.proofs.placeholder_positions.Tie as tie
+
+returns : tie.Need-returns
+returns c = search seats-none
+
+returns-2 : tie.Need-returns-2
+returns-2 c = search seats-short
+
+returns-3 : tie.Need-returns-3
+returns-3 c = search seats-large
+
+no-marks-requires : tie.Need-no-marks-requires
+no-marks-requires c κs = search needs
+
+slice-aggregate-mark-listed : tie.Need-slice-aggregate-mark-listed
+slice-aggregate-mark-listed c = search needs
+
+mark-listed-requires : tie.Need-mark-listed-requires
+mark-listed-requires c κs = search needs
+
+first-start-requires : tie.Need-first-start-requires
+first-start-requires c κs = search needs
+
+slice-aggregate-take-seats : tie.Need-slice-aggregate-take-seats
+slice-aggregate-take-seats c = search needs
+
+take-seats-requires : tie.Need-take-seats-requires
+take-seats-requires c κs = (search first-low, search needs, search needs, search marked-room)
+
+returns-4 : tie.Need-returns-4
+returns-4 c = search seats-found
+
+pub placeholder-positions-spec : {M : Type 1} → statement M
+placeholder-positions-spec =
+    tie.close
+    (tie.spec
+    returns
+    returns-2
+    returns-3
+    no-marks-requires
+    slice-aggregate-mark-listed
+    mark-listed-requires
+    first-start-requires
+    slice-aggregate-take-seats
+    take-seats-requires
+    returns-4)
