@@ -12,6 +12,8 @@ use lib.ListN.{length, take, drop, getD, length-take, drop-of-length-le}
 use lib.Seq.{take-all, take-suc, take-length, length-take-le}
 use lib.Dec.{eqb}
 use borrow.Author.Tests.{eq-eqb, ne-eqb, eqb-true, eqb-false}
+use mir.Syntax.{w32}
+use mir.Val.{Fits}
 use Rattle.scan.proofs.Laws.{to-end, first-within, found-room, number-bound, digits-value-bound}
 use Rattle.scan.specs.Part.{Place, firstByte, indexOf, indexOfText, trimmed}
 use Rattle.scan.specs.Number.{digitsUpTo, numberUpTo, numberLimit, ringCountLimit}
@@ -21,7 +23,7 @@ use Rattle.form.specs.declared.Form.{Form}
 use Rattle.form.specs.declared.Form.the-variants.{Ring, Repeated, Listed, Parts}
 use Rattle.form.specs.Parts.{onto, partsAt, listParts}
 use Rattle.form.specs.Form.{afterOpening, unlessClosing, beforeClosing, segmentText, cyText, groupForm, spanForm, formOf, PlacedIn, Formed, endsInParenthesis, afterPlace}
-use Rattle.form.specs.Numbers.{trimmedNumber, orBlank, ringCount, leadingPosition}
+use Rattle.form.specs.Numbers.{trimmedNumber, unlessBlank, ringCount, leadingPosition, numberOrOne}
 
 -- ---- brackets
 
@@ -212,38 +214,49 @@ pub trimmed-number-is : (s t : List ℕ) (r : Number) → t ≡ trimmed s → r 
 unfolding trimmedNumber
 trimmed-number-is s t r e f = f ∙ rw e
 
+blank : (m : ℕ) (u : List ℕ) (r : Number) → length u ≡ 0 → Value m ≡ unlessBlank m u r
+blank m [] r h = refl
+blank m (x ∷ xs) r h = absurd (omega arith)
+
+some : (m : ℕ) (u : List ℕ) (r : Number) → (length u ≡ 0 → ⊥) → r ≡ unlessBlank m u r
+some m [] r h = absurd (h refl)
+some m (x ∷ xs) r h = refl
+
 pub count-blank : (s t : List ℕ) → t ≡ trimmed s → length t ≡ 0 → Value 0 ≡ ringCount s
 unfolding ringCount
-count-blank s t e h = rw (← e) (blank t h (numberUpTo ringCountLimit t))
-  where
-    blank : (u : List ℕ) → length u ≡ 0 → (r : Number) → Value 0 ≡ orBlank u r
-    blank [] h r = refl
-    blank (x ∷ xs) h r = absurd (omega arith)
+count-blank s t e h = rw (← e) (blank 0 t (numberUpTo ringCountLimit t) h)
 
 pub count-number : (s t : List ℕ) (r : Number) → t ≡ trimmed s → (length t ≡ 0 → ⊥) → r ≡ numberUpTo ringCountLimit t → r ≡ ringCount s
 unfolding ringCount
-count-number s t r e h f = f ∙ rw (← e) (some t h (numberUpTo ringCountLimit t))
-  where
-    some : (u : List ℕ) → (length u ≡ 0 → ⊥) → (r : Number) → r ≡ orBlank u r
-    some [] h r = absurd (h refl)
-    some (x ∷ xs) h r = refl
+count-number s t r e h f = f ∙ rw (← e) (some 0 t (numberUpTo ringCountLimit t) h)
 
 pub position-blank : (s : List ℕ) → length s ≡ 0 → Value 0 ≡ leadingPosition s
 unfolding leadingPosition
-position-blank [] h = refl
-position-blank (x ∷ xs) h = absurd (omega arith)
+position-blank s h = blank 0 s (digitsUpTo numberLimit s) h
 
 pub position-number : (s : List ℕ) (r : Number) → (length s ≡ 0 → ⊥) → r ≡ digitsUpTo numberLimit s → r ≡ leadingPosition s
 unfolding leadingPosition
-position-number [] r h f = absurd (h refl)
-position-number (x ∷ xs) r h f = f
+position-number s r h f = f ∙ some 0 s (digitsUpTo numberLimit s) h
 
--- a number that was read is at most the limit
-pub trimmed-bound : (s : List ℕ) (r : Number) (n : ℕ) → r ≡ trimmedNumber s → r ≡ Value n → n ≤ numberLimit
+pub one-blank : (s : List ℕ) → length s ≡ 0 → Value 1 ≡ numberOrOne s
+unfolding numberOrOne
+one-blank s h = blank 1 s (numberUpTo numberLimit s) h
+
+pub one-number : (s : List ℕ) (r : Number) → (length s ≡ 0 → ⊥) → r ≡ numberUpTo numberLimit s → r ≡ numberOrOne s
+unfolding numberOrOne
+one-number s r h f = f ∙ some 1 s (numberUpTo numberLimit s) h
+
+-- a number that was read fits 32 bits
+pub trimmed-fits : (s : List ℕ) (r : Number) (n : ℕ) → r ≡ trimmedNumber s → r ≡ Value n → Fits w32 n
 unfolding trimmedNumber
-trimmed-bound s r n e f = number-bound numberLimit (trimmed s) r n e f
+trimmed-fits s r n e f = record { fits = omega (arith, number-bound numberLimit (trimmed s) r n e f) }
 
-pub position-bound : (s : List ℕ) (r : Number) (n : ℕ) → r ≡ leadingPosition s → r ≡ Value n → n ≤ numberLimit
+pub position-fits : (s : List ℕ) (r : Number) (n : ℕ) → r ≡ leadingPosition s → r ≡ Value n → Fits w32 n
 unfolding leadingPosition
-position-bound [] r n e f = let z : 0 ≡ n = cc in omega arith
-position-bound (x ∷ xs) r n e f = digits-value-bound numberLimit (x ∷ xs) r n e f
+position-fits [] r n e f = let z : 0 ≡ n = cc in record { fits = omega arith }
+position-fits (x ∷ xs) r n e f = record { fits = omega (arith, digits-value-bound numberLimit (x ∷ xs) r n e f) }
+
+pub one-fits : (s : List ℕ) (r : Number) (n : ℕ) → r ≡ numberOrOne s → r ≡ Value n → Fits w32 n
+unfolding numberOrOne
+one-fits [] r n e f = let z : 1 ≡ n = cc in record { fits = omega arith }
+one-fits (x ∷ xs) r n e f = record { fits = omega (arith, number-bound numberLimit (x ∷ xs) r n e f) }

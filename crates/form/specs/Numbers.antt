@@ -11,15 +11,19 @@ use Rattle.scan.specs.declared.Number.the-variants.{Value, Unreadable}
 unfoldable pub trimmedNumber : List ℕ → Number
 trimmedNumber s = numberUpTo numberLimit (trimmed s)
 
--- n where something stands there, else 0
-abbrev pub orBlank : List ℕ → Number → Number
-orBlank [] n = Value 0
-orBlank (x ∷ xs) n = n
+-- a number where something stands, else m
+abbrev pub unlessBlank : ℕ → List ℕ → Number → Number
+unlessBlank m [] n = Value m
+unlessBlank m (x ∷ xs) n = n
 
 -- 01: "optionally `:n` .., blank n being 0"
 unfoldable pub ringCount : List ℕ → Number
-ringCount s = orBlank (trimmed s) (numberUpTo ringCountLimit (trimmed s))
+ringCount s = unlessBlank 0 (trimmed s) (numberUpTo ringCountLimit (trimmed s))
 
 -- 01: "digits then abbr, no digits meaning 0"
 unfoldable pub leadingPosition : List ℕ → Number
-leadingPosition s = orBlank s (digitsUpTo numberLimit s)
+leadingPosition s = unlessBlank 0 s (digitsUpTo numberLimit s)
+
+-- 01: "`(abbr)n`: n unlocated groups, 1 if nothing follows"; "`O` with an optional number (1 without)". Nothing is trimmed there.
+unfoldable pub numberOrOne : List ℕ → Number
+numberOrOne s = unlessBlank 1 s (numberUpTo numberLimit s)

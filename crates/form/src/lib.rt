@@ -4,7 +4,7 @@ use scan::Number;
 ghost use mathlib.Core.Path.{_≡_};
 ghost use Rattle.form.specs.Form.{afterOpening, beforeClosing, segmentText, Formed, formOf, groupForm, endsInParenthesis, afterPlace};
 ghost use lib.ListN.{length};
-ghost use Rattle.form.specs.Numbers.{trimmedNumber, ringCount, leadingPosition};
+ghost use Rattle.form.specs.Numbers.{trimmedNumber, ringCount, leadingPosition, numberOrOne};
 ghost use Rattle.form.specs.Parts.{listParts};
 
 // The four forms, with the places that part them.
@@ -148,4 +148,14 @@ pub fn leading_position(s: &[u8]) -> Number
         return Number::Value(0);
     }
     scan::read_digits(s, 4294967295)
+}
+
+// A number with nothing around it: how often a group stands, and an oxygen count; 1 where nothing stands.
+pub fn number_or_one(s: &[u8]) -> Number
+    ensures { λ r. ⌜ r ≡ numberOrOne (now (s .entry)) ⌝ }
+{
+    if s.len() == 0 {
+        return Number::Value(1);
+    }
+    scan::read_number(s, 4294967295)
 }

@@ -1,0 +1,16 @@
+use borrow.Author.Needs.{needs}
+use borrow.Author.Tests.{eq-eqb, ne-eqb}
+use Rattle.features.specs.Features.{bridgeOf}
+use Rattle.features.proofs.bridge_of.Statement.{statement}
+use Rattle.features.proofs.bridge_of.Tie as tie
+
+returns : tie.Need-returns
+unfolding bridgeOf
+returns c = search eq-eqb
+
+returns-2 : tie.Need-returns-2
+unfolding bridgeOf
+returns-2 c = search ne-eqb
+
+pub bridge-of-spec : {M : Type 1} → statement M
+bridge-of-spec = tie.close (tie.spec returns returns-2)
