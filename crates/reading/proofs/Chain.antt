@@ -17,7 +17,7 @@ use Rattle.reading.specs.Machine.{Entry, entry, Phase, fresh, opened, af
 use Rattle.reading.specs.Part.{Part, place, hung}
 use Rattle.reading.specs.Chain.{Ring, ring, Carbon, partsEnd, bridgeEnd, bridgeLast, carbonEnd, carbonLast, chainEnd, chainLast, atomFrom, atomOf, partRows, bridgeRows, ringLinks, carbonRows, chainRows, labelsAt, markPieces, partPieces, bridgePieces, chainPieces, floatPieces, floatRows, floatEnd, floatLast}
 use Rattle.reading.proofs.Reading.{Reads, Steps, reads-nil, reads-cons, reads-append, steps-mark, steps-atom, steps-plain, steps-dot}
-use Rattle.reading.proofs.OpenLabels.{lookup-same, lookup-other, lookup-removed, lookup-remove-other, lookup-append, nothing-open}
+use Rattle.reading.proofs.OpenLabels.{lookup-same, lookup-other, lookup-removed, lookup-remove-other, lookup-append, nothing-open, label-opens, label-closes, labels-cons}
 use Rattle.reading.proofs.Frame.{Hangs, EachOf, EachLabel, each-label-map, Shut, Free, frame-after, frame-branch, labels-over}
 
 -- ---- where a ring's label is open
@@ -74,19 +74,6 @@ Rings f [] = Unit {0}
 Rings f (ring s e ∷ rs) = (f ≤ s) × ((s < e) × (Differs s e rs × Rings f rs))
 
 -- ---- the labels of one carbon
-
-label-opens : (l self : ℕ) (ks : List Link) (t : List Entry) → lookup l t ≡ none → label l self ks t ≡ links ks (entry l self ∷ t)
-unfolding label found
-label-opens l self ks t h = rw h
-
-label-closes : (l self a : ℕ) (ks : List Link) (t : List Entry) → lookup l t ≡ some a → (a ≡ self → ⊥) → among a ks ≡ false
-    → label l self ks t ≡ links (ks ++ link a 0 ∷ []) (remove l t)
-unfolding label found close
-label-closes l self a ks t h g q = rw (h, ne-eqb a self g, q)
-
-labels-cons : (l : ℕ) (ls : List ℕ) (self : ℕ) (ks ks′ : List Link) (t t′ : List Entry) → label l self ks t ≡ links ks′ t′ → labels (l ∷ ls) self ks t ≡ labels ls self ks′ t′
-unfolding labels andLabels
-labels-cons l ls self ks ks′ t t′ e = rw e
 
 among-more : (a b m : ℕ) (ks : List Link) → among a ks ≡ false → (a ≡ b → ⊥) → among a (ks ++ link b m ∷ []) ≡ false
 unfolding among

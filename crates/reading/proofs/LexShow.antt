@@ -21,6 +21,10 @@ T-true : (b : Bool) → T b → b ≡ true
 T-true true t = refl
 T-true false t = absurd t
 
+pub true-T : (b : Bool) → b ≡ true → T b
+true-T true e = tt
+true-T false e = let z : _≡_ {A = ℕ} 0 1 = cc in absurd (omega arith)
+
 or-both : (a b : Bool) → (a || b) ≡ false → (a ≡ false) × (b ≡ false)
 or-both true b e = let z : _≡_ {A = ℕ} 0 1 = cc in absurd (omega arith)
 or-both false b e = (refl, e)
@@ -74,7 +78,7 @@ second-not x (a ∷ []) [] h g = rw (h, g)
 second-not x (a ∷ []) (l ∷ ls) h g = refl
 second-not x (a ∷ a′ ∷ b) ls h g = refl
 
-feed-digit : (b ls : List ℕ) (l : ℕ) → 1 ≤ l → l < 10 → feed (inAtom b ls) (48 + l) ≡ fed [] (inAtom b (ls ++ l ∷ []))
+pub feed-digit : (b ls : List ℕ) (l : ℕ) → 1 ≤ l → l < 10 → feed (inAtom b ls) (48 + l) ≡ fed [] (inAtom b (ls ++ l ∷ []))
 unfolding feed
 feed-digit b ls l h g =
     rw (second-not (48 + l) b ls (ne-eqb (48 + l) 108 (omega arith)) (ne-eqb (48 + l) 114 (omega arith)), within-true 49 57 (48 + l) (omega arith) (omega arith))
@@ -115,11 +119,11 @@ lex-labels b ls (l ∷ ms) rest h =
 
 -- ---- atoms
 
-feed-inside : (b : List ℕ) (x : ℕ) → bracketed x ≡ true → feed (inBracket b) x ≡ fed [] (inBracket (b ++ x ∷ []))
+pub feed-inside : (b : List ℕ) (x : ℕ) → bracketed x ≡ true → feed (inBracket b) x ≡ fed [] (inBracket (b ++ x ∷ []))
 unfolding feed
 feed-inside b x h = rw h
 
-feed-bracket-end : (xs : List ℕ) → 1 ≤ length xs → length xs ≤ 16 → feed (inBracket xs) 93 ≡ fed [] (inAtom (91 ∷ xs ++ 93 ∷ []) [])
+pub feed-bracket-end : (xs : List ℕ) → 1 ≤ length xs → length xs ≤ 16 → feed (inBracket xs) 93 ≡ fed [] (inAtom (91 ∷ xs ++ 93 ∷ []) [])
 unfolding feed bracketed within
 feed-bracket-end xs h g = rw (le-leb 1 (length xs) h, le-leb (length xs) 16 g)
 
@@ -151,13 +155,17 @@ onFed-ended u halt k = refl
 onFed-ended u (fed ps q) k = before-before u ps (k q)
 
 -- any other ends it
-lex-ended : (b ls : List ℕ) (x : ℕ) (xs : List ℕ) → goesOn x ≡ false → lex (inAtom b ls) (x ∷ xs) ≡ before (atom b ls ∷ []) (lex between (x ∷ xs))
-unfolding lex feed goesOn
-lex-ended b ls x xs h =
+feed-other : (b ls : List ℕ) (x : ℕ) → goesOn x ≡ false → feed (inAtom b ls) x ≡ ended (atom b ls) (begin x)
+unfolding feed goesOn
+feed-other b ls x h =
     let p : (eqb x 108 ≡ false) × ((eqb x 114 || (within 49 57 x || eqb x 37)) ≡ false) = or-both (eqb x 108) _ h in
     let q : (eqb x 114 ≡ false) × ((within 49 57 x || eqb x 37) ≡ false) = or-both (eqb x 114) _ (p .1) in
     let r : (within 49 57 x ≡ false) × (eqb x 37 ≡ false) = or-both (within 49 57 x) _ (q .1) in
-    rw (second-not x b ls (p .0) (q .0), r .0, r .1) (onFed-ended (atom b ls) (begin x) (λ q. lex q xs))
+    rw (second-not x b ls (p .0) (q .0), r .0, r .1)
+
+lex-ended : (b ls : List ℕ) (x : ℕ) (xs : List ℕ) → goesOn x ≡ false → lex (inAtom b ls) (x ∷ xs) ≡ before (atom b ls ∷ []) (lex between (x ∷ xs))
+unfolding lex feed
+lex-ended b ls x xs h = ap (λ (z : Fed). onFed z (λ q. lex q xs)) (feed-other b ls x h) ∙ onFed-ended (atom b ls) (begin x) (λ q. lex q xs)
 
 organic-ends : (x : ℕ) → T (memb x organic) → goesOn x ≡ false
 unfolding organic within goesOn none-of
@@ -167,12 +175,39 @@ mark-ends : (x : ℕ) → T (memb x marks) → goesOn x ≡ false
 unfolding marks within goesOn none-of
 mark-ends = none-memb goesOn marks tt
 
-begin-mark : (x : ℕ) → T (memb x marks) → feed between x ≡ fed (mark x ∷ []) between
+pub begin-mark : (x : ℕ) → T (memb x marks) → feed between x ≡ fed (mark x ∷ []) between
 unfolding feed none-of
 begin-mark x t = rw (no-atom x t, T-true (memb x marks) t)
   where
     no-atom : (x : ℕ) → T (memb x marks) → memb x organic ≡ false
     no-atom = none-memb (λ y. memb y organic) marks tt
+
+-- a byte that begins a piece ends the atom before it
+Ends : ℕ → Fed → Type 0
+Ends x halt = Unit {0}
+Ends x (fed us q) = goesOn x ≡ false
+
+ends-cond : (x : ℕ) (b : Bool) (us : List Piece) (q : Lex) (o : Fed) → (b ≡ true → goesOn x ≡ false) → Ends x o → Ends x (cond b (fed us q) o)
+unfolding Ends
+ends-cond x true us q o h g = h refl
+ends-cond x false us q o h g = g
+
+begin-ends : (x : ℕ) → Ends x (begin x)
+unfolding begin goesOn within Ends
+begin-ends x =
+    ends-cond x (memb x organic) _ _ _ (λ e. organic-ends x (true-T (memb x organic) e))
+    (ends-cond x (memb x marks) _ _ _ (λ e. mark-ends x (true-T (memb x marks) e))
+    (ends-cond x (eqb x 91) _ _ _ (λ e. ap goesOn (eqb-true x 91 e))
+    (ends-cond x (eqb x 46) _ _ _ (λ e. ap goesOn (eqb-true x 46 e))
+    (ends-cond x (eqb x 40) _ _ _ (λ e. ap goesOn (eqb-true x 40 e)) (ends-cond x (eqb x 41) _ _ _ (λ e. ap goesOn (eqb-true x 41 e)) tt)))))
+
+pub feed-ended : (b ls : List ℕ) (x : ℕ) (us : List Piece) (q : Lex) → begin x ≡ fed us q → feed (inAtom b ls) x ≡ fed (atom b ls ∷ us) q
+unfolding ended Ends
+feed-ended b ls x us q e = feed-other b ls x (subst (Ends x) e (begin-ends x)) ∙ ap (ended (atom b ls)) e
+
+pub feed-second : (a x : ℕ) → pairs a x ≡ true → feed (inAtom (a ∷ []) []) x ≡ fed [] (inAtom (a ∷ x ∷ []) [])
+unfolding feed second
+feed-second a x h = rw h
 
 atom-ended : (b ls : List ℕ) {b′ : List ℕ} (xs : List ℕ) → AtomBytes b′ → lex (inAtom b ls) (b′ ++ xs) ≡ before (atom b ls ∷ []) (lex between (b′ ++ xs))
 unfolding goesOn within

@@ -1,12 +1,14 @@
 -- The open labels: what is found after one is opened or closed.
 use mathlib.Core.Path.{_≡_, refl, sym, ap, _∙_}
-use mathlib.Core.Bool.{Bool, true, false, cond}
+use mathlib.Core.Bool.{Bool, true, false, cond, _||_}
 use mathlib.Core.Option.{Option, none, some}
 use Prim.Native.Nat.{ℕ}
+use native.Mathlib.Omega.{arith}
 use mathlib.Core.List.{List, [], _∷_, _++_}
 use lib.Dec.{eqb}
 use borrow.Author.Tests.{eqb-true, eq-eqb, ne-eqb}
-use Rattle.reading.specs.Machine.{Entry, entry, lookup, remove}
+use Rattle.reading.specs.Row.{Link, link}
+use Rattle.reading.specs.Machine.{Entry, entry, lookup, remove, among, Labelled, stop, links, close, found, label, andLabels, labels}
 
 pub lookup-same : (l a : ℕ) (t : List Entry) → lookup l (entry l a ∷ t) ≡ some a
 unfolding lookup
@@ -49,3 +51,33 @@ lookup-append m (entry k a ∷ t) ext h = go (eqb m k) (lookup-append m t ext) h
     go : (x : Bool) → (lookup m t ≡ none → lookup m (t ++ ext) ≡ lookup m ext) → cond x (some a) (lookup m t) ≡ none → cond x (some a) (lookup m (t ++ ext)) ≡ lookup m ext
     go true ih q = cc
     go false ih q = ih q
+
+-- ---- a label on an atom
+
+pub label-opens : (l self : ℕ) (ks : List Link) (t : List Entry) → lookup l t ≡ none → label l self ks t ≡ links ks (entry l self ∷ t)
+unfolding label found
+label-opens l self ks t h = rw h
+
+pub label-closes : (l self a : ℕ) (ks : List Link) (t : List Entry) → lookup l t ≡ some a → (a ≡ self → ⊥) → among a ks ≡ false
+    → label l self ks t ≡ links (ks ++ link a 0 ∷ []) (remove l t)
+unfolding label found close
+label-closes l self a ks t h g q = rw (h, ne-eqb a self g, q)
+
+pub labels-cons : (l : ℕ) (ls : List ℕ) (self : ℕ) (ks ks′ : List Link) (t t′ : List Entry) → label l self ks t ≡ links ks′ t′ → labels (l ∷ ls) self ks t ≡ labels ls self ks′ t′
+unfolding labels andLabels
+labels-cons l ls self ks ks′ t t′ e = rw e
+
+-- one more label
+pub labels-snoc : (ls : List ℕ) (d self : ℕ) (ks ks′ ks″ : List Link) (t t′ t″ : List Entry)
+    → labels ls self ks t ≡ links ks′ t′ → label d self ks′ t′ ≡ links ks″ t″ → labels (ls ++ d ∷ []) self ks t ≡ links ks″ t″
+unfolding labels andLabels
+labels-snoc [] d self ks ks′ ks″ t t′ t″ e f =
+    let p : ks ≡ ks′ = cc in
+    let q : t ≡ t′ = cc in
+    rw (p, q, f)
+labels-snoc (l ∷ ls) d self ks ks′ ks″ t t′ t″ e f = go (label l self ks t) (λ a b. labels-snoc ls d self a ks′ ks″ b t′ t″) e
+  where
+    go : (g : Labelled) → ((a : List Link) (b : List Entry) → labels ls self a b ≡ links ks′ t′ → label d self ks′ t′ ≡ links ks″ t″ → labels (ls ++ d ∷ []) self a b ≡ links ks″ t″)
+        → andLabels g (λ a b. labels ls self a b) ≡ links ks′ t′ → andLabels g (λ a b. labels (ls ++ d ∷ []) self a b) ≡ links ks″ t″
+    go stop ih h = let z : _≡_ {A = ℕ} 0 1 = cc in absurd (omega arith)
+    go (links a b) ih h = ih a b h f

@@ -12,6 +12,7 @@ use Rattle.reading.specs.Ascii.{ascii}
 use Rattle.reading.specs.Piece.{Piece, atom, mark, dot, lpar, rpar, showLabel, showLabels, showPiece, show}
 use Rattle.reading.specs.Lexer.{memb, within, organic, marks, bracketed, pairs, Lex, between, inAtom, inBracket, inLabel, inTens, Fed, halt, fed, begin, second, ended, feed, before, onFed, lex, piecesOf}
 use Rattle.reading.proofs.WellFormed.{Bracketed, AtomBytes, letter, chlorine, bromine, bracket, Labels, WellFormed, AllWell, well-append}
+use Rattle.reading.proofs.LexShow.{true-T}
 
 pub show-append : (a b : List Piece) → show (a ++ b) ≡ show a ++ show b
 unfolding show
@@ -54,7 +55,7 @@ keeps-cond : (w : List ℕ) (b : Bool) (o o′ : Fed) → (b ≡ true → Keeps 
 keeps-cond w true o o′ h g = h refl
 keeps-cond w false o o′ h g = g refl
 
-within-both : (lo hi x : ℕ) → within lo hi x ≡ true → (lo ≤ x) × (x ≤ hi)
+pub within-both : (lo hi x : ℕ) → within lo hi x ≡ true → (lo ≤ x) × (x ≤ hi)
 unfolding within
 within-both lo hi x e = go (leb lo x) refl (leb x hi) refl e
   where
@@ -63,13 +64,9 @@ within-both lo hi x e = go (leb lo x) refl (leb x hi) refl e
     go true p false q r = let z : _≡_ {A = ℕ} 0 1 = cc in absurd (omega arith)
     go false p b q r = let z : _≡_ {A = ℕ} 0 1 = cc in absurd (omega arith)
 
-and-both : (a b : Bool) → (a && b) ≡ true → (a ≡ true) × (b ≡ true)
+pub and-both : (a b : Bool) → (a && b) ≡ true → (a ≡ true) × (b ≡ true)
 and-both true b e = (refl, e)
 and-both false b e = let z : _≡_ {A = ℕ} 0 1 = cc in absurd (omega arith)
-
-true-T : (b : Bool) → b ≡ true → T b
-true-T true e = tt
-true-T false e = let z : _≡_ {A = ℕ} 0 1 = cc in absurd (omega arith)
 
 start-keeps : (x : ℕ) → Keeps (x ∷ []) (begin x)
 unfolding Keeps Sound begin shown show

@@ -19,7 +19,7 @@ use Rattle.tail.specs.Contract.{Room, Digits, IsDigit, PastBond, afterFo
 
 -- ---- one byte and no byte
 
-scan-wrong : (l : List ℕ) → scan wrong l ≡ false
+pub scan-wrong : (l : List ℕ) → scan wrong l ≡ false
 unfolding scan step done
 scan-wrong [] = refl
 scan-wrong (x ∷ xs) = scan-wrong xs
@@ -181,7 +181,7 @@ either-last : (b : Bool) (x y : Rings) (n : ℕ) → x .last ≡ n → y .last �
 either-last true x y n h g = h
 either-last false x y n h g = g
 
-digit-last : (d : ℕ) (q : Rings) → withDigit d q .last ≡ q .last
+pub digit-last : (d : ℕ) (q : Rings) → withDigit d q .last ≡ q .last
 unfolding withDigit
 digit-last d q = either-last (eqb (getD (q .opened) d 0) 0) _ _ (q .last) refl refl
 
