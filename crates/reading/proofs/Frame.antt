@@ -1,6 +1,6 @@
 -- The frame law: what reads by itself, hung on an atom, reads in any state in which its labels are not open, with its atoms renamed; the open
 -- branches and the open labels of that state stay as they are.
-use mathlib.Core.Path.{_≡_, refl, sym, ap, ap₂, _∙_, subst}
+use mathlib.Core.Path.{_≡_, refl, sym, ap, ap₂, _∙_}
 use mathlib.Core.Bool.{Bool, true, false, cond, _||_}
 use mathlib.Core.Option.{Option, none, some, Option·map}
 use Prim.Native.Nat.{ℕ, zero, suc, _+_, _≤_, _<_}
@@ -9,7 +9,7 @@ use native.Mathlib.Nat.{add-zero}
 use mathlib.Core.List.{List, [], _∷_, _++_, map}
 use lib.Dec.{eqb}
 use borrow.Author.Tests.{eqb-true, eqb-false, eq-eqb, ne-eqb}
-use Rattle.reading.specs.Row.{Link, link, Row, row}
+use Rattle.reading.specs.Row.{Link, link, Row}
 use Rattle.reading.specs.Piece.{Piece, atom, mark, dot, lpar, rpar}
 use Rattle.reading.specs.Machine.{Entry, entry, Phase, fresh, opened, after, marked, State, st, Out, fail, ok, lookup, remove, among, Labelled, stop, links, close, found, label, andLabels, labels, joins, placed, step}
 use Rattle.reading.specs.Part.{Part, place, moveLink, moveRow, hung}

@@ -1,16 +1,15 @@
 -- A part that comes from bytes reads by itself, and is those bytes written.
-use mathlib.Core.Path.{_≡_, refl, sym, ap, _∙_, subst}
+use mathlib.Core.Path.{_≡_, refl, subst}
 use mathlib.Core.Option.{Option, none, some}
-use Prim.Native.Nat.{ℕ, zero, suc, _+_}
+use Prim.Native.Nat.{ℕ, zero, suc}
 use native.Mathlib.Omega.{arith}
 use mathlib.Core.List.{List, [], _∷_}
 use lib.ListN.{length}
-use Rattle.reading.specs.Row.{Row}
 use Rattle.reading.specs.Piece.{Piece, show}
 use Rattle.reading.specs.Lexer.{between, lex, piecesOf}
-use Rattle.reading.specs.Machine.{fresh, opened, after, marked, State, st, Out, fail, ok, run}
+use Rattle.reading.specs.Machine.{fresh, opened, after, marked, st, Out, fail, ok}
 use Rattle.reading.specs.Part.{Part, alone, partRead, partLexed, partOf}
-use Rattle.reading.proofs.Reading.{Reads, reads-count}
+use Rattle.reading.proofs.Reading.{reads-count}
 use Rattle.reading.proofs.Frame.{Hangs}
 use Rattle.reading.proofs.WellFormed.{AllWell}
 use Rattle.reading.proofs.ShowLex.{show-lex}

@@ -6,11 +6,10 @@ use Prim.Native.Nat.{ℕ, _+_, _-_, _*_, _≤_, _<_}
 use native.Mathlib.Omega.{arith}
 use mathlib.Core.List.{List, [], _∷_, _++_, append-assoc, append-nil}
 use lib.ListN.{length}
-use lib.Dec.{T, eqb, ltb, leb}
+use lib.Dec.{eqb, leb}
 use borrow.Author.Tests.{eqb-true, lt-ltb, le-ltb, leb-true}
-use Rattle.reading.specs.Ascii.{ascii}
-use Rattle.reading.specs.Piece.{Piece, atom, mark, dot, lpar, rpar, showLabel, showLabels, showPiece, show}
-use Rattle.reading.specs.Lexer.{memb, within, organic, marks, bracketed, pairs, Lex, between, inAtom, inBracket, inLabel, inTens, Fed, halt, fed, begin, second, ended, feed, before, onFed, lex, piecesOf}
+use Rattle.reading.specs.Piece.{Piece, atom, showLabel, showLabels, showPiece, show}
+use Rattle.reading.specs.Lexer.{memb, within, organic, marks, bracketed, Lex, between, inAtom, inBracket, inLabel, inTens, Fed, halt, fed, begin, second, ended, feed, before, onFed, lex}
 use Rattle.reading.proofs.WellFormed.{Bracketed, AtomBytes, letter, chlorine, bromine, bracket, Labels, WellFormed, AllWell, well-append}
 use Rattle.reading.proofs.LexShow.{true-T}
 

@@ -1,15 +1,15 @@
 -- The template law: a template that is written out with its parts and its chains reads as it is drawn.
-use mathlib.Core.Path.{_≡_, refl, sym, ap, _∙_}
-use mathlib.Core.Option.{Option, none, some}
-use Prim.Native.Nat.{ℕ, zero, suc, _+_, _≤_, _<_}
+use mathlib.Core.Path.{_≡_, refl, ap, _∙_}
+use mathlib.Core.Option.{some}
+use Prim.Native.Nat.{ℕ}
 use mathlib.Core.List.{List, [], _∷_, _++_}
 use Rattle.reading.specs.Row.{Row}
-use Rattle.reading.specs.Piece.{Piece, atom, mark, dot, lpar, rpar, show}
-use Rattle.reading.specs.Machine.{Entry, Phase, fresh, opened, after, marked, State, st, Out, fail, ok, lookup, labels, joins, step, andThen, prepend, run, whole, readPieces}
-use Rattle.reading.specs.Part.{Part, place, hung}
+use Rattle.reading.specs.Piece.{Piece, atom, mark, dot, lpar, rpar}
+use Rattle.reading.specs.Machine.{Phase, fresh, opened, after, marked, State, st, Out, fail, ok, lookup, labels, step, andThen, prepend, run, whole, readPieces}
+use Rattle.reading.specs.Part.{Part}
 use Rattle.reading.specs.Template.{Chain, Item, piece, part, chain, itemPieces, nextLabel, templatePieces, drawPart, drawChain, draw, drawAll, drawn}
-use Rattle.reading.proofs.Reading.{Reads, Steps, fail≢ok, reads-nil, reads-cons, reads-append, Stands, reads-stands}
-use Rattle.reading.proofs.Frame.{Hangs, EachLabel, EachOf, free-nil, frame, frame-after}
+use Rattle.reading.proofs.Reading.{Reads, reads-nil, reads-cons, reads-append, Stands, reads-stands}
+use Rattle.reading.proofs.Frame.{Hangs, free-nil, frame, frame-after}
 use Rattle.reading.proofs.Part.{none≢some}
 use Rattle.reading.proofs.Chain as law
 

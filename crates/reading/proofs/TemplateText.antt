@@ -1,7 +1,7 @@
 -- The template law on bytes: a template's text, written with labels from 1 to 99, is read as it is drawn.
-use mathlib.Core.Path.{_≡_, refl, _∙_}
+use mathlib.Core.Path.{_≡_, _∙_}
 use mathlib.Core.Bool.{Bool, true, false, cond, _||_}
-use mathlib.Core.Option.{Option, some}
+use mathlib.Core.Option.{some}
 use Prim.Native.Nat.{ℕ, zero, suc, _+_, _≤_}
 use native.Mathlib.Omega.{arith}
 use mathlib.Core.List.{List, [], _∷_, _++_}
@@ -9,12 +9,12 @@ use lib.ListN.{length}
 use lib.Dec.{T, eqb}
 use Rattle.reading.specs.Ascii.{ascii}
 use Rattle.reading.specs.Row.{Row}
-use Rattle.reading.specs.Piece.{Piece, atom, rpar, show}
+use Rattle.reading.specs.Piece.{atom, rpar, show}
 use Rattle.reading.specs.Lexer.{memb, organic, marks}
 use Rattle.reading.specs.Text.{readText}
 use Rattle.reading.specs.Part.{Part}
 use Rattle.reading.specs.Chain.{Ring, ring, Carbon, labelsAt, markPieces, partPieces, bridgePieces, chainPieces, floatPieces}
-use Rattle.reading.specs.Template.{Chain, Item, piece, part, chain, itemPieces, nextLabel, templatePieces, drawn}
+use Rattle.reading.specs.Template.{Item, piece, part, chain, itemPieces, nextLabel, templatePieces, drawn}
 use Rattle.reading.proofs.WellFormed.{AllWell, WellFormed, Labels, letter, well-append}
 use Rattle.reading.proofs.LexShow.{read-show}
 use Rattle.reading.proofs.Template.{ItemsFit, template-pieces}

@@ -5,7 +5,6 @@ use mathlib.Core.Bool.{true}
 use mathlib.Core.List.{List, [], _∷_, _++_}
 use lib.ListN.{length}
 use lib.Dec.{T}
-use Rattle.reading.specs.Ascii.{ascii}
 use Rattle.reading.specs.Piece.{Piece, atom, mark, dot, lpar, rpar}
 use Rattle.reading.specs.Lexer.{memb, organic, marks, bracketed}
 

@@ -3,7 +3,7 @@
 -- most one mark, a run, `)`. The text is a run .. An atom joins the one before, closed branches skipped, by its mark; `.` joins nothing; a
 -- label or digit opens, then closes with a plain bond, none open at the end. One closing on its own atom or on one already bonded to it is
 -- unreadable."
-use Prim.Native.Nat.{ℕ, zero, suc}
+use Prim.Native.Nat.{ℕ, suc}
 use Prim.Native.Char.{code}
 use mathlib.Core.Bool.{Bool, true, false, cond, _||_}
 use mathlib.Core.Option.{Option, none, some}

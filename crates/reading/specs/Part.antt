@@ -1,6 +1,5 @@
 -- A part of a text that hangs on an atom, as a group's branch or a tail does: its pieces, and what they read to by themselves.
 use Prim.Native.Nat.{ℕ, zero, suc, _+_}
-use mathlib.Core.Bool.{Bool, true, false}
 use mathlib.Core.Option.{Option, none, some}
 use mathlib.Core.List.{List, [], _∷_, map}
 use Rattle.reading.specs.Row.{Link, link, Row, row}

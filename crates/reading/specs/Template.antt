@@ -2,13 +2,13 @@
 -- 01, Templates and the builder: "Slot S is `O` and chain; `O` alone if absent or c = 0", `C(C`tail`)(`S2`)C`S1; Drawing a chain: "Atoms of
 -- the drawn molecule .. are numbered from 0 as the template stands: a slot's O, then each carbon along the chain .., then the chain's
 -- floating parts".
-use Prim.Native.Nat.{ℕ, suc, _+_}
-use mathlib.Core.Option.{Option, none, some}
+use Prim.Native.Nat.{ℕ, _+_}
+use mathlib.Core.Option.{Option}
 use mathlib.Core.List.{List, [], _∷_, _++_}
 use lib.ListN.{length}
 use Rattle.reading.specs.Row.{Row}
 use Rattle.reading.specs.Piece.{Piece}
-use Rattle.reading.specs.Machine.{Phase, fresh, opened, after, marked, State, st, Out, fail, ok, step, andThen, whole}
+use Rattle.reading.specs.Machine.{fresh, opened, after, marked, State, st, Out, fail, ok, step, andThen, whole}
 use Rattle.reading.specs.Part.{Part, place, hung}
 use Rattle.reading.specs.Chain.{Ring, Carbon, chainEnd, chainLast, chainRows, chainPieces, floatPieces, floatRows, floatEnd, floatLast}
 

@@ -7,15 +7,15 @@ use mathlib.Core.Option.{Option, none, some}
 use Prim.Native.Nat.{ℕ, zero, suc, _+_, _-_, _≤_, _<_}
 use native.Mathlib.Omega.{arith}
 use native.Mathlib.Decide.{ℕ-discrete}
-use mathlib.Core.List.{List, [], _∷_, _++_, append-nil}
+use mathlib.Core.List.{List, [], _∷_, _++_}
 use lib.ListN.{length, length-append, length-set, length-replicate, getD, set, replicate}
 use lib.Seq.{getD-set-same, getD-set-other}
-use lib.Dec.{eqb, ltb, leb}
-use borrow.Author.Tests.{eqb-true, eqb-false, eq-eqb, ne-eqb, leb-true, ltb-true}
+use lib.Dec.{eqb, ltb}
+use borrow.Author.Tests.{eqb-true, eqb-false, eq-eqb, ne-eqb}
 use Rattle.reading.specs.Row.{Row, row, Link, link}
 use Rattle.reading.specs.Piece.{Piece, atom, mark, lpar, rpar}
 use Rattle.reading.specs.Lexer.{memb, within, organic, marks, bracketed, pairs, Lex, between, inAtom, inBracket, Fed, fed, begin, feed, before, onFed, lex, piecesOf}
-use Rattle.reading.specs.Machine.{Entry, entry, Phase, fresh, opened, after, marked, State as Machine, st, lookup, remove, among, Labelled, stop, links, close, found, label, andLabels, labels, joins, plainly, step as stepPiece}
+use Rattle.reading.specs.Machine.{Entry, entry, Phase, fresh, opened, after, marked, State as Machine, st, lookup, remove, among, links, labels, joins, plainly, step as stepPiece}
 use Rattle.reading.specs.Part.{Part, alone, partRead, partLexed, partOf}
 use Rattle.reading.proofs.Reading.{Reads, Steps, reads-nil, reads-cons, reads-append, steps-atom, steps-lpar, steps-rpar, steps-mark}
 use Rattle.reading.proofs.OpenLabels.{lookup-same, lookup-other, lookup-removed, lookup-remove-other, nothing-open, label-opens, label-closes, labels-snoc}
@@ -24,7 +24,7 @@ use Rattle.reading.proofs.LexShow.{feed-digit, feed-inside, feed-bracket-end, f
 use Rattle.reading.proofs.ShowLex.{within-both, and-both}
 use Rattle.tail.specs.declared.Rings.{Rings}
 use Rattle.tail.proofs.Scan.{digit-last, scan-wrong}
-use Rattle.tail.specs.Grammar.{noRings, withAtom, backTo, bonded, clashes, withDigit, noneOpen, State, wrong, stands, opening, afterBond, whole, closed, letter, inside, atomBegins, bondOrAtom, branchCloses, branchOpens, goesOn, digitOr, bracketOn, step, finished, done, scan, isTail}
+use Rattle.tail.specs.Grammar.{noRings, withAtom, bonded, clashes, withDigit, noneOpen, State, wrong, stands, opening, afterBond, whole, closed, letter, inside, atomBegins, bondOrAtom, branchCloses, branchOpens, goesOn, digitOr, bracketOn, step, finished, done, scan, isTail}
 
 -- ---- the same atoms and digits
 

@@ -1,13 +1,13 @@
 -- Laws of the scan: each way through a function as steps of the grammar.
-use Prim.Native.Nat.{ℕ, zero, suc, _+_, _-_, _≤_, _<_}
+use Prim.Native.Nat.{ℕ, suc, _+_, _-_, _≤_, _<_}
 use native.Mathlib.Numerals.{add-one}
 use native.Mathlib.Omega.{arith}
 use mathlib.Core.Path.{_≡_, refl, sym, ap, _∙_}
 use mathlib.Core.Bool.{Bool, true, false, not, cond, _&&_}
 use mathlib.Core.List.{List, [], _∷_}
-use lib.ListN.{length, drop, getD, set}
+use lib.ListN.{length, drop, getD}
 use lib.Seq.{drop-cons, drop-length}
-use lib.Dec.{eqb, ltb, leb}
+use lib.Dec.{eqb, leb}
 use borrow.Author.Tests.{lt-ltb, le-ltb, eq-eqb, ne-eqb, le-leb, lt-leb, leb-true, not-true, not-false}
 use Rattle.reading.specs.Lexer.{memb, within, organic, marks, bracketed, pairs}
 use Rattle.tail.specs.declared.Rings.{Rings}
@@ -15,7 +15,7 @@ use Rattle.tail.specs.declared.Found.{Found}
 use Rattle.tail.specs.declared.Found.the-variants.{Next, Nothing}
 use Rattle.tail.specs.declared.Ran.{Ran}
 use Rattle.tail.specs.Grammar.{noRings, withAtom, backTo, clashes, withDigit, noneOpen, State, wrong, stands, opening, afterBond, whole, closed, letter, inside, atomBegins, bondOrAtom, branchCloses, branchOpens, goesOn, digitOr, bracketOn, step, finished, done, scan, isTail}
-use Rattle.tail.specs.Contract.{Room, Digits, IsDigit, PastBond, afterFound, Passed, PastBracket, PastAtom, resumed, Bounds, PastDigits, AtomRead, RunRead}
+use Rattle.tail.specs.Contract.{Room, Digits, IsDigit, PastBond, Passed, PastBracket, PastAtom, resumed, Bounds, PastDigits, AtomRead, RunRead}
 
 -- ---- one byte and no byte
 

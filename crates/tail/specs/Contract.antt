@@ -9,7 +9,7 @@ use Rattle.tail.specs.declared.Rings.{Rings}
 use Rattle.tail.specs.declared.Found.{Found}
 use Rattle.tail.specs.declared.Found.the-variants.{Next, Nothing}
 use Rattle.tail.specs.declared.Ran.{Ran}
-use Rattle.tail.specs.Grammar.{State, stands, opening, afterBond, whole, closed, inside, withAtom, scan}
+use Rattle.tail.specs.Grammar.{stands, opening, afterBond, whole, closed, inside, withAtom, scan}
 
 -- what is left of the text is room for the atoms' numbers: each takes a byte
 pub record Room (s : List ℕ) (at : ℕ) (q : Rings) : Type 0 where

@@ -3,7 +3,7 @@
 -- plain) (B C N O P S F I Cl Br b c n o s p * or brackets of 1 to 16 letters, digits, `+ - @`), digits 1 to 9 straight after an atom, closed
 -- inside the tail between two otherwise unbonded atoms, and branches in branches to depth 16, each opening as a tail does. A branch follows
 -- an atom, its digits or another branch."
-use Prim.Native.Nat.{ℕ, zero, suc, _+_, _-_}
+use Prim.Native.Nat.{ℕ, suc, _+_, _-_}
 use Prim.Native.Char.{code}
 use mathlib.Core.Bool.{Bool, true, false, cond, _||_, _&&_}
 use mathlib.Core.List.{List, [], _∷_}

@@ -1,4 +1,3 @@
-use borrow.Author.Needs.{needs}
 use Rattle.tail.proofs.Bytes.{second-l, second-r, no-second}
 use Rattle.tail.proofs.is_second.Statement.{statement}
 use Rattle.tail.proofs.is_second.Tie as tie

@@ -1,4 +1,3 @@
-use borrow.Author.Needs.{needs}
 use Rattle.tail.proofs.Bytes.{below-range, above-low}
 use Rattle.tail.proofs.is_within.Statement.{statement}
 use Rattle.tail.proofs.is_within.Tie as tie
