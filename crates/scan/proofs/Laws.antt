@@ -146,7 +146,7 @@ module _ (A : Bool) where
   starts-end [] t h v = sym v
   starts-end (y ∷ q) t h v = absurd (omega arith)
 
-starts-length : (p l : List ℕ) → startsWith p l ≡ true → length p ≤ length l
+pub starts-length : (p l : List ℕ) → startsWith p l ≡ true → length p ≤ length l
 unfolding startsWith
 starts-length [] l e = omega arith
 starts-length (y ∷ p) [] e = absurd (true≢false (sym e))

@@ -1,0 +1,154 @@
+-- Laws of the opening of a token: one for each way out of its readers.
+-- Assumes nothing.
+use Prim.Native.Nat.{ℕ, zero, suc, _+_, _-_, _≤_, _<_}
+use native.Mathlib.Omega.{arith}
+use mir.Syntax.{w16}
+use mir.Val.{Fits}
+use mathlib.Core.Path.{_≡_, refl, sym, ap, _∙_}
+use mathlib.Core.Bool.{Bool, true, false, not, cond, true≢false}
+use mathlib.Core.List.{List, [], _∷_}
+use lib.ListN.{length, take, drop, getD, length-drop}
+use lib.Dec.{eqb, ltb}
+use borrow.Author.Tests.{lt-ltb, le-ltb, not-true, not-false}
+use Rattle.scan.specs.Part.{startsWith}
+use Rattle.scan.specs.Number.{isDigit, numberUpTo, numberLimit}
+use Rattle.scan.specs.declared.Number.{Number}
+use Rattle.scan.specs.declared.Number.the-variants.{Value, Unreadable}
+use Rattle.scan.proofs.Laws.{to-end, starts-length}
+use Rattle.groups.specs.Groups.{methyl}
+use Rattle.record.specs.declared.ChainPrefix.{ChainPrefix}
+use Rattle.record.specs.declared.ChainPrefix.the-variants.{Acyl, EtherAlkyl, EtherAlkenyl, SphingoidD, SphingoidT}
+use Rattle.record.specs.declared.ParsedChain.{ParsedChain}
+use Rattle.record.specs.declared.Parsed.{Parsed}
+use Rattle.record.specs.Chain.{Outcome, Read, Refused, Stands, Holds, Takes, noFeatures, withGroup, maxCarbons}
+use Rattle.opening.specs.declared.Branch.{Branch}
+use Rattle.opening.specs.declared.Branch.the-variants.{Straight, Iso, Anteiso}
+use Rattle.opening.specs.declared.Opening.{Opening}
+use Rattle.opening.specs.Opening.{isoText, anteisoText, branchOf, branchLength, etherText, alkenylText, sphingoidOf, beforeDigit, prefixOf, prefixLength, secondWord, openingOf, branchOffset, branched, startChain, carbonsOf, Word, Prefixed, Opened}
+
+-- ---- the branch word
+
+module _ (s : List ℕ) (a : Bool) (e : a ≡ startsWith isoText s) where
+  pub word-iso : a ≡ true → Word s Iso
+  unfolding branchOf
+  word-iso t = record { is = rw (sym e ∙ t); room = starts-length isoText s (sym e ∙ t) }
+
+  module _ (n : a ≡ false) (b : Bool) (f : b ≡ startsWith anteisoText s) where
+    pub word-anteiso : b ≡ true → Word s Anteiso
+    unfolding branchOf
+    word-anteiso t = record { is = rw (sym e ∙ n, sym f ∙ t); room = starts-length anteisoText s (sym f ∙ t) }
+
+    pub word-none : b ≡ false → Word s Straight
+    unfolding branchOf
+    word-none t = record { is = rw (sym e ∙ n, sym f ∙ t); room = omega arith }
+
+-- ---- the prefix
+
+sphingoid-length : (b : ℕ) → prefixLength (sphingoidOf b) ≤ 1
+unfolding sphingoidOf
+sphingoid-length b = go (eqb b 100) (eqb b 68) (eqb b 116) (eqb b 84)
+  where
+    go : (w x y z : Bool) → prefixLength (cond w SphingoidD (cond x SphingoidD (cond y SphingoidT (cond z SphingoidT Acyl)))) ≤ 1
+    go true x y z = omega arith
+    go false true y z = omega arith
+    go false false true z = omega arith
+    go false false false true = omega arith
+    go false false false false = omega arith
+
+before-short : (s : List ℕ) → length s < 2 → beforeDigit s ≡ Acyl
+unfolding beforeDigit
+before-short [] h = refl
+before-short (x ∷ []) h = refl
+before-short (x ∷ y ∷ s) h = absurd (omega arith)
+
+before-digit : (s : List ℕ) → 2 ≤ length s → beforeDigit s ≡ cond (isDigit (getD s 1 0)) (sphingoidOf (getD s 0 0)) Acyl
+unfolding beforeDigit
+before-digit [] h = absurd (omega arith)
+before-digit (x ∷ []) h = absurd (omega arith)
+before-digit (x ∷ y ∷ s) h = refl
+
+module _ (s : List ℕ) (a : Bool) (e : a ≡ startsWith etherText s) where
+  pub prefix-ether : a ≡ true → Prefixed s EtherAlkyl
+  unfolding prefixOf
+  prefix-ether t = record { is = rw (sym e ∙ t); room = starts-length etherText s (sym e ∙ t) }
+
+  module _ (n : a ≡ false) (b : Bool) (f : b ≡ startsWith alkenylText s) where
+    pub prefix-alkenyl : b ≡ true → Prefixed s EtherAlkenyl
+    unfolding prefixOf
+    prefix-alkenyl t = record { is = rw (sym e ∙ n, sym f ∙ t); room = starts-length alkenylText s (sym f ∙ t) }
+
+    module _ (m : b ≡ false) where
+      plain : prefixOf s ≡ beforeDigit s
+      unfolding prefixOf
+      plain = rw (sym e ∙ n, sym f ∙ m)
+
+      pub prefix-short : length s < 2 → Prefixed s Acyl
+      prefix-short h = record { is = sym (plain ∙ before-short s h); room = omega arith }
+
+      pub prefix-other : (d : Bool) → 2 ≤ length s → d ≡ isDigit (getD s 1 0) → not d ≡ true → Prefixed s Acyl
+      prefix-other d h g t = record { is = sym (plain ∙ before-digit s h ∙ rw (sym g ∙ not-true d t)); room = omega arith }
+
+      pub prefix-letter : (d : Bool) (r : ChainPrefix) → 2 ≤ length s → d ≡ isDigit (getD s 1 0) → not d ≡ false → r ≡ sphingoidOf (getD s 0 0) → Prefixed s r
+      prefix-letter d r h g t k = record { is = sym (plain ∙ before-digit s h ∙ rw (sym g ∙ not-false d t) (sym k)); room = rw k (omega (arith, sphingoid-length (getD s 0 0))) }
+
+-- ---- the opening
+
+module _ (t : List ℕ) (first : Branch) (n : ℕ) (prefix : ChainPrefix) (m : ℕ) (w : Word t first) (e : n ≡ branchLength first) (p : Prefixed (take (length t - n) (drop n t)) prefix) (f : m ≡ prefixLength prefix) where
+  begun : openingOf t ≡ secondWord first prefix (n + m) (drop m (drop n t))
+  unfolding openingOf
+  begun =
+      let q : prefix ≡ prefixOf (drop n t) = rw (to-end n t) at (p .is) in
+      rw (← w .is, ← e, ← q, ← f)
+
+  room : n + m ≤ length t
+  room = let q = rw (to-end n t, length-drop n t) at (p .room) in omega (arith, w .room)
+
+  pub opened-iso : first ≡ Iso → Opened t (record { prefix = prefix; branch = first; carbons = n + m })
+  opened-iso g = record { is = rw g (sym (begun ∙ rw g)); within = room }
+
+  pub opened-anteiso : first ≡ Anteiso → Opened t (record { prefix = prefix; branch = first; carbons = n + m })
+  opened-anteiso g = record { is = rw g (sym (begun ∙ rw g)); within = room }
+
+  pub opened-straight : (second : Branch) (k : ℕ) → first ≡ Straight
+      → Word (take (length (take (length t - n) (drop n t)) - m) (drop m (take (length t - n) (drop n t)))) second → k ≡ branchLength second
+      → Opened t (record { prefix = prefix; branch = second; carbons = n + m + k })
+  opened-straight second k g v h =
+      let q : take (length (take (length t - n) (drop n t)) - m) (drop m (take (length t - n) (drop n t))) ≡ drop m (drop n t) = to-end m (take (length t - n) (drop n t)) ∙ ap (drop m) (to-end n t) in
+      let z : Word (drop m (drop n t)) second = rw q at v in
+      let l : branchLength second ≤ length t - n - m = rw (length-drop m (drop n t), length-drop n t) at (z .room) in
+      record { is = sym (begun ∙ rw (g, ← z .is, ← h)); within = omega (arith, room) }
+
+-- ---- the carbons
+
+module _ (p : ChainPrefix) (offset w : ℕ) where
+  pub too-few : (c : ParsedChain) → w < offset + 3 → Stands (record { refusal = 11; chain = c }) (branched p offset w)
+  unfolding branched
+  too-few c h = rw (lt-ltb w (offset + 3) h) (refl, omega arith)
+
+  pub methyl-on : (c r : ParsedChain) → offset + 3 ≤ w → Holds c (noFeatures p w (w - 1) true) → Takes c r (withGroup (record { pos = w - 1 - offset; row = 1 }))
+      → Stands (record { refusal = 0; chain = r }) (branched p offset w)
+  unfolding branched
+  methyl-on c r h k t = rw (le-ltb w (offset + 3) h) (refl, t .holds (noFeatures p w (w - 1) true) k)
+
+module _ (p : ChainPrefix) (b : Branch) (w : ℕ) where
+  pub start-straight : (c : ParsedChain) → b ≡ Straight → Holds c (noFeatures p w w false) → Stands (record { refusal = 0; chain = c }) (startChain p b w)
+  start-straight c e k = rw e (refl, k)
+
+  pub start-iso : (o : ℕ) (r : Parsed) → b ≡ Iso → o ≡ branchOffset b → Stands r (branched p o w) → Stands r (startChain p b w)
+  start-iso o r e f s = let g : o ≡ 1 = f ∙ ap branchOffset e in rw e (rw g at s)
+
+  pub start-anteiso : (o : ℕ) (r : Parsed) → b ≡ Anteiso → o ≡ branchOffset b → Stands r (branched p o w) → Stands r (startChain p b w)
+  start-anteiso o r e f s = let g : o ≡ 2 = f ∙ ap branchOffset e in rw e (rw g at s)
+
+module _ (p : ChainPrefix) (b : Branch) (t : List ℕ) (v : Number) (e : v ≡ numberUpTo 4294967295 t) where
+  pub carbons-unreadable : (c : ParsedChain) → v ≡ Unreadable → Stands (record { refusal = 11; chain = c }) (carbonsOf p b t)
+  unfolding carbonsOf
+  carbons-unreadable c f = rw (sym e ∙ f) (refl, omega arith)
+
+  pub carbons-over : (c : ParsedChain) (n : ℕ) → v ≡ Value n → 255 < n → Stands (record { refusal = 31; chain = c }) (carbonsOf p b t)
+  unfolding carbonsOf
+  carbons-over c n f h = rw (sym e ∙ f, lt-ltb maxCarbons n h) (refl, omega arith)
+
+  pub carbons-read : (r : Parsed) (n : ℕ) → v ≡ Value n → n ≤ 255 → Stands r (startChain p b n) → Stands r (carbonsOf p b t)
+  unfolding carbonsOf
+  carbons-read r n f h s = rw (sym e ∙ f, le-ltb maxCarbons n h) s
