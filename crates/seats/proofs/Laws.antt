@@ -245,22 +245,95 @@ pub first-low : (c s : ℕ) → s ≡ firstStart c → 2 ≤ s
 unfolding firstStart
 first-low c s e = omega arith
 
+-- ---- no more seats than carbons
+
+-- how many of the positions below c are used
+usedBelow : (ℕ → Bool) → ℕ → ℕ
+usedBelow u zero = 0
+usedBelow u (suc c) = cond (u c) (suc (usedBelow u c)) (usedBelow u c)
+
+used-beyond : (u : ℕ → Bool) (p c : ℕ) → c ≤ p → usedBelow (also p u) c ≡ usedBelow u c
+unfolding usedBelow also
+used-beyond u p zero h = refl
+used-beyond u p (suc c) h = rw (ne-eqb p c (λ e. omega arith), used-beyond u p c (omega arith))
+
+used-one-more : (u : ℕ → Bool) (p c : ℕ) → p < c → u p ≡ false → usedBelow (also p u) c ≡ suc (usedBelow u c)
+unfolding usedBelow also
+used-one-more u p zero h e = absurd (omega arith)
+used-one-more u p (suc c) h e = go (ℕ-discrete p c) (used-one-more u p c)
+  where
+    add : (b : Bool) (x y : ℕ) → x ≡ suc y → cond b (suc x) x ≡ suc (cond b (suc y) y)
+    add true x y e = ap suc e
+    add false x y e = e
+
+    go : Dec (p ≡ c) → (p < c → u p ≡ false → usedBelow (also p u) c ≡ suc (usedBelow u c))
+        → cond (cond (eqb p c) true (u c)) (suc (usedBelow (also p u) c)) (usedBelow (also p u) c) ≡ suc (cond (u c) (suc (usedBelow u c)) (usedBelow u c))
+    go (yes q) f = rw (eq-eqb p c q, ← q, e, used-beyond u p p (le-refl p))
+    go (no q) f = rw (ne-eqb p c q) (add (u c) (usedBelow (also p u) c) (usedBelow u c) (f (omega arith) e))
+
+used-few : (u : ℕ → Bool) (c : ℕ) → usedBelow u c ≤ c
+unfolding usedBelow
+used-few u zero = le-refl 0
+used-few u (suc c) = go (u c) (used-few u c)
+  where
+    go : (b : Bool) → usedBelow u c ≤ c → cond b (suc (usedBelow u c)) (usedBelow u c) ≤ suc c
+    go true h = omega arith
+    go false h = omega arith
+
+-- a seat that is found was not used
+first-unused : (u : ℕ → Bool) (n a p : ℕ) → firstFree u n a ≡ At p → u p ≡ false
+unfolding firstFree free
+first-unused u zero a p e = let z : _≡_ {A = ℕ} 0 1 = cc in absurd (omega arith)
+first-unused u (suc n) a p e = go (u a) (cond (u (a - 1)) false (not (u (a + 1)))) refl e (first-unused u n (suc a) p)
+  where
+    go : (x y : Bool) → u a ≡ x → cond (cond x false y) (At a) (firstFree u n (suc a)) ≡ At p → (firstFree u n (suc a) ≡ At p → u p ≡ false) → u p ≡ false
+    go true y g e f = f e
+    go false true g e f = let z : a ≡ p = cc in ap u (sym z) ∙ g
+    go false false g e f = f e
+
+seat-unused : (c : ℕ) (u : ℕ → Bool) (s p : ℕ) → seatFrom c u s ≡ At p → u p ≡ false
+unfolding seatFrom
+seat-unused c u s p e = go (ltb s c) e
+  where
+    two : (r : Seat) → firstFree u (c - s) s ≡ r → orElse r (firstFree u (s - 2) 2) ≡ At p → u p ≡ false
+    two (At q) f e = let z : At q ≡ At p = e in first-unused u (c - s) s p (f ∙ z)
+    two Nothing f e = first-unused u (s - 2) 2 p e
+
+    go : (b : Bool) → cond b (orElse (firstFree u (c - s) s) (firstFree u (s - 2) 2)) (firstFree u (c - 2) 2) ≡ At p → u p ≡ false
+    go true e = two (firstFree u (c - s) s) refl e
+    go false e = first-unused u (c - 2) 2 p e
+
+seats-room : (c : ℕ) (u : ℕ → Bool) (s n : ℕ) → 2 ≤ s → 2 ≤ c → seatsFrom c u s n ≡ true → n + usedBelow u c ≤ c
+unfolding seatsFrom
+seats-room c u s zero h k e = omega (arith, used-few u c)
+seats-room c u s (suc n) h k e = go (seatFrom c u s) refl e (λ p. seats-room c (also p u) (p + 3) n (omega arith) k)
+  where
+    go : (r : Seat) → seatFrom c u s ≡ r → onSeat r (λ p. seatsFrom c (also p u) (p + 3) n) ≡ true
+        → ((p : ℕ) → seatsFrom c (also p u) (p + 3) n ≡ true → n + usedBelow (also p u) c ≤ c) → suc n + usedBelow u c ≤ c
+    go (At p) f e g = omega (arith, g p e, used-one-more u p c (seat-range c u s p h k f .1) (seat-unused c u s p f))
+    go Nothing f e g = absurd (true≢false (sym e))
+
+-- ---- the whole answer
+
 module _ (c : ℕ) (ps : List ℕ) (n : ℕ) where
   pub seats-none : n ≡ 0 → Seated c ps n true
   unfolding seated
-  seats-none e = record { is = λ h. rw (eq-eqb n 0 e) }
+  seats-none e = record { is = λ h. rw (eq-eqb n 0 e); few = λ t. omega arith }
 
   pub seats-short : (n ≡ 0 → ⊥) → c < 4 → Seated c ps n false
   unfolding seated
-  seats-short e h = record { is = λ k. rw (ne-eqb n 0 e, lt-ltb c 4 h) }
+  seats-short e h = record { is = λ k. rw (ne-eqb n 0 e, lt-ltb c 4 h); few = λ t. absurd (true≢false (sym t)) }
 
   pub seats-large : 255 < c → Seated c ps n false
-  seats-large h = record { is = λ k. absurd (omega arith) }
+  seats-large h = record { is = λ k. absurd (omega arith); few = λ t. absurd (true≢false (sym t)) }
 
-  pub seats-found : (xs ys : List Bool) (s : ℕ) (r : Bool) → (n ≡ 0 → ⊥) → 4 ≤ c → c ≤ 255 → NoMarks xs → MarksAll xs ps ys
-      → s ≡ firstStart c → r ≡ seatsFrom c (usedIn ys) s n → Seated c ps n r
+  pub seats-found : (xs ys : List Bool) (s : ℕ) (r : Bool) → (n ≡ 0 → ⊥) → 4 ≤ c → c ≤ 255 → NoMarks xs → MarksAll xs ps ys → s ≡ firstStart c → r ≡ seatsFrom c (usedIn ys) s n → Seated c ps n r
   unfolding seated
-  seats-found xs ys s r e h l z m f g = record { is = λ k. rw (ne-eqb n 0 e, le-ltb c 4 h, ← f) (g ∙ seats-agree c (usedIn ys) (among ps) s n (omega arith) agree) }
+  seats-found xs ys s r e h l z m f g =
+      record {
+        is = λ k. rw (ne-eqb n 0 e, le-ltb c 4 h, ← f) (g ∙ seats-agree c (usedIn ys) (among ps) s n (omega arith) agree);
+        few = λ t. omega (arith, seats-room c (usedIn ys) s n (first-low c s f) (omega arith) (sym g ∙ t));
+      }
     where
       clear : (a b : Bool) → b ≡ false → cond a true b ≡ a
       clear true b e = refl

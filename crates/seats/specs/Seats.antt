@@ -80,6 +80,7 @@ pub record MarksAll (xs : List Bool) (ps : List ℕ) (ys : List Bool) : Type 0 w
   pub same-length : length ys ≡ length xs
   pub marked : (k : ℕ) → k < length xs → usedIn ys k ≡ cond (among ps k) true (usedIn xs k)
 
--- the answer r on c carbons, which are at most as many as a token may write
+-- the answer r on c carbons, which are at most as many as a token may write; no more bonds are seated than there are carbons
 pub record Seated (c : ℕ) (ps : List ℕ) (n : ℕ) (r : Bool) : Type 0 where
   pub is : c ≤ maxCarbons → r ≡ seated c ps n
+  pub few : r ≡ true → n ≤ maxCarbons
