@@ -6,12 +6,12 @@ use native.Mathlib.Numerals.{add-one}
 use native.Mathlib.Omega.{arith}
 use mathlib.Core.Logic.{⊎-elim}
 use mathlib.Core.Path.{_≡_, refl, sym, ap, _∙_}
-use mathlib.Core.Bool.{Bool, true, false, cond, true≢false}
+use mathlib.Core.Bool.{Bool, true, false, not, cond, true≢false}
 use mathlib.Core.List.{List, [], _∷_, _++_}
 use lib.ListN.{length, take, drop, getD, length-take, drop-of-length-le}
 use lib.Seq.{take-all, take-suc, take-length, length-take-le}
 use lib.Dec.{eqb}
-use borrow.Author.Tests.{eq-eqb, ne-eqb, eqb-true, eqb-false}
+use borrow.Author.Tests.{eq-eqb, ne-eqb, not-false}
 use mir.Syntax.{w32}
 use mir.Val.{Fits}
 use Rattle.scan.proofs.Laws.{to-end, first-within, found-room, number-bound, digits-value-bound}
@@ -93,11 +93,11 @@ module _ (s : List ℕ) (n : ℕ) (f : Place s (indexOf 40 s) n) where
   module _ (d : n ≡ length s → ⊥) where
     pub form-repeated : n ≡ 0 → Formed s (groupForm s) Repeated
     unfolding groupForm
-    form-repeated e = record { is = rw (← f .is, ne-eqb n (length s) d, eq-eqb n 0 e); placed = omega (arith, f .within, d) }
+    form-repeated e = record { is = rw (← f .is, ne-eqb n (length s) d, eq-eqb n 0 e); placed = tt }
 
     pub form-listed : (n ≡ 0 → ⊥) → Formed s (groupForm s) (Listed n)
     unfolding groupForm
-    form-listed e = record { is = rw (← f .is, ne-eqb n (length s) d, ne-eqb n 0 e); placed = omega (arith, f .within, d) }
+    form-listed e = record { is = rw (← f .is, ne-eqb n (length s) d, ne-eqb n 0 e); placed = f .within }
 
 module _ (s : List ℕ) (k : ℕ) (f : Place s (indexOfText cyText s) k) where
   pub form-no-cy : (r : Form) → k ≡ length s → Formed s (groupForm s) r → Formed s (formOf s) r
@@ -124,14 +124,14 @@ module _ (s : List ℕ) (f r : Form) (w : Formed s f r) where
   placed-as : (q : Form) → r ≡ q → PlacedIn s q
   placed-as q h = rw (sym h) (w .placed)
 
-  pub repeated-place : r ≡ Repeated → 0 < length s
-  repeated-place h = placed-as Repeated h
-
-  pub listed-place : (n : ℕ) → r ≡ Listed n → n < length s
+  pub listed-place : (n : ℕ) → r ≡ Listed n → n ≤ length s
   listed-place n h = placed-as (Listed n) h
 
-  pub ring-places : (d k : ℕ) → r ≡ Ring d k → (d < k) × (k + 2 ≤ length s)
-  ring-places d k h = placed-as (Ring d k) h
+  pub ring-dash : (d k : ℕ) → r ≡ Ring d k → d < k
+  ring-dash d k h = placed-as (Ring d k) h .0
+
+  pub ring-cy : (d k : ℕ) → r ≡ Ring d k → k + 2 ≤ length s
+  ring-cy d k h = placed-as (Ring d k) h .1
 
 -- ---- what follows a place, and the last parenthesis
 
@@ -148,6 +148,12 @@ parenthesis-none s h = rw (eq-eqb (length s) 0 h)
 pub parenthesis-last : (s : List ℕ) → (length s ≡ 0 → ⊥) → eqb (getD s (length s - 1) 0) 41 ≡ endsInParenthesis s
 unfolding endsInParenthesis
 parenthesis-last s h = rw (ne-eqb (length s) 0 h)
+
+-- what ends in `)` is not empty
+pub parenthesis-room : (s : List ℕ) (b : Bool) → b ≡ endsInParenthesis s → not b ≡ false → 1 ≤ length s
+unfolding endsInParenthesis
+parenthesis-room [] b e h = absurd (true≢false (sym (not-false b h) ∙ e))
+parenthesis-room (x ∷ xs) b e h = omega arith
 
 -- ---- the parts between bytes b
 

@@ -50,8 +50,8 @@ formOf s =
 -- where the places of a form lie: a ring's dash before its `cy`, and all of them within the segment
 abbrev pub PlacedIn : List ℕ → Form → Type 0
 PlacedIn s (Ring dash cy) = (dash < cy) × (cy + 2 ≤ length s)
-PlacedIn s Repeated = 0 < length s
-PlacedIn s (Listed at) = at < length s
+PlacedIn s Repeated = Unit {0}
+PlacedIn s (Listed at) = at ≤ length s
 PlacedIn s Parts = Unit {0}
 
 -- r is the form f, and its places lie in s

@@ -1,0 +1,69 @@
+use Rattle.segment.proofs.Laws.{adds-ring, adds-group, adds-many, adds-oxygens, adds-nothing}
+use borrow.Author.Needs.{needs}
+use Rattle.segment.proofs.add_segment.Statement.{statement}
+use Rattle.segment.proofs.add_segment.Tie as tie
+
+enum-known-segment : tie.Need-enum-known-segment
+enum-known-segment c = search needs
+
+push-ring-requires : tie.Need-push-ring-requires
+push-ring-requires c κs = search needs
+
+enum-known-segment-2 : tie.Need-enum-known-segment-2
+enum-known-segment-2 c = search needs
+
+push-group-requires : tie.Need-push-group-requires
+push-group-requires c κs = search needs
+
+enum-known-segment-3 : tie.Need-enum-known-segment-3
+enum-known-segment-3 c = search needs
+
+push-repeated-requires : tie.Need-push-repeated-requires
+push-repeated-requires c κs = search needs
+
+enum-known-segment-4 : tie.Need-enum-known-segment-4
+enum-known-segment-4 c = search needs
+
+set-oxygens-requires : tie.Need-set-oxygens-requires
+set-oxygens-requires c κs = search needs
+
+enum-told : tie.Need-enum-told
+enum-told c = search needs
+
+refused-requires : tie.Need-refused-requires
+refused-requires c κs = search needs
+
+returns : tie.Need-returns
+returns c = search adds-ring
+
+returns-2 : tie.Need-returns-2
+returns-2 c = search adds-group
+
+returns-3 : tie.Need-returns-3
+returns-3 c = search adds-many
+
+returns-4 : tie.Need-returns-4
+returns-4 c = search adds-oxygens
+
+returns-5 : tie.Need-returns-5
+returns-5 c = search adds-nothing
+
+pub add-segment-spec : {M : Type 1} → statement M
+add-segment-spec =
+    tie.close
+    (tie.spec
+    enum-known-segment
+    push-ring-requires
+    enum-known-segment-2
+    push-group-requires
+    enum-known-segment-3
+    push-repeated-requires
+    enum-known-segment-4
+    set-oxygens-requires
+    enum-told
+    refused-requires
+    returns
+    returns-2
+    returns-3
+    returns-4
+    returns-5)

@@ -1,0 +1,16 @@
+use Rattle.segment.proofs.Laws.{listed-one}
+use borrow.Author.Needs.{needs}
+use Rattle.segment.proofs.parse_plain_position.Statement.{statement}
+use Rattle.segment.proofs.parse_plain_position.Tie as tie
+
+read-listed-requires : tie.Need-read-listed-requires
+read-listed-requires c κs = search needs
+
+add-segment-requires : tie.Need-add-segment-requires
+add-segment-requires c κs = search needs
+
+returns : tie.Need-returns
+returns c = search listed-one
+
+pub parse-plain-position-spec : {M : Type 1} → statement M
+parse-plain-position-spec = tie.close (tie.spec read-listed-requires add-segment-requires returns)

@@ -1,0 +1,85 @@
+use borrow.Author.Needs.{needs}
+use Prim.Native.Nat.{_≤_}
+use native.Mathlib.Omega.{arith}
+use lib.ListN.{length}
+use Rattle.form.specs.Parts.{partsAt}
+use Rattle.positions.specs.Each.{each}
+use Rattle.positions.proofs.Each.{Onward, each-none, each-start, each-stop, each-last, each-more}
+use Rattle.segment.specs.Segment.{listedAt, plainList}
+use Rattle.segment.proofs.parse_plain_position_list.Statement.{statement}
+use Rattle.segment.proofs.parse_plain_position_list.Tie as tie
+
+abbrev Inv-loop : tie.InvT-loop
+Inv-loop s feature t₀ c₀ t c = Onward c₀ c (plainList feature s) (each (listedAt feature) (partsAt 44 t)) × (length t ≤ length s)
+
+abbrev μ-loop : tie.MeasureT-loop
+μ-loop s feature t₀ c₀ t c = length t
+
+returns : tie.Need-returns Inv-loop μ-loop
+unfolding plainList
+returns c = search each-none
+
+loop-holds : tie.Need-loop-holds Inv-loop μ-loop
+unfolding plainList
+loop-holds c = (search each-start, omega arith)
+
+find-requires : tie.Need-find-requires Inv-loop μ-loop
+find-requires c κs = search needs
+
+sub-parse-plain-position : tie.Need-sub-parse-plain-position Inv-loop μ-loop
+sub-parse-plain-position c = search needs
+
+part-parse-plain-position-start : tie.Need-part-parse-plain-position-start Inv-loop μ-loop
+part-parse-plain-position-start c = search needs
+
+part-parse-plain-position-end : tie.Need-part-parse-plain-position-end Inv-loop μ-loop
+part-parse-plain-position-end c = search needs
+
+parse-plain-position-requires : tie.Need-parse-plain-position-requires Inv-loop μ-loop
+parse-plain-position-requires c κs = search needs
+
+returns-2 : tie.Need-returns-2 Inv-loop μ-loop
+returns-2 c = search each-stop
+
+returns-3 : tie.Need-returns-3 Inv-loop μ-loop
+returns-3 c = search each-last
+
+add-t : tie.Need-add-t Inv-loop μ-loop
+add-t c = search needs
+
+sub-t : tie.Need-sub-t Inv-loop μ-loop
+sub-t c = search needs
+
+part-t-start : tie.Need-part-t-start Inv-loop μ-loop
+part-t-start c = search needs
+
+part-t-end : tie.Need-part-t-end Inv-loop μ-loop
+part-t-end c = search needs
+
+loop-less : tie.Need-loop-less Inv-loop μ-loop
+loop-less c = search needs
+
+loop-again : tie.Need-loop-again Inv-loop μ-loop
+loop-again c = (search each-more, search needs)
+
+pub parse-plain-position-list-spec : {M : Type 1} → statement M
+parse-plain-position-list-spec =
+    tie.close
+    (tie.spec
+    Inv-loop
+    μ-loop
+    returns
+    loop-holds
+    find-requires
+    sub-parse-plain-position
+    part-parse-plain-position-start
+    part-parse-plain-position-end
+    parse-plain-position-requires
+    returns-2
+    returns-3
+    add-t
+    sub-t
+    part-t-start
+    part-t-end
+    loop-less
+    loop-again)

@@ -1,0 +1,45 @@
+use Rattle.segment.proofs.Laws.{list-many, list-refused, list-read}
+use borrow.Author.Needs.{needs}
+use Rattle.segment.proofs.parse_ring_list.Statement.{statement}
+use Rattle.segment.proofs.parse_ring_list.Tie as tie
+
+position-count-requires : tie.Need-position-count-requires
+position-count-requires c κs = search needs
+
+refused-requires : tie.Need-refused-requires
+refused-requires c κs = search needs
+
+returns : tie.Need-returns
+returns c = search list-many
+
+cast-parse-ring-bonds : tie.Need-cast-parse-ring-bonds
+cast-parse-ring-bonds c = search needs
+
+cast-parse-ring-bonds-2 : tie.Need-cast-parse-ring-bonds-2
+cast-parse-ring-bonds-2 c = search needs
+
+parse-ring-bonds-requires : tie.Need-parse-ring-bonds-requires
+parse-ring-bonds-requires c κs = search needs
+
+returns-2 : tie.Need-returns-2
+returns-2 c = search list-refused
+
+push-ring-requires : tie.Need-push-ring-requires
+push-ring-requires c κs = search needs
+
+returns-3 : tie.Need-returns-3
+returns-3 c = search list-read
+
+pub parse-ring-list-spec : {M : Type 1} → statement M
+parse-ring-list-spec =
+    tie.close
+    (tie.spec
+    position-count-requires
+    refused-requires
+    returns
+    cast-parse-ring-bonds
+    cast-parse-ring-bonds-2
+    parse-ring-bonds-requires
+    returns-2
+    push-ring-requires
+    returns-3)
