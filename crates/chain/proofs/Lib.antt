@@ -1,2 +1,4 @@
 pub mod Lists
 pub mod Accepted
+pub mod Bonds
+pub mod Branches

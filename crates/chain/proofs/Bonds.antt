@@ -1,0 +1,145 @@
+-- The bonds of a chain: each is written by a mark of 01 or by none, and a bridge stays where an epoxide starts.
+-- Assumes nothing.
+use Prim.Native.Nat.{ℕ, zero, suc, _+_, _-_, _≤_, _<_}
+use native.Mathlib.Omega.{arith}
+use native.Mathlib.Decide.{ℕ-discrete}
+use mathlib.Core.Path.{_≡_, refl, sym, ap, _∙_}
+use mathlib.Core.Logic.{_≢_}
+use mathlib.Core.Bool.{Bool, true, false, cond, not, _||_, _&&_, false≢true}
+use mathlib.Core.List.{List, [], _∷_, _++_, map}
+use lib.ListN.{length, getD, set}
+use lib.Seq.{getD-set-other}
+use lib.Dec.{eqb, ltb, leb}
+use borrow.Author.Tests.{eqb-true, eqb-false, eq-eqb, ne-eqb}
+use Rattle.record.specs.declared.Geometry.{Geometry}
+use Rattle.record.specs.declared.Geometry.the-variants.{Unstated, Cis, Trans}
+use Rattle.record.specs.declared.DbPos.{DbPos}
+use Rattle.record.specs.declared.Ring.{Ring}
+use Rattle.record.specs.Chain.{Chain}
+use Rattle.reading.specs.Ascii.{ascii}
+use Rattle.reading.specs.Lexer.{memb, marks}
+use Rattle.reading.proofs.PartingLaws.{All, all-map, and-right}
+use Rattle.reading.proofs.TemplateText.{MarkWell}
+use Rattle.chain.specs.declared.Role.{Role}
+use Rattle.chain.specs.Lists.{anyOf, valuesFrom}
+use Rattle.chain.specs.Features.{firstDrawn, doubles}
+use Rattle.chain.specs.Refusals.{isEpoxide, epoxideOn}
+use Rattle.chain.specs.Bonds.{empty, double, bridged, up, down, plainBond, plainBonds, geometryAt, openMark, opensDown, closeByte, closeMark, markBond, markFrom, bondsOf, bondAt, markOf}
+use Rattle.chain.proofs.Lists.{all-set, all-getD, all-values, getD-values}
+use Rattle.chain.proofs.Accepted.{Drawable, RingStands, rings-on, epoxides-free}
+
+-- ---- every bond is written by a mark of 01 or by none
+
+abbrev Written : ℕ → Type 0
+Written b = MarkWell (markOf b)
+
+written-bytes : record { none : Written empty; twice : Written double; bridge : Written bridged; rising : Written up; falling : Written down }
+unfolding markOf MarkWell memb marks ascii
+written-bytes = record { none = tt; twice = tt; bridge = tt; rising = tt; falling = tt }
+
+written-cond : (b : Bool) (x y : ℕ) → Written x → Written y → Written (cond b x y)
+written-cond true x y h g = h
+written-cond false x y h g = g
+
+written-plain : (bs : List DbPos) (rs : List Ring) (k : ℕ) → Written (plainBond bs rs k)
+unfolding plainBond
+written-plain bs rs k =
+    written-cond (anyOf (λ b. eqb (b .pos) k) bs) double (cond (anyOf (λ x. isEpoxide (x .bridge) && eqb (x .start) k) rs) bridged empty) (written-bytes .twice)
+    (written-cond (anyOf (λ x. isEpoxide (x .bridge) && eqb (x .start) k) rs) bridged empty (written-bytes .bridge) (written-bytes .none))
+
+written-close : (t o : Bool) → Written (closeByte t o)
+written-close true true = written-bytes .falling
+written-close true false = written-bytes .rising
+written-close false true = written-bytes .rising
+written-close false false = written-bytes .falling
+
+-- a bond set where a test passes
+written-set : (b : Bool) (ks : List ℕ) (i x : ℕ) → Written x → All Written ks → All Written (cond b (set ks i x) ks)
+written-set true ks i x w h = all-set Written ks i x w h
+written-set false ks i x w h = h
+
+written-open : (p : ℕ) (ks : List ℕ) → All Written ks → All Written (openMark p ks)
+unfolding openMark
+written-open p ks h = written-set (ltb 1 p && eqb (getD ks (p - 1) 0) empty) ks (p - 1) up (written-bytes .rising) h
+
+written-closed : (c : ℕ) (t : Bool) (p : ℕ) (ks : List ℕ) → All Written ks → All Written (closeMark c t p ks)
+unfolding closeMark
+written-closed c t p ks h = written-set (ltb (suc p) c && eqb (getD ks (suc p) 0) empty) ks (suc p) (closeByte t (opensDown p ks)) (written-close t (opensDown p ks)) h
+
+written-marked : (c : ℕ) (g : Geometry) (p : ℕ) (ks : List ℕ) → All Written ks → All Written (markBond c g p ks)
+unfolding markBond
+written-marked c Unstated p ks h = h
+written-marked c Cis p ks h = written-closed c false p (openMark p ks) (written-open p ks h)
+written-marked c Trans p ks h = written-closed c true p (openMark p ks) (written-open p ks h)
+
+written-from : (c : ℕ) (bs : List DbPos) (p n : ℕ) (ks : List ℕ) → All Written ks → All Written (markFrom c bs p n ks)
+unfolding markFrom
+written-from c bs p zero ks h = h
+written-from c bs p (suc n) ks h = written-from c bs (suc p) n (markBond c (geometryAt p bs) p ks) (written-marked c (geometryAt p bs) p ks h)
+
+pub mark-well : (r : Role) (d : Chain) (k : ℕ) → MarkWell (markOf (bondAt r d k))
+unfolding bondAt bondsOf plainBonds
+mark-well r d k =
+    all-getD Written (bondsOf r d) k 0 (written-bytes .none)
+    (written-from (d .carbon) (doubles r d) 1 (d .carbon) (plainBonds (doubles r d) (d .rings) (d .carbon))
+    (all-values Written (plainBond (doubles r d) (d .rings)) 0 (suc (d .carbon)) (λ i a b. written-plain (doubles r d) (d .rings) i)))
+
+-- ---- a bridge stays
+
+-- no mark is put where a bond is bridged
+kept-set : (b : Bool) (ks : List ℕ) (i x k : ℕ) → getD ks k 0 ≡ bridged → getD (cond (b && eqb (getD ks i 0) empty) (set ks i x) ks) k 0 ≡ bridged
+kept-set false ks i x k h = h
+kept-set true ks i x k h = go (ℕ-discrete k i)
+  where
+    other : (z : Bool) → k ≢ i → getD (cond z (set ks i x) ks) k 0 ≡ bridged
+    other true q = getD-set-other ks i k x 0 q ∙ h
+    other false q = h
+
+    go : Dec (k ≡ i) → getD (cond (eqb (getD ks i 0) empty) (set ks i x) ks) k 0 ≡ bridged
+    go (yes e) = rw (ne-eqb (getD ks i 0) empty (λ w. omega (arith, ap (λ (z : ℕ). getD ks z 0) e))) h
+    go (no q) = other (eqb (getD ks i 0) empty) q
+
+kept-open : (p : ℕ) (ks : List ℕ) (k : ℕ) → getD ks k 0 ≡ bridged → getD (openMark p ks) k 0 ≡ bridged
+unfolding openMark
+kept-open p ks k h = kept-set (ltb 1 p) ks (p - 1) up k h
+
+kept-closed : (c : ℕ) (t : Bool) (p : ℕ) (ks : List ℕ) (k : ℕ) → getD ks k 0 ≡ bridged → getD (closeMark c t p ks) k 0 ≡ bridged
+unfolding closeMark
+kept-closed c t p ks k h = kept-set (ltb (suc p) c) ks (suc p) (closeByte t (opensDown p ks)) k h
+
+kept-marked : (c : ℕ) (g : Geometry) (p : ℕ) (ks : List ℕ) (k : ℕ) → getD ks k 0 ≡ bridged → getD (markBond c g p ks) k 0 ≡ bridged
+unfolding markBond
+kept-marked c Unstated p ks k h = h
+kept-marked c Cis p ks k h = kept-closed c false p (openMark p ks) k (kept-open p ks k h)
+kept-marked c Trans p ks k h = kept-closed c true p (openMark p ks) k (kept-open p ks k h)
+
+kept-from : (c : ℕ) (bs : List DbPos) (p n : ℕ) (ks : List ℕ) (k : ℕ) → getD ks k 0 ≡ bridged → getD (markFrom c bs p n ks) k 0 ≡ bridged
+unfolding markFrom
+kept-from c bs p zero ks k h = h
+kept-from c bs p (suc n) ks k h = kept-from c bs (suc p) n (markBond c (geometryAt p bs) p ks) k (kept-marked c (geometryAt p bs) p ks k h)
+
+-- ---- a bridge where an epoxide starts
+
+-- some ring is an epoxide that starts at k
+abbrev pub startsEpoxide : ℕ → List Ring → Bool
+startsEpoxide k rs = anyOf (λ x. isEpoxide (x .bridge) && eqb (x .start) k) rs
+
+-- no double bond stands where an epoxide starts
+epoxide-single : (bs : List DbPos) (rs : List Ring) (k : ℕ) → All (λ x. epoxideOn bs x ≡ false) rs → startsEpoxide k rs ≡ true → anyOf (λ b. eqb (b .pos) k) bs ≡ false
+unfolding anyOf epoxideOn
+epoxide-single bs [] k h e = absurd (false≢true e)
+epoxide-single bs (x ∷ rs) k h e = go (isEpoxide (x .bridge)) (eqb (x .start) k) refl (h .0) e (epoxide-single bs rs k (h .1))
+  where
+    go : (i s : Bool) → eqb (x .start) k ≡ s → (i && anyOf (λ b. eqb (b .pos) (x .start)) bs) ≡ false → ((i && s) || startsEpoxide k rs) ≡ true
+        → (startsEpoxide k rs ≡ true → anyOf (λ b. eqb (b .pos) k) bs ≡ false) → anyOf (λ b. eqb (b .pos) k) bs ≡ false
+    go true true q f e ih = rw (eqb-true (x .start) k q) at f
+    go true false q f e ih = ih e
+    go false s q f e ih = ih e
+
+pub bridge-stands : (r : Role) (d : Chain) (a : Drawable r d) (k : ℕ) → k ≤ d .carbon → startsEpoxide k (d .rings) ≡ true → bondAt r d k ≡ bridged
+unfolding bondAt bondsOf plainBonds plainBond
+bridge-stands r d a k h e =
+    let z : 0 + k ≡ k = omega arith in
+    kept-from (d .carbon) (doubles r d) 1 (d .carbon) (plainBonds (doubles r d) (d .rings) (d .carbon)) k
+    (getD-values (plainBond (doubles r d) (d .rings)) 0 (suc (d .carbon)) k 0 (omega arith)
+    ∙ (ap (plainBond (doubles r d) (d .rings)) z ∙ rw (epoxide-single (doubles r d) (d .rings) k (epoxides-free r d a) e, e)))
