@@ -2,3 +2,4 @@ pub mod Lists
 pub mod Accepted
 pub mod Bonds
 pub mod Branches
+pub mod Fits
