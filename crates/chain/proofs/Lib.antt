@@ -3,3 +3,4 @@ pub mod Accepted
 pub mod Bonds
 pub mod Branches
 pub mod Fits
+pub mod Atoms

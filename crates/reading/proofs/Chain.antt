@@ -253,7 +253,7 @@ Follows : (ℕ → ℕ) → ℕ → ℕ → List Carbon → Type 0
 Follows pos k n [] = Unit {0}
 Follows pos k n (c ∷ cs) = (pos k ≡ n) × Follows pos (suc k) (carbonEnd n c) cs
 
-partsEnd-le : (n : ℕ) (ps : List Part) → n ≤ partsEnd n ps
+pub partsEnd-le : (n : ℕ) (ps : List Part) → n ≤ partsEnd n ps
 unfolding partsEnd
 partsEnd-le n [] = omega arith
 partsEnd-le n (p ∷ ps) = omega (arith, partsEnd-le (n + p .size) ps)
@@ -342,7 +342,7 @@ holds-last pos f k l (ring s e ∷ rs) t g b h m a c =
 
 -- ---- each carbon's atom
 
-carbonEnd-lt : (n : ℕ) (c : Carbon) → n < carbonEnd n c
+pub carbonEnd-lt : (n : ℕ) (c : Carbon) → n < carbonEnd n c
 unfolding carbonEnd
 carbonEnd-lt n c = go (c .bridge)
   where
@@ -350,7 +350,7 @@ carbonEnd-lt n c = go (c .bridge)
     go true = omega (arith, partsEnd-le (suc n) (c .parts))
     go false = omega (arith, partsEnd-le (suc n) (c .parts))
 
-atomFrom-le : (cs : List Carbon) (n j : ℕ) → n + j ≤ atomFrom n cs j
+pub atomFrom-le : (cs : List Carbon) (n j : ℕ) → n + j ≤ atomFrom n cs j
 unfolding atomFrom
 atomFrom-le [] n j = omega arith
 atomFrom-le (c ∷ cs) n zero = omega arith
