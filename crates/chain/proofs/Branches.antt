@@ -93,8 +93,7 @@ module _ (row : ℕ) (h : row < 17) where
       in
       let same : p .size ≡ entryAt row .atoms = eqb-true (p .size) (entryAt row .atoms) (and-left (eqb (p .size) (entryAt row .atoms)) (leb (entryAt row .atoms) 5) first) in
       let five : entryAt row .atoms ≤ 5 = leb-true (entryAt row .atoms) 5 (and-right (eqb (p .size) (entryAt row .atoms)) (leb (entryAt row .atoms) 5) first) in
-      let from : PartFrom (entryAt row .branch) p = part-from (entryAt row .branch) p e in
-      (
+      let from : PartFrom (entryAt row .branch) p = part-from (entryAt row .branch) p e in (
         record {
           hangs = from .hangs;
           well = from .well;

@@ -78,8 +78,7 @@ pub groups-table : (r : Role) (d : Chain) → Sound d → All InTable (groupsOn 
 unfolding groupsOn located
 groups-table r d s =
     let gs : List Mod = located (d .groups) in
-    let o : All InTable (baseOxygens r (d .prefix) gs) × (length (baseOxygens r (d .prefix) gs) ≤ 2) = oxygens-table r (d .prefix) gs in
-    (
+    let o : All InTable (baseOxygens r (d .prefix) gs) × (length (baseOxygens r (d .prefix) gs) ≤ 2) = oxygens-table r (d .prefix) gs in (
       all-append InTable gs (baseOxygens r (d .prefix) gs) (all-only InTable (λ g. not (eqb (g .pos) 0)) (d .groups) (every-all InTable (d .groups) (s .rows))) (o .0),
       omega (arith, length-append gs (baseOxygens r (d .prefix) gs), o .1, length-only (λ g. not (eqb (g .pos) 0)) (d .groups), s .within .groups),
     )
@@ -230,8 +229,7 @@ rings-long : (f c k : ℕ) (xs : List Ring) → All (RingStands f c) xs → star
 unfolding anyOf ringPairs NoShort
 rings-long f c k [] h g = tt
 rings-long f c k (x ∷ xs) h g =
-    let first : (isEpoxide (x .bridge) && eqb (x .start) k) ≡ false = or-left (isEpoxide (x .bridge) && eqb (x .start) k) (startsEpoxide k xs) g in
-    (
+    let first : (isEpoxide (x .bridge) && eqb (x .start) k) ≡ false = or-left (isEpoxide (x .bridge) && eqb (x .start) k) (startsEpoxide k xs) g in (
       (λ p q. false≢true (sym first ∙ rw (h .0 .short (q ∙ ap suc (sym p)), eq-eqb (x .start) k p))),
       rings-long f c k xs (h .1) (or-right (isEpoxide (x .bridge) && eqb (x .start) k) (startsEpoxide k xs) g),
     )

@@ -4,3 +4,4 @@ pub mod Bonds
 pub mod Branches
 pub mod Fits
 pub mod Atoms
+pub mod Counts

@@ -3,3 +3,4 @@ pub mod Features
 pub mod Refusals
 pub mod Bonds
 pub mod Drawing
+pub mod Counts
