@@ -32,3 +32,7 @@ module _ {A : Type 0} (xs : List A) (count room : ℕ) (l : length xs ≡ room) 
 
   pub held-full : (v : A) → room ≤ count → take count xs ≡ take room (take count xs ++ (v ∷ []))
   held-full v h = rw (take-all count xs (omega arith)) (sym (take-append-le room xs (v ∷ []) (omega arith) ∙ take-all room xs (omega arith)))
+
+  -- no more than there is room for
+  pub held-fits : length (take count xs) ≤ room
+  held-fits = omega (arith, length-take count xs)

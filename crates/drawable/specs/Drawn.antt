@@ -2,6 +2,8 @@
 use Prim.Native.Nat.{ℕ, _≤_, min}
 use mathlib.Core.Path.{_≡_}
 use mathlib.Core.List.{List}
+use mathlib.Core.Bool.{Bool}
+use lib.Dec.{eqb}
 use lib.ListN.{length, take}
 use Rattle.record.specs.declared.Geometry.the-variants.{Unstated}
 use Rattle.record.specs.declared.Bridge.the-variants.{Epoxide}
@@ -53,6 +55,10 @@ noRing = record { start = 0; end = 0; bridge = Epoxide }
 pub record Length {A : Type 0} (room : ℕ) (l : List A) (n : ℕ) : Type 0 where
   pub is : n ≡ length l
   pub fits : n ≤ room
+
+-- whether a group sits at p
+abbrev pub groupAt : ℕ → Mod → Bool
+groupAt p g = eqb (g .pos) p
 
 -- the chain that a record of the code holds, a count past its limit counting as the limit
 unfoldable pub chainOf : ParsedChain → Chain

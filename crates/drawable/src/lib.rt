@@ -18,9 +18,11 @@ ghost use mathlib.Core.Path.{_≡_};
 ghost use mathlib.Core.List.{[], _∷_, _++_};
 ghost use Prim.Native.Nat.{min};
 ghost use lib.ListN.{take, getD};
-ghost use Rattle.chain.specs.Features.{firstDrawn, isAcyl, alkenylBond, located, unlocated, oxygenAt, triolOxygen, baseOxygens};
-ghost use Rattle.chain.specs.Refusals.{etherBase};
-ghost use Rattle.drawable.specs.Drawn.{bondsIn, groupsIn, ringsIn, noBond, noGroup, noRing, bondRoom, groupRoom, ringRoom, Length, chainOf, Draws};
+ghost use Rattle.chain.specs.declared.Role.the-variants.{Slot, Base};
+ghost use Rattle.chain.specs.Lists.{anyOf};
+ghost use Rattle.chain.specs.Features.{firstDrawn, isAcyl, alkenylBond, doubles, located, unlocated, oxygenAt, baseOxygens};
+ghost use Rattle.chain.specs.Refusals.{isEther, etherBase};
+ghost use Rattle.drawable.specs.Drawn.{bondsIn, groupsIn, ringsIn, noBond, noGroup, noRing, bondRoom, groupRoom, ringRoom, Length, chainOf, groupAt, Draws};
 
 // Room for the double bonds read and for the one that `P-` adds.
 pub const BOND_ROOM: usize = 33;
@@ -173,5 +175,246 @@ impl Rings {
             end: 0,
             bridge: Bridge::Epoxide,
         }
+    }
+}
+
+// The first drawn carbon.
+fn first_drawn(role: Role) -> u16
+    ensures { λ r. ⌜ r ≡ firstDrawn role ⌝ }
+{
+    match role {
+        Role::Slot => 1,
+        Role::Acyl => 1,
+        Role::Base => 3,
+    }
+}
+
+// Whether a chain without a base's place has no prefix.
+fn is_unprefixed(prefix: ChainPrefix) -> bool
+    ensures { λ r. ⌜ r ≡ isAcyl Slot prefix ⌝ }
+{
+    match prefix {
+        ChainPrefix::Acyl => true,
+        ChainPrefix::EtherAlkyl => false,
+        ChainPrefix::EtherAlkenyl => false,
+        ChainPrefix::SphingoidD => false,
+        ChainPrefix::SphingoidT => false,
+    }
+}
+
+// Whether C1 carries a doubly bonded O.
+fn is_acyl(role: Role, prefix: ChainPrefix) -> bool
+    ensures { λ r. ⌜ r ≡ isAcyl role prefix ⌝ }
+{
+    match role {
+        Role::Slot => is_unprefixed(prefix),
+        Role::Acyl => is_unprefixed(prefix),
+        Role::Base => false,
+    }
+}
+
+fn is_ether(prefix: ChainPrefix) -> bool
+    ensures { λ r. ⌜ r ≡ isEther prefix ⌝ }
+{
+    match prefix {
+        ChainPrefix::Acyl => false,
+        ChainPrefix::EtherAlkyl => true,
+        ChainPrefix::EtherAlkenyl => true,
+        ChainPrefix::SphingoidD => false,
+        ChainPrefix::SphingoidT => false,
+    }
+}
+
+// Whether `O-` or `P-` stands on a base.
+fn is_ether_base(role: Role, prefix: ChainPrefix) -> bool
+    ensures { λ r. ⌜ r ≡ etherBase role prefix ⌝ }
+{
+    match role {
+        Role::Slot => false,
+        Role::Acyl => false,
+        Role::Base => is_ether(prefix),
+    }
+}
+
+// The double bond of `P-`, as the first of a list.
+fn ether_bond(prefix: ChainPrefix) -> Bonds
+    ensures { λ r. ⌜ bondsIn r ≡ alkenylBond Slot prefix ⌝ }
+{
+    match prefix {
+        ChainPrefix::Acyl => Bonds::new(),
+        ChainPrefix::EtherAlkyl => Bonds::new(),
+        ChainPrefix::EtherAlkenyl => Bonds::new().push(DbPos {
+            pos: 1,
+            geom: Geometry::Unstated,
+        }),
+        ChainPrefix::SphingoidD => Bonds::new(),
+        ChainPrefix::SphingoidT => Bonds::new(),
+    }
+}
+
+// The double bond that a prefix adds, in a place that is no base's.
+fn alkenyl_bond(role: Role, prefix: ChainPrefix) -> Bonds
+    ensures { λ r. ⌜ bondsIn r ≡ alkenylBond role prefix ⌝ }
+{
+    match role {
+        Role::Slot => ether_bond(prefix),
+        Role::Acyl => ether_bond(prefix),
+        Role::Base => Bonds::new(),
+    }
+}
+
+// The located double bonds: that of `P-`, then those of the token.
+fn double_bonds(role: Role, chain: ParsedChain) -> Bonds
+    ensures { λ r. ⌜ bondsIn r ≡ doubles role (chainOf chain) ⌝ }
+{
+    let prefix = chain.prefix;
+    let n = at_most(chain.bond_count, MAX_BONDS);
+    let mut bonds = alkenyl_bond(role, prefix);
+    let mut i = 0;
+    while i < n {
+        let bond = chain.bonds[i];
+        bonds = bonds.push(bond);
+        i += 1;
+    }
+    bonds
+}
+
+// The groups of a token.
+fn written_groups(chain: ParsedChain) -> Groups
+    ensures { λ r. ⌜ groupsIn r ≡ chainOf chain .groups ⌝ }
+{
+    let count = at_most(chain.group_count, MAX_GROUPS);
+    let items = chain.groups;
+    Groups { count, items }
+}
+
+// The rings of a token.
+fn written_rings(chain: ParsedChain) -> Rings
+    ensures { λ r. ⌜ ringsIn r ≡ chainOf chain .rings ⌝ }
+{
+    let count = at_most(chain.ring_count, MAX_RINGS);
+    let items = chain.rings;
+    Rings { count, items }
+}
+
+// The groups with a position, in order.
+fn located_groups(groups: Groups) -> Groups
+    ensures { λ r. ⌜ groupsIn r ≡ located (groupsIn groups) ⌝ }
+{
+    let n = groups.len();
+    let mut kept = Groups::new();
+    let mut i = 0;
+    while i < n {
+        let group = groups.at(i);
+        i += 1;
+        if group.pos == 0 {
+            continue;
+        }
+        kept = kept.push(group);
+    }
+    kept
+}
+
+// The groups without a position, in order.
+fn floating_groups(groups: Groups) -> Groups
+    ensures { λ r. ⌜ groupsIn r ≡ unlocated (groupsIn groups) ⌝ }
+{
+    let n = groups.len();
+    let mut kept = Groups::new();
+    let mut i = 0;
+    while i < n {
+        let group = groups.at(i);
+        i += 1;
+        if group.pos != 0 {
+            continue;
+        }
+        kept = kept.push(group);
+    }
+    kept
+}
+
+fn sits_at(group: Mod, p: u32) -> bool
+    ensures { λ r. ⌜ r ≡ groupAt p group ⌝ }
+{
+    group.pos == p
+}
+
+// Whether a group sits at p.
+fn group_at(groups: Groups, p: u32) -> bool
+    ensures { λ r. ⌜ r ≡ anyOf (groupAt p) (groupsIn groups) ⌝ }
+{
+    let n = groups.len();
+    let mut i = 0;
+    while i < n {
+        let group = groups.at(i);
+        if sits_at(group, p) {
+            return true;
+        }
+        i += 1;
+    }
+    false
+}
+
+// An O at p more, unless a group of the token sits there.
+fn oxygen_at(groups: Groups, p: u32, written: Groups) -> Groups
+    ensures { λ r. ⌜ groupsIn r ≡ take groupRoom (groupsIn groups ++ oxygenAt p (groupsIn written)) ⌝ }
+{
+    if group_at(written, p) {
+        return groups;
+    }
+    groups.push(Mod {
+        pos: p,
+        row: groups::HYDROXY,
+    })
+}
+
+// The groups of a base: those of the token, then an O at 3, and at 4 for t.
+fn base_groups(prefix: ChainPrefix, written: Groups) -> Groups
+    ensures { λ r. ⌜ groupsIn r ≡ take groupRoom (groupsIn written ++ baseOxygens Base prefix (groupsIn written)) ⌝ }
+{
+    let diol = oxygen_at(written, 3, written);
+    match prefix {
+        ChainPrefix::Acyl => diol,
+        ChainPrefix::EtherAlkyl => diol,
+        ChainPrefix::EtherAlkenyl => diol,
+        ChainPrefix::SphingoidD => diol,
+        ChainPrefix::SphingoidT => oxygen_at(diol, 4, written),
+    }
+}
+
+// The groups drawn on the chain.
+fn drawn_groups(role: Role, prefix: ChainPrefix, written: Groups) -> Groups
+    ensures { λ r. ⌜ groupsIn r ≡ take groupRoom (groupsIn written ++ baseOxygens role prefix (groupsIn written)) ⌝ }
+{
+    match role {
+        Role::Slot => written,
+        Role::Acyl => written,
+        Role::Base => base_groups(prefix, written),
+    }
+}
+
+// The chain as it is drawn where it stands.
+pub fn drawn_as(role: Role, chain: ParsedChain) -> Drawn
+    ensures { λ r. ⌜ Draws role (chainOf chain) r ⌝ }
+{
+    let prefix = chain.prefix;
+    let all = written_groups(chain);
+    let first = first_drawn(role);
+    let acyl = is_acyl(role, prefix);
+    let ether_base = is_ether_base(role, prefix);
+    let bonds = double_bonds(role, chain);
+    let groups = drawn_groups(role, prefix, located_groups(all));
+    let floats = floating_groups(all);
+    let rings = written_rings(chain);
+    Drawn {
+        first,
+        carbon: chain.carbon,
+        acyl,
+        ether_base,
+        unlocated: chain.unlocated,
+        bonds,
+        groups,
+        floats,
+        rings,
     }
 }

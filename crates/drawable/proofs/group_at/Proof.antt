@@ -1,0 +1,59 @@
+use borrow.Author.Needs.{needs}
+use Prim.Native.Nat.{_≤_, _-_}
+use native.Mathlib.Omega.{arith}
+use mathlib.Core.Path.{_≡_, refl}
+use lib.ListN.{drop}
+use Rattle.chain.specs.Lists.{anyOf}
+use Rattle.drawable.specs.Drawn.{groupsIn, groupAt}
+use Rattle.drawable.proofs.Through.{any-here, any-next, any-none}
+use Rattle.drawable.proofs.group_at.Statement.{statement}
+use Rattle.drawable.proofs.group_at.Tie as tie
+
+abbrev Inv-loop : tie.InvT-loop
+Inv-loop groups p n i₀ i = (anyOf (groupAt p) (groupsIn groups) ≡ anyOf (groupAt p) (drop i (groupsIn groups))) × (i ≤ n)
+
+abbrev μ-loop : tie.MeasureT-loop
+μ-loop groups p n i₀ i = n - i
+
+len-requires : tie.Need-len-requires Inv-loop μ-loop
+len-requires c κs = search needs
+
+loop-holds : tie.Need-loop-holds Inv-loop μ-loop
+loop-holds c = (refl, omega arith)
+
+at-requires : tie.Need-at-requires Inv-loop μ-loop
+at-requires c κs = search needs
+
+sits-at-requires : tie.Need-sits-at-requires Inv-loop μ-loop
+sits-at-requires c κs = search needs
+
+returns : tie.Need-returns Inv-loop μ-loop
+returns c = search any-here
+
+add-i : tie.Need-add-i Inv-loop μ-loop
+add-i c = search needs
+
+loop-less : tie.Need-loop-less Inv-loop μ-loop
+loop-less c = search needs
+
+loop-again : tie.Need-loop-again Inv-loop μ-loop
+loop-again c = (search any-next, omega arith)
+
+returns-2 : tie.Need-returns-2 Inv-loop μ-loop
+returns-2 c = search any-none
+
+pub group-at-spec : {M : Type 1} → statement M
+group-at-spec =
+    tie.close
+    (tie.spec
+    Inv-loop
+    μ-loop
+    len-requires
+    loop-holds
+    at-requires
+    sits-at-requires
+    returns
+    add-i
+    loop-less
+    loop-again
+    returns-2)
