@@ -1,2 +1,3 @@
 pub mod Template
 pub mod Request
+pub mod Built
