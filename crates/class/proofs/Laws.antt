@@ -1,0 +1,69 @@
+-- Laws of the class codes: each way out of the tests, one after the other.
+-- Assumes nothing.
+use Prim.Native.Nat.{ℕ}
+use mathlib.Core.Path.{_≡_, refl, sym, ap, _∙_}
+use mathlib.Core.Bool.{Bool, true, false, cond}
+use mathlib.Core.Option.{Option, none, some}
+use mathlib.Core.List.{List, [], _∷_}
+use lib.Dec.{eqb}
+use borrow.Author.Tests.{eq-eqb, ne-eqb}
+use Rattle.scan.specs.Part.{sameBytes}
+use Rattle.reading.specs.Ascii.{ascii}
+use Rattle.chain.specs.declared.Role.{Role}
+use Rattle.chain.specs.declared.Role.the-variants.{Acyl, Base}
+use Rattle.builder.specs.declared.Class.{Class}
+use Rattle.builder.specs.declared.Class.the-variants.{Fa, Gl1, Gl2, Gl3, Gp, Cl, Sb, Sa}
+use Rattle.builder.specs.Template.{classOf, roleOf}
+
+pub first-base : (sn : ℕ) → sn ≡ 1 → Base ≡ roleOf Sa sn
+first-base sn e = rw (eq-eqb sn 1 e)
+
+pub other-acyl : (sn : ℕ) → (sn ≡ 1 → ⊥) → Acyl ≡ roleOf Sa sn
+other-acyl sn e = rw (ne-eqb sn 1 e)
+
+pub sa-role : (c : Class) (sn : ℕ) (r : Role) → r ≡ roleOf Sa sn → c ≡ Sa → r ≡ roleOf c sn
+sa-role c sn r e f = e ∙ ap (λ (x : Class). roleOf x sn) (sym f)
+
+module _ (s : List ℕ) (a₁ : Bool) (e₁ : a₁ ≡ sameBytes s (70 ∷ 65 ∷ [])) where
+  pub is-fa : a₁ ≡ true → some Fa ≡ classOf s
+  unfolding classOf ascii
+  is-fa t = rw (sym e₁ ∙ t)
+
+  module _ (n₁ : a₁ ≡ false) (a₂ : Bool) (e₂ : a₂ ≡ sameBytes s (71 ∷ 76 ∷ 49 ∷ [])) where
+    pub is-gl1 : a₂ ≡ true → some Gl1 ≡ classOf s
+    unfolding classOf ascii
+    is-gl1 t = rw (sym e₁ ∙ n₁, sym e₂ ∙ t)
+
+    module _ (n₂ : a₂ ≡ false) (a₃ : Bool) (e₃ : a₃ ≡ sameBytes s (71 ∷ 76 ∷ 50 ∷ [])) where
+      pub is-gl2 : a₃ ≡ true → some Gl2 ≡ classOf s
+      unfolding classOf ascii
+      is-gl2 t = rw (sym e₁ ∙ n₁, sym e₂ ∙ n₂, sym e₃ ∙ t)
+
+      module _ (n₃ : a₃ ≡ false) (a₄ : Bool) (e₄ : a₄ ≡ sameBytes s (71 ∷ 76 ∷ 51 ∷ [])) where
+        pub is-gl3 : a₄ ≡ true → some Gl3 ≡ classOf s
+        unfolding classOf ascii
+        is-gl3 t = rw (sym e₁ ∙ n₁, sym e₂ ∙ n₂, sym e₃ ∙ n₃, sym e₄ ∙ t)
+
+        module _ (n₄ : a₄ ≡ false) (a₅ : Bool) (e₅ : a₅ ≡ sameBytes s (71 ∷ 80 ∷ [])) where
+          pub is-gp : a₅ ≡ true → some Gp ≡ classOf s
+          unfolding classOf ascii
+          is-gp t = rw (sym e₁ ∙ n₁, sym e₂ ∙ n₂, sym e₃ ∙ n₃, sym e₄ ∙ n₄, sym e₅ ∙ t)
+
+          module _ (n₅ : a₅ ≡ false) (a₆ : Bool) (e₆ : a₆ ≡ sameBytes s (67 ∷ 76 ∷ [])) where
+            pub is-cl : a₆ ≡ true → some Cl ≡ classOf s
+            unfolding classOf ascii
+            is-cl t = rw (sym e₁ ∙ n₁, sym e₂ ∙ n₂, sym e₃ ∙ n₃, sym e₄ ∙ n₄, sym e₅ ∙ n₅, sym e₆ ∙ t)
+
+            module _ (n₆ : a₆ ≡ false) (a₇ : Bool) (e₇ : a₇ ≡ sameBytes s (83 ∷ 66 ∷ [])) where
+              pub is-sb : a₇ ≡ true → some Sb ≡ classOf s
+              unfolding classOf ascii
+              is-sb t = rw (sym e₁ ∙ n₁, sym e₂ ∙ n₂, sym e₃ ∙ n₃, sym e₄ ∙ n₄, sym e₅ ∙ n₅, sym e₆ ∙ n₆, sym e₇ ∙ t)
+
+              module _ (n₇ : a₇ ≡ false) (a₈ : Bool) (e₈ : a₈ ≡ sameBytes s (83 ∷ 65 ∷ [])) where
+                pub is-sa : a₈ ≡ true → some Sa ≡ classOf s
+                unfolding classOf ascii
+                is-sa t = rw (sym e₁ ∙ n₁, sym e₂ ∙ n₂, sym e₃ ∙ n₃, sym e₄ ∙ n₄, sym e₅ ∙ n₅, sym e₆ ∙ n₆, sym e₇ ∙ n₇, sym e₈ ∙ t)
+
+                pub is-none : a₈ ≡ false → none ≡ classOf s
+                unfolding classOf ascii
+                is-none t = rw (sym e₁ ∙ n₁, sym e₂ ∙ n₂, sym e₃ ∙ n₃, sym e₄ ∙ n₄, sym e₅ ∙ n₅, sym e₆ ∙ n₆, sym e₇ ∙ n₇, sym e₈ ∙ t)
