@@ -9,7 +9,7 @@ use mathlib.Core.Bool.{Bool, true, false, not, cond, true≢false}
 use mathlib.Core.List.{List, [], _∷_}
 use lib.ListN.{length, take, drop, getD, length-drop}
 use lib.Dec.{eqb, ltb}
-use borrow.Author.Tests.{lt-ltb, le-ltb, not-true, not-false}
+use borrow.Author.Tests.{lt-ltb, le-ltb, not-true, not-false, ltb-false}
 use Rattle.scan.specs.Part.{startsWith}
 use Rattle.scan.specs.Number.{isDigit, numberUpTo, numberLimit}
 use Rattle.scan.specs.declared.Number.{Number}
@@ -20,11 +20,11 @@ use Rattle.record.specs.declared.ChainPrefix.{ChainPrefix}
 use Rattle.record.specs.declared.ChainPrefix.the-variants.{Acyl, EtherAlkyl, EtherAlkenyl, SphingoidD, SphingoidT}
 use Rattle.record.specs.declared.ParsedChain.{ParsedChain}
 use Rattle.record.specs.declared.Parsed.{Parsed}
-use Rattle.record.specs.Chain.{Outcome, Read, Refused, Stands, Holds, Takes, noFeatures, withGroup, maxCarbons}
+use Rattle.record.specs.Chain.{Chain, Outcome, Read, Refused, Stands, Holds, Takes, noFeatures, withGroup, maxCarbons, unreadable, overLimit}
 use Rattle.opening.specs.declared.Branch.{Branch}
 use Rattle.opening.specs.declared.Branch.the-variants.{Straight, Iso, Anteiso}
 use Rattle.opening.specs.declared.Opening.{Opening}
-use Rattle.opening.specs.Opening.{isoText, anteisoText, branchOf, branchLength, etherText, alkenylText, sphingoidOf, beforeDigit, prefixOf, prefixLength, secondWord, openingOf, branchOffset, branched, startChain, carbonsOf, Word, Prefixed, Opened}
+use Rattle.opening.specs.Opening.{isoText, anteisoText, branchOf, branchLength, etherText, alkenylText, sphingoidOf, beforeDigit, prefixOf, prefixLength, secondWord, openingOf, branchOffset, branched, startChain, carbonsBy, carbonsOf, Word, Prefixed, Opened}
 
 -- ---- the branch word
 
@@ -152,3 +152,34 @@ module _ (p : ChainPrefix) (b : Branch) (t : List ℕ) (v : Number) (e : v ≡ n
   pub carbons-read : (r : Parsed) (n : ℕ) → v ≡ Value n → n ≤ 255 → Stands r (startChain p b n) → Stands r (carbonsOf p b t)
   unfolding carbonsOf
   carbons-read r n f h s = rw (sym e ∙ f, le-ltb maxCarbons n h) s
+
+-- ---- what callers use: the chain that carbons give
+
+branched-few : (p : ChainPrefix) (o w : ℕ) (d : Chain) → w ≤ 255 → branched p o w ≡ Read d → (d .carbon ≤ maxCarbons) × (d .bonds ≡ [])
+unfolding branched withGroup
+branched-few p o w d l h = go (ltb w (o + 3)) h
+  where
+    c : Chain
+    c = withGroup (record { pos = w - 1 - o; row = methyl }) (noFeatures p w (w - 1) true)
+
+    go : (b : Bool) → cond b (Refused unreadable) (Read c) ≡ Read d → (d .carbon ≤ maxCarbons) × (d .bonds ≡ [])
+    go true h = let z : _≡_ {A = ℕ} 0 1 = cc in absurd (omega arith)
+    go false h = let z : c ≡ d = cc in rw (← z) (omega arith, refl)
+
+-- its carbons are within the limit, and it has no double bond yet
+pub carbons-few : (p : ChainPrefix) (b : Branch) (t : List ℕ) (d : Chain) → carbonsOf p b t ≡ Read d → (d .carbon ≤ maxCarbons) × (d .bonds ≡ [])
+unfolding carbonsOf
+carbons-few p b t d h = value (numberUpTo numberLimit t) h
+  where
+    start : (b : Branch) (n : ℕ) → n ≤ 255 → startChain p b n ≡ Read d → (d .carbon ≤ maxCarbons) × (d .bonds ≡ [])
+    start Straight n l h = let z : noFeatures p n n false ≡ d = cc in rw (← z) (l, refl)
+    start Iso n l h = branched-few p 1 n d l h
+    start Anteiso n l h = branched-few p 2 n d l h
+
+    test : (x : Bool) (n : ℕ) → ltb maxCarbons n ≡ x → cond x (Refused overLimit) (startChain p b n) ≡ Read d → (d .carbon ≤ maxCarbons) × (d .bonds ≡ [])
+    test true n e h = let z : _≡_ {A = ℕ} 0 1 = cc in absurd (omega arith)
+    test false n e h = start b n (ltb-false maxCarbons n e) h
+
+    value : (v : Number) → carbonsBy p b v ≡ Read d → (d .carbon ≤ maxCarbons) × (d .bonds ≡ [])
+    value (Value n) h = test (ltb maxCarbons n) n refl h
+    value Unreadable h = let z : _≡_ {A = ℕ} 0 1 = cc in absurd (omega arith)

@@ -6,15 +6,16 @@ use native.Mathlib.Omega.{arith}
 use mathlib.Core.Path.{_≡_, refl, sym, ap, _∙_}
 use mathlib.Core.Bool.{Bool, true, false, cond}
 use mathlib.Core.List.{List, [], _∷_, _++_, map}
+use lib.Dec.{ltb}
 use lib.ListN.{length, take, set, length-map, length-append}
 use lib.Seq.{length-take-le, take-suc-set, take-all, take-append-le}
-use borrow.Author.Tests.{lt-ltb, le-ltb}
+use borrow.Author.Tests.{lt-ltb, le-ltb, ltb-false}
 use Rattle.record.specs.declared.DbPos.{DbPos}
 use Rattle.record.specs.declared.Mod.{Mod}
 use Rattle.record.specs.declared.Ring.{Ring}
 use Rattle.record.specs.declared.ParsedChain.{ParsedChain}
 use Rattle.record.specs.declared.Parsed.{Parsed}
-use Rattle.record.specs.Chain.{Chain, Outcome, Read, Refused, andThen, withBond, withGroup, withRing, withOxygens, withUnlocated, countsOf, Keeps, Holds, Stands, Takes, Gives, Within, maxBonds, maxGroups, maxRings}
+use Rattle.record.specs.Chain.{Chain, Outcome, Read, Refused, andThen, withBond, withGroup, withRing, withOxygens, withUnlocated, countsOf, Keeps, Holds, Stands, Takes, Gives, Within, maxBonds, maxGroups, maxRings, overLimit}
 
 -- an array in a struct stands under `map`
 pub length-mapped : {X Y : Type 0} (f : X → Y) (l : List X) (n : ℕ) → length (map f l) ≡ n → length l ≡ n
@@ -180,3 +181,32 @@ stands-then r q (Refused n) g w e v = absurd (omega (arith, w .0, w .1))
 
 pub gives-then : {c : ParsedChain} {r q : Parsed} {f g : Chain → Outcome} → Gives c r f → r .refusal ≡ 0 → Gives (r .chain) q g → Gives c q (λ d. andThen (f d) g)
 gives-then {r = r} {q} {f} {g} w e v = record { stands = λ d k. stands-then r q (f d) g (w .stands d k) e v }
+
+-- counts that pass are within their limits, and the chain is as it was
+pub counts-same : (d e : Chain) → countsOf d ≡ Read e → d ≡ e
+unfolding countsOf
+counts-same d e h = go (ltb maxBonds (length (d .bonds))) (ltb maxGroups (length (d .groups))) (ltb maxRings (length (d .rings))) h
+  where
+    go : (a b c : Bool) → cond a (Refused overLimit) (cond b (Refused overLimit) (cond c (Refused overLimit) (Read d))) ≡ Read e → d ≡ e
+    go true b c h = cc
+    go false true c h = cc
+    go false false true h = cc
+    go false false false h = cc
+
+pub counts-few : (d : Chain) → countsOf d ≡ Read d → (length (d .bonds) ≤ maxBonds) × (length (d .groups) ≤ maxGroups) × (length (d .rings) ≤ maxRings)
+unfolding countsOf
+counts-few d h = go (ltb maxBonds (length (d .bonds))) (ltb maxGroups (length (d .groups))) (ltb maxRings (length (d .rings))) refl refl refl h
+  where
+    go : (a b c : Bool) → ltb maxBonds (length (d .bonds)) ≡ a → ltb maxGroups (length (d .groups)) ≡ b → ltb maxRings (length (d .rings)) ≡ c
+        → cond a (Refused overLimit) (cond b (Refused overLimit) (cond c (Refused overLimit) (Read d))) ≡ Read d
+        → (length (d .bonds) ≤ maxBonds) × (length (d .groups) ≤ maxGroups) × (length (d .rings) ≤ maxRings)
+    go true b c x y z h = let w : _≡_ {A = ℕ} 0 1 = cc in absurd (omega arith)
+    go false true c x y z h = let w : _≡_ {A = ℕ} 0 1 = cc in absurd (omega arith)
+    go false false true x y z h = let w : _≡_ {A = ℕ} 0 1 = cc in absurd (omega arith)
+    go false false false x y z h = (ltb-false _ _ x, ltb-false _ _ y, ltb-false _ _ z)
+
+pub counts-within : (d e : Chain) → countsOf d ≡ Read e → (length (e .bonds) ≤ maxBonds) × (length (e .groups) ≤ maxGroups) × (length (e .rings) ≤ maxRings)
+counts-within d e h =
+    let s : e ≡ d = sym (counts-same d e h) in
+    let k : countsOf d ≡ Read d = h ∙ ap Read s in
+    rw s (counts-few d k)

@@ -1,0 +1,23 @@
+use Rattle.token.proofs.Laws.{given-many, not-seated, all-seated, seated-fits}
+use borrow.Author.Needs.{needs}
+use Rattle.token.proofs.missing_bonds.Statement.{statement}
+use Rattle.token.proofs.missing_bonds.Tie as tie
+
+returns : tie.Need-returns
+returns c = search given-many
+
+placeholder-positions-requires : tie.Need-placeholder-positions-requires
+placeholder-positions-requires c κs = search needs
+
+returns-2 : tie.Need-returns-2
+returns-2 c = search not-seated
+
+cast-t10 : tie.Need-cast-t10
+cast-t10 c = search seated-fits
+
+returns-3 : tie.Need-returns-3
+returns-3 c = search all-seated
+
+pub missing-bonds-spec : {M : Type 1} → statement M
+missing-bonds-spec =
+    tie.close (tie.spec returns placeholder-positions-requires returns-2 cast-t10 returns-3)

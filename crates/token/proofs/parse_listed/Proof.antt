@@ -1,0 +1,65 @@
+use Rattle.token.proofs.Laws.{list-open, listed-refused, listed-read}
+use borrow.Author.Needs.{needs}
+use Rattle.token.proofs.parse_listed.Statement.{statement}
+use Rattle.token.proofs.parse_listed.Tie as tie
+
+find-requires : tie.Need-find-requires
+find-requires c κs = search needs
+
+returns : tie.Need-returns
+returns c = search list-open
+
+sub-parse-list : tie.Need-sub-parse-list
+sub-parse-list c = search needs
+
+part-parse-list-start : tie.Need-part-parse-list-start
+part-parse-list-start c = search needs
+
+part-parse-list-end : tie.Need-part-parse-list-end
+part-parse-list-end c = search needs
+
+parse-list-requires : tie.Need-parse-list-requires
+parse-list-requires c κs = search needs
+
+returns-2 : tie.Need-returns-2
+returns-2 c = search listed-refused
+
+missing-bonds-requires : tie.Need-missing-bonds-requires
+missing-bonds-requires c κs = search needs
+
+add-parse-rest : tie.Need-add-parse-rest
+add-parse-rest c = search needs
+
+sub-parse-rest : tie.Need-sub-parse-rest
+sub-parse-rest c = search needs
+
+part-parse-rest-start : tie.Need-part-parse-rest-start
+part-parse-rest-start c = search needs
+
+part-parse-rest-end : tie.Need-part-parse-rest-end
+part-parse-rest-end c = search needs
+
+parse-rest-requires : tie.Need-parse-rest-requires
+parse-rest-requires c κs = search needs
+
+returns-3 : tie.Need-returns-3
+returns-3 c = search listed-read
+
+pub parse-listed-spec : {M : Type 1} → statement M
+parse-listed-spec =
+    tie.close
+    (tie.spec
+    find-requires
+    returns
+    sub-parse-list
+    part-parse-list-start
+    part-parse-list-end
+    parse-list-requires
+    returns-2
+    missing-bonds-requires
+    add-parse-rest
+    sub-parse-rest
+    part-parse-rest-start
+    part-parse-rest-end
+    parse-rest-requires
+    returns-3)

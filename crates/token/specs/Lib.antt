@@ -1,0 +1,2 @@
+pub mod Token
+pub mod Request

@@ -1,0 +1,314 @@
+// The token reader: one chain token, as lent bytes, to a chain record, to 31 or to 11. Every byte string of every length has an answer, and
+// it is the one that specs/Token.antt defines; a record that is read holds the chain. Then the tokens of a request, in order.
+use opening::Branch;
+use record::ChainPrefix;
+use record::Parsed;
+use record::ParsedChain;
+use scan::Number;
+ghost use mathlib.Core.Path.{_≡_};
+ghost use Prim.Native.Nat.{_<_};
+ghost use mathlib.Core.List.{[], _∷_};
+ghost use lib.ListN.{getD, take};
+ghost use Rattle.record.specs.Chain.{Stands, Gives};
+ghost use Rattle.token.specs.Token.{printable, allPrintable, MissingIs, bareOxygens, Bare, finished, restOf, countedList, Begins, listedOf, afterCount, bondsOf, namedChain, trimmedOf, tokenOf};
+ghost use Rattle.token.specs.Request.{RequestIs, Follows, All, tokensOf};
+
+// The longest token.
+const MAX_BYTES: usize = 255;
+
+fn is_printable(b: u8) -> bool
+    ensures { λ r. ⌜ r ≡ printable b ⌝ }
+{
+    if b < 32 {
+        return false;
+    }
+    b <= 126
+}
+
+fn all_printable(s: &[u8]) -> bool
+    ensures { λ r. ⌜ r ≡ allPrintable (now (s .entry)) ⌝ }
+{
+    let mut t = s;
+    while t.len() > 0 {
+        if !is_printable(t[0]) {
+            return false;
+        }
+        t = &t[1..];
+    }
+    true
+}
+
+// The double bonds that a token declares without a position, where each finds a seat.
+pub enum Missing {
+    Seated(u16),
+    Unseated,
+}
+
+// The bonds missing beside those of the `(..)` list.
+fn missing_bonds(carbon: u16, listed: ParsedChain, declared: u64) -> Missing
+    ensures { λ r. ⌜ MissingIs carbon listed declared r ⌝ }
+{
+    let n = listed.bond_count;
+    let given = n as u64;
+    if declared < given {
+        return Missing::Unseated;
+    }
+    let bonds = listed.bonds;
+    if !seats::placeholder_positions(carbon, bonds, n, declared - given) {
+        return Missing::Unseated;
+    }
+    Missing::Seated((declared - given) as u16)
+}
+
+// Whether an oxygen count stands alone: it says how many there are and not on what.
+fn bare_oxygens(chain: ParsedChain) -> bool
+    ensures { λ r. ⌜ Bare chain r ⌝ }
+{
+    if chain.oxygens == 0 {
+        return false;
+    }
+    if chain.group_count != 0 {
+        return false;
+    }
+    chain.ring_count == 0
+}
+
+// What is judged after the segments.
+fn finish(missing: Missing, chain: ParsedChain) -> Parsed
+    ensures { λ r. ⌜ Gives chain r (finished missing) ⌝ }
+{
+    let Missing::Seated(n) = missing else {
+        return Parsed {
+            refusal: record::UNREADABLE,
+            chain,
+        };
+    };
+    if bare_oxygens(chain) {
+        return Parsed {
+            refusal: record::UNREADABLE,
+            chain,
+        };
+    }
+    let whole = chain.set_unlocated(n);
+    Parsed {
+        refusal: 0,
+        chain: whole,
+    }
+}
+
+// The segments, and what is judged after them.
+fn parse_rest(missing: Missing, s: &[u8], chain: ParsedChain) -> Parsed
+    ensures { λ r. ⌜ Gives chain r (restOf missing (now (s .entry))) ⌝ }
+{
+    let parsed = segment::parse_segments(s, chain);
+    let refusal = parsed.refusal;
+    if refusal != 0 {
+        return parsed;
+    }
+    let next = parsed.chain;
+    finish(missing, next)
+}
+
+// The `(..)` list, and its count.
+fn parse_list(s: &[u8], chain: ParsedChain) -> Parsed
+    ensures { λ r. ⌜ Gives chain r (countedList (now (s .entry))) ⌝ }
+{
+    let parsed = positions::parse_position_list(s, chain);
+    let refusal = parsed.refusal;
+    if refusal != 0 {
+        return parsed;
+    }
+    let next = parsed.chain;
+    next.counted()
+}
+
+// What follows the `(` of the position list.
+fn parse_listed(declared: u64, s: &[u8], chain: ParsedChain) -> Parsed
+    ensures { λ r. ⌜ Begins chain r (listedOf declared (now (s .entry))) ⌝ }
+{
+    let n = scan::find(s, b')');
+    if n == s.len() {
+        return Parsed {
+            refusal: record::UNREADABLE,
+            chain,
+        };
+    }
+    let parsed = parse_list(&s[0..n], chain);
+    let refusal = parsed.refusal;
+    if refusal != 0 {
+        return parsed;
+    }
+    let listed = parsed.chain;
+    let missing = missing_bonds(chain.carbon, listed, declared);
+    parse_rest(missing, &s[n + 1..], listed)
+}
+
+// What follows the bond count: a position list straight after, or none.
+fn parse_after_count(declared: u64, s: &[u8], chain: ParsedChain) -> Parsed
+    ensures { λ r. ⌜ Begins chain r (afterCount declared (now (s .entry))) ⌝ }
+{
+    if scan::starts_with(s, b"(") {
+        return parse_listed(declared, &s[1..], chain);
+    }
+    let missing = missing_bonds(chain.carbon, chain, declared);
+    parse_rest(missing, s, chain)
+}
+
+// What follows the colon.
+fn parse_bonds(s: &[u8], chain: ParsedChain) -> Parsed
+    ensures { λ r. ⌜ Begins chain r (bondsOf (now (s .entry))) ⌝ }
+{
+    let n = scan::digit_run(s);
+    let Number::Value(declared) = scan::read_digits(&s[0..n], 4294967295) else {
+        return Parsed {
+            refusal: record::UNREADABLE,
+            chain,
+        };
+    };
+    parse_after_count(declared, &s[n..], chain)
+}
+
+// A chain without branch word and prefix.
+fn parse_named(prefix: ChainPrefix, branch: Branch, s: &[u8]) -> Parsed
+    ensures { λ r. ⌜ Stands r (namedChain prefix branch (now (s .entry))) ⌝ }
+{
+    let n = scan::find(s, b':');
+    if n == s.len() {
+        return Parsed {
+            refusal: record::UNREADABLE,
+            chain: ParsedChain::new(prefix, 0, 0, false),
+        };
+    }
+    let parsed = opening::parse_carbons(&s[0..n], prefix, branch);
+    let refusal = parsed.refusal;
+    if refusal != 0 {
+        return parsed;
+    }
+    let chain = parsed.chain;
+    parse_bonds(&s[n + 1..], chain)
+}
+
+// A trimmed token.
+fn parse_trimmed(t: &[u8]) -> Parsed
+    ensures { λ r. ⌜ Stands r (trimmedOf (now (t .entry))) ⌝ }
+{
+    if scan::same(t, b"0:0") {
+        return Parsed {
+            refusal: 0,
+            chain: ParsedChain::new(ChainPrefix::Acyl, 0, 0, false),
+        };
+    }
+    let opening = opening::read_opening(t);
+    let prefix = opening.prefix;
+    let branch = opening.branch;
+    let n = opening.carbons;
+    parse_named(prefix, branch, &t[n..])
+}
+
+// The chain that a token says.
+pub fn parse_chain_token(s: &[u8]) -> Parsed
+    ensures { λ r. ⌜ Stands r (tokenOf (now (s .entry))) ⌝ }
+{
+    if MAX_BYTES < s.len() {
+        return Parsed {
+            refusal: record::OVER_LIMIT,
+            chain: ParsedChain::new(ChainPrefix::Acyl, 0, 0, false),
+        };
+    }
+    if !all_printable(s) {
+        return Parsed {
+            refusal: record::OVER_LIMIT,
+            chain: ParsedChain::new(ChainPrefix::Acyl, 0, 0, false),
+        };
+    }
+    parse_trimmed(scan::trim(s))
+}
+
+// The most tokens of a request.
+pub const MAX_TOKENS: usize = 4;
+
+// The chains of a request: the first `count` of `chains`, in the order of its tokens; or the number and the place, from 1, of the first
+// token that is refused.
+pub struct Request {
+    pub refusal: u16,
+    pub place: usize,
+    pub count: usize,
+    pub chains: [ParsedChain; MAX_TOKENS],
+}
+
+impl Request {
+    fn new() -> Request
+        ensures { λ r. ⌜ RequestIs r (All []) ⌝ }
+    {
+        let chain = ParsedChain::new(ChainPrefix::Acyl, 0, 0, false);
+        let chains = [chain; MAX_TOKENS];
+        Request {
+            refusal: 0,
+            place: 0,
+            count: 0,
+            chains,
+        }
+    }
+
+    // One token more; after a refusal none is read.
+    fn read_token(mut self, token: &[u8]) -> Request
+        requires { ⌜ self .count < 4 ⌝ }
+        ensures { λ r. ⌜ Follows self (now (token .entry)) r ⌝ }
+    {
+        let refusal = self.refusal;
+        if refusal != 0 {
+            return self;
+        }
+        let at = self.count;
+        let parsed = parse_chain_token(token);
+        let number = parsed.refusal;
+        if number != 0 {
+            self.refusal = number;
+            self.place = at + 1;
+            return self;
+        }
+        let chain = parsed.chain;
+        self.chains[at] = chain;
+        self.count = at + 1;
+        self
+    }
+}
+
+// Token i, counted from 0.
+fn token_at<'a>(i: usize, sn1: &'a [u8], sn2: &'a [u8], sn3: &'a [u8], sn4: &'a [u8]) -> &'a [u8]
+    requires { ⌜ i < 4 ⌝ }
+    ensures { λ r. ⌜ now r ≡ getD (now (sn1 .entry) ∷ now (sn2 .entry) ∷ now (sn3 .entry) ∷ now (sn4 .entry) ∷ []) i [] ⌝ }
+{
+    if i == 0 {
+        return sn1;
+    }
+    if i == 1 {
+        return sn2;
+    }
+    if i == 2 {
+        return sn3;
+    }
+    sn4
+}
+
+// The first `count` tokens, in order; of more than four, four.
+pub fn parse_tokens<'a>(
+    count: usize,
+    sn1: &'a [u8],
+    sn2: &'a [u8],
+    sn3: &'a [u8],
+    sn4: &'a [u8],
+) -> Request
+    ensures { λ r. ⌜ RequestIs r (tokensOf (take count (now (sn1 .entry) ∷ now (sn2 .entry) ∷ now (sn3 .entry) ∷ now (sn4 .entry) ∷ []))) ⌝ }
+{
+    let mut request = Request::new();
+    let mut i = 0;
+    while i < count {
+        if MAX_TOKENS <= i {
+            return request;
+        }
+        request = request.read_token(token_at(i, sn1, sn2, sn3, sn4));
+        i += 1;
+    }
+    request
+}
