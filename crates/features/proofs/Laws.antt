@@ -4,14 +4,10 @@ use Prim.Native.Nat.{ℕ, suc, _+_, _-_, _≤_, _<_}
 use native.Mathlib.Nat.{sub-zero}
 use native.Mathlib.Numerals.{add-one}
 use native.Mathlib.Omega.{arith}
-use mathlib.Core.Path.{_≡_, refl, sym, ap, _∙_}
-use mathlib.Core.Bool.{Bool, true, false, cond}
+use mathlib.Core.Path.{_≡_, refl, sym, _∙_}
 use mathlib.Core.List.{List, [], _∷_}
 use lib.ListN.{length, take, drop, getD}
-use lib.Dec.{eqb, ltb}
 use borrow.Author.Tests.{lt-ltb, le-ltb, eq-eqb, ne-eqb}
-use mir.Syntax.{w32}
-use mir.Val.{Fits}
 use Rattle.scan.specs.Part.{Place, indexOf}
 use Rattle.scan.specs.Number.{digitRun}
 use Rattle.scan.specs.declared.Number.{Number}
@@ -24,12 +20,11 @@ use Rattle.groups.specs.declared.Found.the-variants.{At as Found·At, Nothing a
 use Rattle.groups.specs.declared.RingSize.{RingSize}
 use Rattle.groups.specs.declared.RingSize.the-variants.{Carbons, Nothing as RingSize·Nothing}
 use Rattle.record.specs.declared.Bridge.{Bridge}
-use Rattle.record.specs.declared.Bridge.the-variants.{Epoxide, Carbocycle}
 use Rattle.features.specs.declared.Segment.{Segment}
 use Rattle.features.specs.declared.Segment.the-variants.{Cycle, Located, Repeated, Oxygens, Unreadable}
 use Rattle.features.specs.declared.Feature.{Feature}
 use Rattle.features.specs.declared.Feature.the-variants.{Ring, Group, Other}
-use Rattle.features.specs.Features.{ringOf, spanOf, Span, ringAt, bridgeOf, named, featureOf, placed, placedBy, listedAs, oxygensBy, oxygenCount, oxygensIn, featureOr, itemAt, itemBy, partOf, timesBy, repeatedOf}
+use Rattle.features.specs.Features.{Span, ringAt, bridgeOf, featureOf, placed, listedAs, oxygenCount, oxygensIn, itemAt, partOf, repeatedOf}
 
 -- ---- an alias ring
 

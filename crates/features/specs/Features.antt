@@ -1,5 +1,5 @@
 -- What a piece of a segment says. 01, Token reader, the list after "A segment is trimmed, ..". Bytes: `)` 41, `O` 79. Assumes nothing.
-use Prim.Native.Nat.{ℕ, suc, _+_, _-_, _<_, _≤_}
+use Prim.Native.Nat.{ℕ, _+_, _-_, _<_, _≤_}
 use mathlib.Core.Path.{_≡_}
 use mathlib.Core.List.{List, [], _∷_}
 use mathlib.Core.Bool.{cond}

@@ -9,16 +9,16 @@ use mathlib.Core.Path.{_≡_, refl, sym, ap, _∙_}
 use mathlib.Core.Bool.{Bool, true, false, not, cond, true≢false}
 use mathlib.Core.List.{List, [], _∷_, _++_}
 use lib.ListN.{length, take, drop, getD, length-take, drop-of-length-le}
-use lib.Seq.{take-all, take-suc, take-length, length-take-le}
+use lib.Seq.{take-all, take-suc, take-length}
 use lib.Dec.{eqb}
 use borrow.Author.Tests.{eq-eqb, ne-eqb, not-false}
 use mir.Syntax.{w32}
 use mir.Val.{Fits}
-use Rattle.scan.proofs.Laws.{to-end, first-within, found-room, number-bound, digits-value-bound}
+use Rattle.scan.proofs.Laws.{to-end, found-room, number-bound, digits-value-bound}
 use Rattle.scan.specs.Part.{Place, firstByte, indexOf, indexOfText, trimmed}
 use Rattle.scan.specs.Number.{digitsUpTo, numberUpTo, numberLimit, ringCountLimit}
 use Rattle.scan.specs.declared.Number.{Number}
-use Rattle.scan.specs.declared.Number.the-variants.{Value, Unreadable}
+use Rattle.scan.specs.declared.Number.the-variants.{Value}
 use Rattle.form.specs.declared.Form.{Form}
 use Rattle.form.specs.declared.Form.the-variants.{Ring, Repeated, Listed, Parts}
 use Rattle.form.specs.Parts.{onto, partsAt, listParts}

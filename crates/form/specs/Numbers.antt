@@ -5,7 +5,7 @@ use mathlib.Core.List.{List, [], _∷_}
 use Rattle.scan.specs.Part.{trimmed}
 use Rattle.scan.specs.Number.{digitsUpTo, numberUpTo, numberLimit, ringCountLimit}
 use Rattle.scan.specs.declared.Number.{Number}
-use Rattle.scan.specs.declared.Number.the-variants.{Value, Unreadable}
+use Rattle.scan.specs.declared.Number.the-variants.{Value}
 
 -- 01: "ring start-end`cy`size, each trimmed"; "Positions are trimmed; .. a group's may not" end in a letter
 unfoldable pub trimmedNumber : List ℕ → Number

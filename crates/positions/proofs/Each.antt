@@ -1,7 +1,7 @@
 -- Laws of a loop over parts that are read one after the other: its start, a turn and each way out, for every way f to read a part and every
 -- byte b between the parts. Assumes nothing.
 use Prim.Native.Nat.{ℕ, _+_, _-_}
-use mathlib.Core.Path.{_≡_, refl, sym, ap, _∙_}
+use mathlib.Core.Path.{_≡_, refl}
 use mathlib.Core.List.{List, [], _∷_}
 use lib.ListN.{length, take, drop}
 use Rattle.scan.specs.Part.{Place, indexOf}
@@ -9,7 +9,7 @@ use Rattle.form.specs.Parts.{partsAt, listParts}
 use Rattle.form.proofs.Laws.{parts-last, parts-more, parts-first, list-none, list-some}
 use Rattle.record.specs.declared.ParsedChain.{ParsedChain}
 use Rattle.record.specs.declared.Parsed.{Parsed}
-use Rattle.record.specs.Chain.{Chain, Outcome, Read, Refused, andThen, Gives, Stands, Holds}
+use Rattle.record.specs.Chain.{Chain, Outcome, Read, Refused, andThen, Gives}
 use Rattle.record.proofs.Laws.{gives-stop, gives-then}
 use Rattle.positions.specs.Each.{each}
 

@@ -1,13 +1,13 @@
 -- Laws of positions and of lists of double bonds: one for each way out.
 -- Assumes nothing.
-use Prim.Native.Nat.{ℕ, _+_, _-_, _≤_, _<_}
+use Prim.Native.Nat.{ℕ, _-_, _≤_, _<_}
 use native.Mathlib.Nat.{sub-zero}
 use native.Mathlib.Omega.{arith}
 use mathlib.Core.Path.{_≡_, refl, sym, ap, _∙_}
 use mathlib.Core.Bool.{Bool, true, false, cond}
 use mathlib.Core.List.{List}
 use lib.ListN.{length, take, getD}
-use lib.Dec.{eqb, ltb}
+use lib.Dec.{eqb}
 use borrow.Author.Tests.{lt-ltb, le-ltb, eq-eqb, ne-eqb}
 use mir.Syntax.{w32}
 use mir.Val.{Fits}
@@ -22,12 +22,12 @@ use Rattle.record.specs.declared.Geometry.{Geometry}
 use Rattle.record.specs.declared.Geometry.the-variants.{Unstated, Cis, Trans}
 use Rattle.record.specs.declared.ParsedChain.{ParsedChain}
 use Rattle.record.specs.declared.Parsed.{Parsed}
-use Rattle.record.specs.Chain.{Chain, Outcome, Read, Refused, withBond, unreadable, Gives, Takes, Holds, Stands}
-use Rattle.record.proofs.Laws.{gives-refused, gives-read, gives-same}
+use Rattle.record.specs.Chain.{Chain, withBond, Gives, Takes}
+use Rattle.record.proofs.Laws.{gives-read, gives-same}
 use Rattle.positions.specs.declared.Position.{Position}
 use Rattle.positions.specs.declared.Position.the-variants.{At, Unreadable}
-use Rattle.positions.specs.Each.{each}
 use Rattle.positions.specs.Positions.{geometryOf, positioned, numbered, lettered, positionOf, withPosition, bondAt, bondList, inside, ringBondAt, ringBondList}
+use Rattle.positions.proofs.Refusals.{gives-11}
 use Rattle.positions.proofs.Each.{each-same}
 
 -- ---- one position
@@ -66,18 +66,18 @@ module _ (s t : List ℕ) (e : t ≡ trimmed s) where
 -- ---- one double bond
 
 module _ (s : List ℕ) (start end : ℕ) (c : ParsedChain) (p : Position) (e : p ≡ positionOf s) where
-  pub bond-unreadable : p ≡ Unreadable → Gives c (record { refusal = 11; chain = c }) (ringBondAt start end s)
+  pub bond-unreadable : (r : Parsed) → p ≡ Unreadable → r .refusal ≡ 11 → Gives c r (ringBondAt start end s)
   unfolding ringBondAt
-  bond-unreadable f = gives-same (gives-refused c c unreadable (omega arith)) (λ d k. sym (rw (sym e ∙ f)))
+  bond-unreadable r f g = gives-11 c r (ringBondAt start end s) g (λ d k. rw (sym e ∙ f))
 
   module _ (b : DbPos) (f : p ≡ At b) where
-    pub bond-below : b .pos < start → Gives c (record { refusal = 11; chain = c }) (ringBondAt start end s)
+    pub bond-below : (r : Parsed) → b .pos < start → r .refusal ≡ 11 → Gives c r (ringBondAt start end s)
     unfolding ringBondAt
-    bond-below h = gives-same (gives-refused c c unreadable (omega arith)) (λ d k. sym (rw (sym e ∙ f, lt-ltb (b .pos) start h)))
+    bond-below r h g = gives-11 c r (ringBondAt start end s) g (λ d k. rw (sym e ∙ f, lt-ltb (b .pos) start h))
 
-    pub bond-above : start ≤ b .pos → end ≤ b .pos → Gives c (record { refusal = 11; chain = c }) (ringBondAt start end s)
+    pub bond-above : (r : Parsed) → start ≤ b .pos → end ≤ b .pos → r .refusal ≡ 11 → Gives c r (ringBondAt start end s)
     unfolding ringBondAt
-    bond-above h l = gives-same (gives-refused c c unreadable (omega arith)) (λ d k. sym (rw (sym e ∙ f, le-ltb (b .pos) start h, le-ltb (b .pos) end l)))
+    bond-above r h l g = gives-11 c r (ringBondAt start end s) g (λ d k. rw (sym e ∙ f, le-ltb (b .pos) start h, le-ltb (b .pos) end l))
 
     pub bond-inside : (q : ParsedChain) → start ≤ b .pos → b .pos < end → Takes c q (withBond b) → Gives c (record { refusal = 0; chain = q }) (ringBondAt start end s)
     unfolding ringBondAt

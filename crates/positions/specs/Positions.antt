@@ -11,7 +11,6 @@ use Rattle.scan.specs.declared.Number.{Number}
 use Rattle.scan.specs.declared.Number.the-variants.{Value as Number·Value, Unreadable as Number·Unreadable}
 use Rattle.form.specs.Parts.{listParts}
 use Rattle.record.specs.Chain.{Chain, Outcome, Read, Refused, withBond, unreadable}
-use Rattle.record.specs.declared.DbPos.{DbPos}
 use Rattle.record.specs.declared.Geometry.{Geometry}
 use Rattle.record.specs.declared.Geometry.the-variants.{Unstated, Cis, Trans}
 use Rattle.positions.specs.declared.Position.{Position}

@@ -10,6 +10,16 @@ ghost use mathlib.Core.Path.{_≡_};
 ghost use Rattle.record.specs.Chain.{Gives};
 ghost use Rattle.positions.specs.Positions.{geometryOf, numbered, positionOf, bondList, ringBondAt, ringBondList};
 
+// Refusal 11. The record beside it says nothing.
+pub fn unreadable(chain: ParsedChain) -> Parsed
+    ensures { λ r. ⌜ r .refusal ≡ 11 ⌝ }
+{
+    Parsed {
+        refusal: record::UNREADABLE,
+        chain,
+    }
+}
+
 // A position as it was read.
 pub enum Position {
     At(DbPos),
@@ -70,23 +80,14 @@ fn parse_bond(s: &[u8], start: u64, end: u64, chain: ParsedChain) -> Parsed
     ensures { λ r. ⌜ Gives chain r (ringBondAt start end (now (s .entry))) ⌝ }
 {
     let Position::At(bond) = read_position(s) else {
-        return Parsed {
-            refusal: record::UNREADABLE,
-            chain,
-        };
+        return unreadable(chain);
     };
     let pos = bond.pos as u64;
     if pos < start {
-        return Parsed {
-            refusal: record::UNREADABLE,
-            chain,
-        };
+        return unreadable(chain);
     }
     if end <= pos {
-        return Parsed {
-            refusal: record::UNREADABLE,
-            chain,
-        };
+        return unreadable(chain);
     }
     let longer = chain.push_bond(bond);
     Parsed {

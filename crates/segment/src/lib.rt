@@ -7,23 +7,8 @@ use form::Form;
 use record::Mod;
 use record::Parsed;
 use record::ParsedChain;
-use record::Ring;
-use scan::Number;
-ghost use mathlib.Core.Path.{_≡_};
-ghost use Prim.Native.Nat.{_+_, _<_, _≤_};
-ghost use lib.ListN.{length};
-ghost use Rattle.record.specs.Chain.{Takes, Gives, unreadable};
-ghost use Rattle.segment.specs.Segment.{copies, manyTimes, withSegment, ringList, ringListed, ringBonds, ringSized, ringSegment, listedAt, plainList, listedFeature, listedSegment, partAt, commaParts, modification, segmentAt, segments};
-
-// Refusal 11. The record beside it says nothing.
-fn refused(chain: ParsedChain) -> Parsed
-    ensures { λ r. ⌜ r .refusal ≡ unreadable ⌝ }
-{
-    Parsed {
-        refusal: record::UNREADABLE,
-        chain,
-    }
-}
+ghost use Rattle.record.specs.Chain.{Takes, Gives};
+ghost use Rattle.segment.specs.Segment.{copies, manyTimes, withSegment, listedAt, plainList, listedFeature, listedSegment, partAt, commaParts, modification, segmentAt, segments};
 
 // A group n times.
 fn push_copies(group: Mod, n: u32, chain: ParsedChain) -> ParsedChain
@@ -90,85 +75,8 @@ fn add_segment(segment: Segment, chain: ParsedChain) -> Parsed
                 chain: counted,
             }
         }
-        Segment::Unreadable => refused(chain),
+        Segment::Unreadable => positions::unreadable(chain),
     }
-}
-
-// A ring's list of at most n positions, and then the ring.
-fn parse_ring_list(ring: Ring, n: u64, list: &[u8], chain: ParsedChain) -> Parsed
-    ensures { λ r. ⌜ Gives chain r (ringList ring n (now (list .entry))) ⌝ }
-{
-    if n < (form::position_count(list) as u64) {
-        return refused(chain);
-    }
-    let parsed = positions::parse_ring_bonds(list, ring.start as u64, ring.end as u64, chain);
-    let refusal = parsed.refusal;
-    if refusal != 0 {
-        return parsed;
-    }
-    let bonded = parsed.chain;
-    let longer = bonded.push_ring(ring);
-    Parsed {
-        refusal: 0,
-        chain: longer,
-    }
-}
-
-// What follows the `(` of a ring's list.
-fn parse_ring_listed(ring: Ring, n: u64, s: &[u8], chain: ParsedChain) -> Parsed
-    ensures { λ r. ⌜ Gives chain r (ringListed ring n (now (s .entry))) ⌝ }
-{
-    if !form::ends_in_parenthesis(s) {
-        return refused(chain);
-    }
-    parse_ring_list(ring, n, &s[0..s.len() - 1], chain)
-}
-
-// What follows a ring's colon: its number of double bonds, and the list of those with a position.
-fn parse_ring_bond_count(ring: Ring, s: &[u8], chain: ParsedChain) -> Parsed
-    ensures { λ r. ⌜ Gives chain r (ringBonds ring (now (s .entry))) ⌝ }
-{
-    let open = scan::find(s, b'(');
-    let Number::Value(n) = form::ring_count(&s[0..open]) else {
-        return refused(chain);
-    };
-    if open == s.len() {
-        let longer = chain.push_ring(ring);
-        return Parsed {
-            refusal: 0,
-            chain: longer,
-        };
-    }
-    parse_ring_listed(ring, n, &s[open + 1..], chain)
-}
-
-// What follows `cy`: the ring's size, and after a colon its double bonds.
-fn parse_ring_size(start: u64, end: u64, s: &[u8], chain: ParsedChain) -> Parsed
-    ensures { λ r. ⌜ Gives chain r (ringSized start end (now (s .entry))) ⌝ }
-{
-    let colon = scan::find(s, b':');
-    let Number::Value(size) = form::trimmed_number(&s[0..colon]) else {
-        return refused(chain);
-    };
-    let carbon = chain.carbon;
-    let Segment::Cycle(ring) = features::ring_of(start, end, size, carbon) else {
-        return refused(chain);
-    };
-    parse_ring_bond_count(ring, form::after_place(s, colon), chain)
-}
-
-// A ring segment whose dash and `cy` were found.
-fn parse_ring_segment(s: &[u8], dash: usize, cy: usize, chain: ParsedChain) -> Parsed
-    requires { ⌜ (dash < cy) × (cy + 2 ≤ length (now s)) ⌝ }
-    ensures { λ r. ⌜ Gives chain r (ringSegment (now (s .entry)) dash cy) ⌝ }
-{
-    let Number::Value(start) = form::trimmed_number(&s[0..dash]) else {
-        return refused(chain);
-    };
-    let Number::Value(end) = form::trimmed_number(&s[dash + 1..cy]) else {
-        return refused(chain);
-    };
-    parse_ring_size(start, end, &s[cy + 2..], chain)
 }
 
 // A feature at one position of a list.
@@ -212,7 +120,7 @@ fn parse_listed_feature(feature: Feature, list: &[u8], chain: ParsedChain) -> Pa
     match feature {
         Feature::Ring(_) => parse_plain_position_list(list, feature, chain),
         Feature::Group(_) => parse_plain_position_list(list, feature, chain),
-        Feature::Other => refused(chain),
+        Feature::Other => positions::unreadable(chain),
     }
 }
 
@@ -221,7 +129,7 @@ fn parse_listed_segment(abbr: &[u8], s: &[u8], chain: ParsedChain) -> Parsed
     ensures { λ r. ⌜ Gives chain r (listedSegment (now (abbr .entry)) (now (s .entry))) ⌝ }
 {
     if !form::ends_in_parenthesis(s) {
-        return refused(chain);
+        return positions::unreadable(chain);
     }
     let feature = features::feature_of(abbr);
     parse_listed_feature(feature, &s[0..s.len() - 1], chain)
@@ -264,7 +172,7 @@ pub fn parse_modification_segment(s: &[u8], chain: ParsedChain) -> Parsed
 {
     let form = form::form_of(s);
     match form {
-        Form::Ring { dash, cy } => parse_ring_segment(s, dash, cy, chain),
+        Form::Ring { dash, cy } => ring::parse_ring_segment(s, dash, cy, chain),
         Form::Repeated => {
             let segment = features::read_repeated(form::after_place(s, 0));
             add_segment(segment, chain)

@@ -1,4 +1,3 @@
-use borrow.Author.Needs.{needs}
 use borrow.Author.Tests.{eq-eqb, ne-eqb}
 use Rattle.features.specs.Features.{bridgeOf}
 use Rattle.features.proofs.bridge_of.Statement.{statement}

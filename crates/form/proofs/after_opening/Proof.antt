@@ -1,9 +1,7 @@
 use borrow.Author.Needs.{needs}
 use Rattle.form.proofs.Laws.{opening-end, opening-more, opening-none}
-use Prim.Native.Nat.{_+_, _≤_}
 use mathlib.Core.Path.{_≡_, refl}
-use native.Mathlib.Omega.{arith}
-use lib.ListN.{length, take}
+use lib.ListN.{length}
 use Rattle.form.specs.Form.{afterOpening}
 use Rattle.form.proofs.after_opening.Statement.{statement}
 use Rattle.form.proofs.after_opening.Tie as tie

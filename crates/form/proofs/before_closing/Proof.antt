@@ -1,7 +1,7 @@
 use borrow.Author.Needs.{needs}
 use Rattle.form.proofs.Laws.{closing-start, closing-end, closing-more, closing-none}
-use Prim.Native.Nat.{_+_, _≤_}
-use mathlib.Core.Path.{_≡_, refl}
+use Prim.Native.Nat.{_≤_}
+use mathlib.Core.Path.{_≡_}
 use native.Mathlib.Omega.{arith}
 use lib.ListN.{length, take}
 use Rattle.form.specs.Form.{beforeClosing}

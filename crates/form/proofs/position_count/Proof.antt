@@ -1,9 +1,9 @@
 use borrow.Author.Needs.{needs}
 use Rattle.form.proofs.Laws.{count-none, count-start, count-last, count-more}
 use Prim.Native.Nat.{_+_, _≤_}
-use mathlib.Core.Path.{_≡_, refl}
+use mathlib.Core.Path.{_≡_}
 use native.Mathlib.Omega.{arith}
-use lib.ListN.{length, take}
+use lib.ListN.{length}
 use Rattle.form.specs.Parts.{listParts, partsAt}
 use Rattle.form.proofs.position_count.Statement.{statement}
 use Rattle.form.proofs.position_count.Tie as tie

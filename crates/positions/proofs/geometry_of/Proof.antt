@@ -1,4 +1,3 @@
-use borrow.Author.Needs.{needs}
 use borrow.Author.Tests.{eq-eqb, ne-eqb}
 use Rattle.positions.specs.Positions.{geometryOf}
 use Rattle.positions.proofs.geometry_of.Statement.{statement}

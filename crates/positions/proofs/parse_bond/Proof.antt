@@ -12,14 +12,23 @@ enum-known-bond c = search needs
 enum-told : tie.Need-enum-told
 enum-told c = search needs
 
+unreadable-requires : tie.Need-unreadable-requires
+unreadable-requires c κs = search needs
+
 returns : tie.Need-returns
 returns c = search bond-unreadable
 
 cast-pos : tie.Need-cast-pos
 cast-pos c = search needs
 
+unreadable-requires-2 : tie.Need-unreadable-requires-2
+unreadable-requires-2 c κs = search needs
+
 returns-2 : tie.Need-returns-2
 returns-2 c = search bond-below
+
+unreadable-requires-3 : tie.Need-unreadable-requires-3
+unreadable-requires-3 c κs = search needs
 
 returns-3 : tie.Need-returns-3
 returns-3 c = search bond-above
@@ -37,9 +46,12 @@ parse-bond-spec =
     read-position-requires
     enum-known-bond
     enum-told
+    unreadable-requires
     returns
     cast-pos
+    unreadable-requires-2
     returns-2
+    unreadable-requires-3
     returns-3
     push-bond-requires
     returns-4)

@@ -30,8 +30,8 @@ set-oxygens-requires c κs = search needs
 enum-told : tie.Need-enum-told
 enum-told c = search needs
 
-refused-requires : tie.Need-refused-requires
-refused-requires c κs = search needs
+unreadable-requires : tie.Need-unreadable-requires
+unreadable-requires c κs = search needs
 
 returns : tie.Need-returns
 returns c = search adds-ring
@@ -61,7 +61,7 @@ add-segment-spec =
     enum-known-segment-4
     set-oxygens-requires
     enum-told
-    refused-requires
+    unreadable-requires
     returns
     returns-2
     returns-3

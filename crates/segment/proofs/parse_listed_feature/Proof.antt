@@ -18,8 +18,8 @@ parse-plain-position-list-requires-2 c κs = search needs
 enum-told-3 : tie.Need-enum-told-3
 enum-told-3 c = search needs
 
-refused-requires : tie.Need-refused-requires
-refused-requires c κs = search needs
+unreadable-requires : tie.Need-unreadable-requires
+unreadable-requires c κs = search needs
 
 returns : tie.Need-returns
 returns c = search listed-ring
@@ -39,7 +39,7 @@ parse-listed-feature-spec =
     enum-told-2
     parse-plain-position-list-requires-2
     enum-told-3
-    refused-requires
+    unreadable-requires
     returns
     returns-2
     returns-3)

@@ -7,8 +7,8 @@ use Rattle.segment.proofs.parse_listed_segment.Tie as tie
 ends-in-parenthesis-requires : tie.Need-ends-in-parenthesis-requires
 ends-in-parenthesis-requires c κs = search needs
 
-refused-requires : tie.Need-refused-requires
-refused-requires c κs = search needs
+unreadable-requires : tie.Need-unreadable-requires
+unreadable-requires c κs = search needs
 
 returns : tie.Need-returns
 returns c = search listed-open
@@ -39,7 +39,7 @@ parse-listed-segment-spec =
     tie.close
     (tie.spec
     ends-in-parenthesis-requires
-    refused-requires
+    unreadable-requires
     returns
     feature-of-requires
     sub-parse-listed-feature

@@ -1,14 +1,14 @@
-use Rattle.segment.proofs.Laws.{ring-open, ring-closed}
+use Rattle.ring.proofs.Laws.{ring-open, ring-closed}
 use Rattle.form.proofs.Laws.{parenthesis-room}
 use borrow.Author.Needs.{needs}
-use Rattle.segment.proofs.parse_ring_listed.Statement.{statement}
-use Rattle.segment.proofs.parse_ring_listed.Tie as tie
+use Rattle.ring.proofs.parse_ring_listed.Statement.{statement}
+use Rattle.ring.proofs.parse_ring_listed.Tie as tie
 
 ends-in-parenthesis-requires : tie.Need-ends-in-parenthesis-requires
 ends-in-parenthesis-requires c κs = search needs
 
-refused-requires : tie.Need-refused-requires
-refused-requires c κs = search needs
+unreadable-requires : tie.Need-unreadable-requires
+unreadable-requires c κs = search needs
 
 returns : tie.Need-returns
 returns c = search ring-open
@@ -36,7 +36,7 @@ parse-ring-listed-spec =
     tie.close
     (tie.spec
     ends-in-parenthesis-requires
-    refused-requires
+    unreadable-requires
     returns
     sub-parse-ring-list
     sub-parse-ring-list-2

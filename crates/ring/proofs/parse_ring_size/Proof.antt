@@ -1,7 +1,7 @@
-use Rattle.segment.proofs.Laws.{size-unreadable, size-wrong, size-sized}
+use Rattle.ring.proofs.Laws.{size-unreadable, size-wrong, size-sized}
 use borrow.Author.Needs.{needs}
-use Rattle.segment.proofs.parse_ring_size.Statement.{statement}
-use Rattle.segment.proofs.parse_ring_size.Tie as tie
+use Rattle.ring.proofs.parse_ring_size.Statement.{statement}
+use Rattle.ring.proofs.parse_ring_size.Tie as tie
 
 find-requires : tie.Need-find-requires
 find-requires c κs = search needs
@@ -24,8 +24,8 @@ enum-known-size c = search needs
 enum-told : tie.Need-enum-told
 enum-told c = search needs
 
-refused-requires : tie.Need-refused-requires
-refused-requires c κs = search needs
+unreadable-requires : tie.Need-unreadable-requires
+unreadable-requires c κs = search needs
 
 returns : tie.Need-returns
 returns c = search size-unreadable
@@ -36,8 +36,8 @@ ring-of-requires c κs = search needs
 enum-known-ring : tie.Need-enum-known-ring
 enum-known-ring c = search needs
 
-refused-requires-2 : tie.Need-refused-requires-2
-refused-requires-2 c κs = search needs
+unreadable-requires-2 : tie.Need-unreadable-requires-2
+unreadable-requires-2 c κs = search needs
 
 returns-2 : tie.Need-returns-2
 returns-2 c = search size-wrong
@@ -62,11 +62,11 @@ parse-ring-size-spec =
     trimmed-number-requires
     enum-known-size
     enum-told
-    refused-requires
+    unreadable-requires
     returns
     ring-of-requires
     enum-known-ring
-    refused-requires-2
+    unreadable-requires-2
     returns-2
     after-place-requires
     parse-ring-bond-count-requires

@@ -1,13 +1,13 @@
-use Rattle.segment.proofs.Laws.{list-many, list-refused, list-read}
+use Rattle.ring.proofs.Laws.{list-many, list-refused, list-read}
 use borrow.Author.Needs.{needs}
-use Rattle.segment.proofs.parse_ring_list.Statement.{statement}
-use Rattle.segment.proofs.parse_ring_list.Tie as tie
+use Rattle.ring.proofs.parse_ring_list.Statement.{statement}
+use Rattle.ring.proofs.parse_ring_list.Tie as tie
 
 position-count-requires : tie.Need-position-count-requires
 position-count-requires c κs = search needs
 
-refused-requires : tie.Need-refused-requires
-refused-requires c κs = search needs
+unreadable-requires : tie.Need-unreadable-requires
+unreadable-requires c κs = search needs
 
 returns : tie.Need-returns
 returns c = search list-many
@@ -35,7 +35,7 @@ parse-ring-list-spec =
     tie.close
     (tie.spec
     position-count-requires
-    refused-requires
+    unreadable-requires
     returns
     cast-parse-ring-bonds
     cast-parse-ring-bonds-2

@@ -1,7 +1,7 @@
-use Rattle.segment.proofs.Laws.{bonds-unreadable, bonds-unlisted, bonds-listed}
+use Rattle.ring.proofs.Laws.{bonds-unreadable, bonds-unlisted, bonds-listed}
 use borrow.Author.Needs.{needs}
-use Rattle.segment.proofs.parse_ring_bond_count.Statement.{statement}
-use Rattle.segment.proofs.parse_ring_bond_count.Tie as tie
+use Rattle.ring.proofs.parse_ring_bond_count.Statement.{statement}
+use Rattle.ring.proofs.parse_ring_bond_count.Tie as tie
 
 find-requires : tie.Need-find-requires
 find-requires c κs = search needs
@@ -24,8 +24,8 @@ enum-known-n c = search needs
 enum-told : tie.Need-enum-told
 enum-told c = search needs
 
-refused-requires : tie.Need-refused-requires
-refused-requires c κs = search needs
+unreadable-requires : tie.Need-unreadable-requires
+unreadable-requires c κs = search needs
 
 returns : tie.Need-returns
 returns c = search bonds-unreadable
@@ -65,7 +65,7 @@ parse-ring-bond-count-spec =
     ring-count-requires
     enum-known-n
     enum-told
-    refused-requires
+    unreadable-requires
     returns
     push-ring-requires
     returns-2

@@ -1,7 +1,7 @@
-use Rattle.segment.proofs.Laws.{start-unreadable, end-unreadable, ring-segment-is}
+use Rattle.ring.proofs.Laws.{start-unreadable, end-unreadable, ring-segment-is}
 use borrow.Author.Needs.{needs}
-use Rattle.segment.proofs.parse_ring_segment.Statement.{statement}
-use Rattle.segment.proofs.parse_ring_segment.Tie as tie
+use Rattle.ring.proofs.parse_ring_segment.Statement.{statement}
+use Rattle.ring.proofs.parse_ring_segment.Tie as tie
 
 sub-trimmed-number : tie.Need-sub-trimmed-number
 sub-trimmed-number c = search needs
@@ -21,8 +21,8 @@ enum-known-start c = search needs
 enum-told : tie.Need-enum-told
 enum-told c = search needs
 
-refused-requires : tie.Need-refused-requires
-refused-requires c κs = search needs
+unreadable-requires : tie.Need-unreadable-requires
+unreadable-requires c κs = search needs
 
 returns : tie.Need-returns
 returns c = search start-unreadable
@@ -48,8 +48,8 @@ enum-known-end c = search needs
 enum-told-2 : tie.Need-enum-told-2
 enum-told-2 c = search needs
 
-refused-requires-2 : tie.Need-refused-requires-2
-refused-requires-2 c κs = search needs
+unreadable-requires-2 : tie.Need-unreadable-requires-2
+unreadable-requires-2 c κs = search needs
 
 returns-2 : tie.Need-returns-2
 returns-2 c = search end-unreadable
@@ -82,7 +82,7 @@ parse-ring-segment-spec =
     trimmed-number-requires
     enum-known-start
     enum-told
-    refused-requires
+    unreadable-requires
     returns
     add-trimmed-number
     sub-trimmed-number-2
@@ -91,7 +91,7 @@ parse-ring-segment-spec =
     trimmed-number-requires-2
     enum-known-end
     enum-told-2
-    refused-requires-2
+    unreadable-requires-2
     returns-2
     add-parse-ring-size
     sub-parse-ring-size

@@ -1,0 +1,128 @@
+-- Laws of ring segments: one for each way out.
+-- Assumes nothing.
+use Prim.Native.Nat.{ℕ, _+_, _-_, _≤_, _<_}
+use native.Mathlib.Nat.{sub-zero}
+use native.Mathlib.Numerals.{add-one}
+use mathlib.Core.Path.{_≡_, refl, sym, _∙_}
+use mathlib.Core.Bool.{Bool, true, false, not}
+use mathlib.Core.List.{List, [], _∷_}
+use lib.ListN.{length, take, drop}
+use borrow.Author.Tests.{lt-ltb, le-ltb, eq-eqb, ne-eqb, not-true, not-false}
+use denote.Enum.Declared.{tagOf}
+use types.Run.{OneOf, miss}
+use Rattle.features.proofs.Segment.{the-type}
+use Rattle.scan.specs.Part.{Place, indexOf}
+use Rattle.scan.specs.declared.Number.{Number}
+use Rattle.scan.specs.declared.Number.the-variants.{Value as Number·Value, Unreadable as Number·Unreadable}
+use Rattle.scan.proofs.Laws.{to-end}
+use Rattle.form.specs.Parts.{listParts}
+use Rattle.form.specs.Form.{endsInParenthesis, afterPlace}
+use Rattle.form.specs.Numbers.{trimmedNumber, ringCount}
+use Rattle.record.specs.declared.Ring.{Ring}
+use Rattle.record.specs.declared.ParsedChain.{ParsedChain}
+use Rattle.record.specs.declared.Parsed.{Parsed}
+use Rattle.record.specs.Chain.{Chain, Outcome, Read, Refused, withRing, Takes, Gives}
+use Rattle.record.proofs.Laws.{gives-read, gives-same, gives-stop, gives-then}
+use Rattle.positions.specs.Positions.{ringBondList}
+use Rattle.positions.proofs.Refusals.{gives-11}
+use Rattle.features.specs.Features.{ringOf}
+use Rattle.features.specs.declared.Segment.{Segment}
+use Rattle.features.specs.declared.Segment.the-variants.{Cycle, Located, Repeated, Oxygens, Unreadable}
+use Rattle.ring.specs.Ring.{ringOr11, closedOr11, ringList, ringListed, ringBonds, ringSized, ringSegment}
+
+-- ---- a list that has to be closed
+
+module _ (f : List ℕ → Chain → Outcome) (s : List ℕ) (c : ParsedChain) (r : Parsed) (b : Bool) (e : b ≡ endsInParenthesis s) where
+  pub closed-not : not b ≡ true → r .refusal ≡ 11 → Gives c r (closedOr11 f s)
+  unfolding closedOr11
+  closed-not h k = gives-11 c r (closedOr11 f s) k (λ d u. rw (sym e ∙ not-true b h))
+
+  pub closed-by : not b ≡ false → Gives c r (f (take (length s - 1 - 0) s)) → Gives c r (closedOr11 f s)
+  unfolding closedOr11
+  closed-by h w = gives-same w (λ d u. rw (sub-zero (length s - 1), sym e ∙ not-false b h))
+
+-- ---- a ring
+
+module _ (g : Ring) (n : ℕ) (list : List ℕ) (c : ParsedChain) (m : ℕ) (e : m ≡ length (listParts list)) where
+  pub list-many : (r : Parsed) → n < m → r .refusal ≡ 11 → Gives c r (ringList g n list)
+  unfolding ringList
+  list-many r h k = gives-11 c r (ringList g n list) k (λ d u. rw (← e, lt-ltb n m h))
+
+  module _ (h : m ≤ n) (q : Parsed) (w : Gives c q (ringBondList (g .start) (g .end) list)) where
+    pub list-refused : (q .refusal ≡ 0 → ⊥) → Gives c q (ringList g n list)
+    unfolding ringList
+    list-refused k = gives-same (gives-stop (λ e. Read (withRing g e)) w k) (λ d u. sym (rw (← e, le-ltb n m h)))
+
+    pub list-read : (z : ParsedChain) → q .refusal ≡ 0 → Takes (q .chain) z (withRing g) → Gives c (record { refusal = 0; chain = z }) (ringList g n list)
+    unfolding ringList
+    list-read z k t = gives-same (gives-then w k (gives-read t)) (λ d u. sym (rw (← e, le-ltb n m h)))
+
+module _ (g : Ring) (n : ℕ) (s : List ℕ) (c : ParsedChain) (r : Parsed) (b : Bool) (e : b ≡ endsInParenthesis s) where
+  pub ring-open : not b ≡ true → r .refusal ≡ 11 → Gives c r (ringListed g n s)
+  unfolding ringListed
+  ring-open h k = closed-not (ringList g n) s c r b e h k
+
+  pub ring-closed : not b ≡ false → Gives c r (ringList g n (take (length s - 1 - 0) s)) → Gives c r (ringListed g n s)
+  unfolding ringListed
+  ring-closed h w = closed-by (ringList g n) s c r b e h w
+
+module _ (g : Ring) (s : List ℕ) (c : ParsedChain) (q : ℕ) (p : Place s (indexOf 40 s) q) (a : Number) (e : a ≡ ringCount (take (q - 0) s)) where
+  count-at : ringCount (take (indexOf 40 s) s) ≡ a
+  count-at = rw (sub-zero q, p .is) at (sym e)
+
+  pub bonds-unreadable : (r : Parsed) → a ≡ Number·Unreadable → r .refusal ≡ 11 → Gives c r (ringBonds g s)
+  unfolding ringBonds
+  bonds-unreadable r h k = gives-11 c r (ringBonds g s) k (λ d u. rw (count-at ∙ h))
+
+  module _ (n : ℕ) (h : a ≡ Number·Value n) where
+    pub bonds-unlisted : (z : ParsedChain) → q ≡ length s → Takes c z (withRing g) → Gives c (record { refusal = 0; chain = z }) (ringBonds g s)
+    unfolding ringBonds
+    bonds-unlisted z k t = gives-same (gives-read t) (λ d u. sym (rw (count-at ∙ h, ← p .is, eq-eqb q (length s) k)))
+
+    pub bonds-listed : (r : Parsed) → (q ≡ length s → ⊥) → Gives c r (ringListed g n (take (length s - (q + 1)) (drop (q + 1) s))) → Gives c r (ringBonds g s)
+    unfolding ringBonds
+    bonds-listed r k w = gives-same w (λ d u. rw (to-end (q + 1) s, add-one q) (sym (rw (count-at ∙ h, ← p .is, ne-eqb q (length s) k))))
+
+-- an answer whose variant is not the ring's, the first
+no-ring : (g : Segment) (f : Ring → Outcome) → OneOf (1 ∷ 2 ∷ 3 ∷ 4 ∷ []) (tagOf the-type g) → ringOr11 g f ≡ Refused 11
+no-ring (Cycle r) f n = absurd (miss (1 ∷ 2 ∷ 3 ∷ 4 ∷ []) 0 tt n)
+no-ring (Located g) f n = refl
+no-ring (Repeated row m) f n = refl
+no-ring (Oxygens m) f n = refl
+no-ring Unreadable f n = refl
+
+module _ (start end : ℕ) (s : List ℕ) (c : ParsedChain) (m : ℕ) (p : Place s (indexOf 58 s) m) (a : Number) (e : a ≡ trimmedNumber (take (m - 0) s)) (r : Parsed) where
+  size-at : trimmedNumber (take (indexOf 58 s) s) ≡ a
+  size-at = rw (sub-zero m, p .is) at (sym e)
+
+  pub size-unreadable : a ≡ Number·Unreadable → r .refusal ≡ 11 → Gives c r (ringSized start end s)
+  unfolding ringSized
+  size-unreadable h k = gives-11 c r (ringSized start end s) k (λ d u. rw (size-at ∙ h))
+
+  module _ (size : ℕ) (h : a ≡ Number·Value size) (g : Segment) (f : g ≡ ringOf start end size (c .carbon)) where
+    pub size-wrong : OneOf (1 ∷ 2 ∷ 3 ∷ 4 ∷ []) (tagOf the-type g) → r .refusal ≡ 11 → Gives c r (ringSized start end s)
+    unfolding ringSized
+    size-wrong n k =
+        gives-11 c r (ringSized start end s) k
+        (λ d u. let z : ringOf start end size (d .carbon) ≡ g = rw (← u .carbon) (sym f) in rw (size-at ∙ h, z) (no-ring g (λ r. ringBonds r (afterPlace (indexOf 58 s) s) d) n))
+
+    pub size-sized : (t : List ℕ) (ring : Ring) → g ≡ Cycle ring → t ≡ afterPlace m s → Gives c r (ringBonds ring t) → Gives c r (ringSized start end s)
+    unfolding ringSized
+    size-sized t ring k l w = gives-same w (λ d u. sym (rw (size-at ∙ h, ← u .carbon, sym f ∙ k, ← p .is, ← l)))
+
+module _ (s : List ℕ) (dash cy : ℕ) (c : ParsedChain) (r : Parsed) (a : Number) (e : a ≡ trimmedNumber (take (dash - 0) s)) where
+  start-at : trimmedNumber (take dash s) ≡ a
+  start-at = rw (sub-zero dash) at (sym e)
+
+  pub start-unreadable : a ≡ Number·Unreadable → r .refusal ≡ 11 → Gives c r (ringSegment s dash cy)
+  unfolding ringSegment
+  start-unreadable h k = gives-11 c r (ringSegment s dash cy) k (λ d u. rw (start-at ∙ h))
+
+  module _ (start : ℕ) (h : a ≡ Number·Value start) (b : Number) (f : b ≡ trimmedNumber (take (cy - (dash + 1)) (drop (dash + 1) s))) where
+    pub end-unreadable : b ≡ Number·Unreadable → r .refusal ≡ 11 → Gives c r (ringSegment s dash cy)
+    unfolding ringSegment
+    end-unreadable i k = gives-11 c r (ringSegment s dash cy) k (λ d u. rw (start-at ∙ h, sym f ∙ i))
+
+    pub ring-segment-is : (end : ℕ) → b ≡ Number·Value end → Gives c r (ringSized start end (take (length s - (cy + 2)) (drop (cy + 2) s))) → Gives c r (ringSegment s dash cy)
+    unfolding ringSegment
+    ring-segment-is end i w = gives-same w (λ d u. rw (to-end (cy + 2) s) (sym (rw (start-at ∙ h, sym f ∙ i))))
