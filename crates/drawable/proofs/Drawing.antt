@@ -40,7 +40,7 @@ held-chain {c} {d} k w =
 
 -- ---- an acyl place is as a slot
 
-acyl-as-slot : (p : ChainPrefix) → isAcyl Slot p ≡ isAcyl Acyl p
+pub acyl-as-slot : (p : ChainPrefix) → isAcyl Slot p ≡ isAcyl Acyl p
 unfolding isAcyl
 acyl-as-slot prefix.Acyl = refl
 acyl-as-slot prefix.EtherAlkyl = refl

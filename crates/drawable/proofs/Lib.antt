@@ -2,3 +2,5 @@ pub mod Held
 pub mod Through
 pub mod Lists
 pub mod Drawing
+pub mod Features
+pub mod Reach

@@ -1,15 +1,17 @@
 -- Laws of a loop that looks through a list, place by place: what is left of the list from place i on, and one law for each way out and each
 -- turn. The invariant of such a loop is that the definition on the whole is the definition on what is left.
 -- Assumes nothing.
-use Prim.Native.Nat.{ℕ, suc, _+_, _<_, _≤_}
+use Prim.Native.Nat.{ℕ, suc, _+_, _<_, _≤_, max}
 use native.Mathlib.Numerals.{add-one}
 use native.Mathlib.Omega.{arith}
 use mathlib.Core.Path.{_≡_, refl, sym, ap, _∙_}
 use mathlib.Core.Bool.{Bool, true, false, cond}
-use mathlib.Core.List.{List, [], _∷_, _++_, append-assoc, append-nil}
+use mathlib.Core.List.{List, [], _∷_, _++_, map, append-assoc, append-nil}
 use lib.ListN.{length, take, drop, getD, length-append, drop-of-length-le}
 use lib.Seq.{drop-cons, take-all}
-use Rattle.chain.specs.Lists.{anyOf, only}
+use lib.Dec.{ltb}
+use borrow.Author.Tests.{lt-ltb, le-ltb}
+use Rattle.chain.specs.Lists.{anyOf, allOf, anyTwo, only, largest}
 use Rattle.drawable.specs.Drawn.{Length}
 
 module _ {A : Type 0} (room : ℕ) (l : List A) (n i : ℕ) (d a : A) (w : Length room l n) where
@@ -20,22 +22,39 @@ module _ {A : Type 0} (room : ℕ) (l : List A) (n i : ℕ) (d a : A) (w : Lengt
   pub left-none : n ≤ i → drop i l ≡ []
   left-none h = drop-of-length-le l {i = i} (omega (arith, w .is))
 
--- ---- whether some element passes a test
+-- ---- whether some element passes a test; what was asked is v
 
-module _ {A : Type 0} (test : A → Bool) (room : ℕ) (l : List A) (n i : ℕ) (d a : A) (t : Bool) (w : Length room l n)
-    (v : anyOf test l ≡ anyOf test (drop i l)) where
-  pub any-here : i < n → a ≡ getD l i d → t ≡ test a → t ≡ true → true ≡ anyOf test l
+module _ {A : Type 0} (v : Bool) (test : A → Bool) (room : ℕ) (l : List A) (n i : ℕ) (d a : A) (t : Bool) (w : Length room l n)
+    (same : v ≡ anyOf test (drop i l)) where
+  pub any-here : i < n → a ≡ getD l i d → t ≡ test a → t ≡ true → true ≡ v
   unfolding anyOf
-  any-here h e f g = sym (v ∙ rw (left-here room l n i d a w h e, sym f ∙ g))
+  any-here h e f g = sym (same ∙ rw (left-here room l n i d a w h e, sym f ∙ g))
 
-  pub any-next : i < n → a ≡ getD l i d → t ≡ test a → t ≡ false → anyOf test l ≡ anyOf test (drop (i + 1) l)
+  pub any-next : i < n → a ≡ getD l i d → t ≡ test a → t ≡ false → v ≡ anyOf test (drop (i + 1) l)
   unfolding anyOf
-  any-next h e f g = v ∙ rw (left-here room l n i d a w h e, sym f ∙ g)
+  any-next h e f g = same ∙ rw (left-here room l n i d a w h e, sym f ∙ g)
 
-module _ {A : Type 0} (test : A → Bool) (room : ℕ) (l : List A) (n i : ℕ) (w : Length room l n) (v : anyOf test l ≡ anyOf test (drop i l)) where
-  pub any-none : n ≤ i → false ≡ anyOf test l
+module _ {A : Type 0} (v : Bool) (test : A → Bool) (room : ℕ) (l : List A) (n i : ℕ) (w : Length room l n) (same : v ≡ anyOf test (drop i l)) where
+  pub any-none : n ≤ i → false ≡ v
   unfolding anyOf
-  any-none h = sym (v ∙ rw (drop-of-length-le l {i = i} (omega (arith, w .is))))
+  any-none h = sym (same ∙ rw (drop-of-length-le l {i = i} (omega (arith, w .is))))
+
+-- ---- whether two elements stand in a relation
+
+module _ {A : Type 0} (v : Bool) (rel : A → A → Bool) (room : ℕ) (l : List A) (n i : ℕ) (d a : A) (t : Bool) (w : Length room l n)
+    (same : v ≡ anyTwo rel (drop i l)) where
+  pub two-here : i < n → a ≡ getD l i d → t ≡ anyOf (rel a) (drop (i + 1) l) → t ≡ true → true ≡ v
+  unfolding anyTwo
+  two-here h e f g = sym (same ∙ rw (left-here room l n i d a w h e, sym f ∙ g))
+
+  pub two-next : i < n → a ≡ getD l i d → t ≡ anyOf (rel a) (drop (i + 1) l) → t ≡ false → v ≡ anyTwo rel (drop (i + 1) l)
+  unfolding anyTwo
+  two-next h e f g = same ∙ rw (left-here room l n i d a w h e, sym f ∙ g)
+
+module _ {A : Type 0} (v : Bool) (rel : A → A → Bool) (room : ℕ) (l : List A) (n i : ℕ) (w : Length room l n) (same : v ≡ anyTwo rel (drop i l)) where
+  pub two-none : n ≤ i → false ≡ v
+  unfolding anyTwo
+  two-none h = sym (same ∙ rw (drop-of-length-le l {i = i} (omega (arith, w .is))))
 
 -- ---- the elements that pass a test, those found so far being k
 
@@ -56,3 +75,31 @@ pub only-all : {A : Type 0} (test : A → Bool) (room : ℕ) (l : List A) (n i :
     → k ≡ only test l
 unfolding only
 only-all test room l n i k w v h = sym (append-nil k) ∙ rw (drop-of-length-le l {i = i} (omega (arith, w .is))) at v
+
+-- ---- whether every element's number passes a test
+
+module _ {A : Type 0} (v : Bool) (bound : ℕ) (f : A → ℕ) (room : ℕ) (l : List A) (n i : ℕ) (d a : A) (w : Length room l n)
+    (same : v ≡ allOf (ltb bound) (map f (drop i l))) (h : i < n) (e : a ≡ getD l i d) where
+  pub past-not : f a ≤ bound → false ≡ v
+  unfolding allOf
+  past-not g = sym (same ∙ rw (left-here room l n i d a w h e, le-ltb bound (f a) g))
+
+  pub past-next : bound < f a → v ≡ allOf (ltb bound) (map f (drop (i + 1) l))
+  unfolding allOf
+  past-next g = same ∙ rw (left-here room l n i d a w h e, lt-ltb bound (f a) g)
+
+module _ {A : Type 0} (v : Bool) (bound : ℕ) (f : A → ℕ) (room : ℕ) (l : List A) (n i : ℕ) (w : Length room l n) (same : v ≡ allOf (ltb bound) (map f (drop i l))) where
+  pub past-all : n ≤ i → true ≡ v
+  unfolding allOf
+  past-all h = sym (same ∙ rw (drop-of-length-le l {i = i} (omega (arith, w .is))))
+
+-- ---- the largest of the elements' numbers and m
+
+module _ {A : Type 0} (v : ℕ) (f : A → ℕ) (room : ℕ) (l : List A) (n i m : ℕ) (w : Length room l n) (same : v ≡ largest m (map f (drop i l))) where
+  pub reach-next : (d a : A) (k : ℕ) → i < n → a ≡ getD l i d → k ≡ max m (f a) → v ≡ largest k (map f (drop (i + 1) l))
+  unfolding largest
+  reach-next d a k h e g = same ∙ rw (left-here room l n i d a w h e, g)
+
+  pub reach-all : n ≤ i → m ≡ v
+  unfolding largest
+  reach-all h = sym (same ∙ rw (drop-of-length-le l {i = i} (omega (arith, w .is))))

@@ -1,8 +1,8 @@
 -- Which lists a chain as it is drawn holds: what the contracts of `drawable` cite, beside the definitions of `chain`. Assumes nothing.
-use Prim.Native.Nat.{ℕ, _≤_, min}
+use Prim.Native.Nat.{ℕ, _+_, _*_, _≤_, min}
 use mathlib.Core.Path.{_≡_}
-use mathlib.Core.List.{List}
-use mathlib.Core.Bool.{Bool}
+use mathlib.Core.List.{List, _++_, map}
+use mathlib.Core.Bool.{Bool, cond}
 use lib.Dec.{eqb}
 use lib.ListN.{length, take}
 use Rattle.record.specs.declared.Geometry.the-variants.{Unstated}
@@ -56,9 +56,36 @@ pub record Length {A : Type 0} (room : ℕ) (l : List A) (n : ℕ) : Type 0 wher
   pub is : n ≡ length l
   pub fits : n ≤ room
 
+-- whether a double bond stands at p
+abbrev pub bondAt : ℕ → DbPos → Bool
+bondAt p b = eqb (b .pos) p
+
 -- whether a group sits at p
 abbrev pub groupAt : ℕ → Mod → Bool
 groupAt p g = eqb (g .pos) p
+
+-- the carbon at which a double bond ends
+abbrev pub bondReach : DbPos → ℕ
+bondReach b = b .pos + 1
+
+-- what a group pins
+abbrev pub groupPin : Mod → ℕ
+groupPin g = g .pos
+
+-- what a ring pins, and where it ends
+abbrev pub ringPin : Ring → ℕ
+ringPin x = x .start
+
+abbrev pub ringReach : Ring → ℕ
+ringReach x = x .end
+
+abbrev pub pinsIn : Groups → Rings → List ℕ
+pinsIn gs rs = map groupPin (groupsIn gs) ++ map ringPin (ringsIn rs)
+
+-- m is the number of carbons that n double bonds without a position take
+pub record Flexible (n m : ℕ) : Type 0 where
+  pub is : m ≡ cond (eqb n 0) 0 (2 * n + 2)
+  pub fits : m ≤ 131072
 
 -- the chain that a record of the code holds, a count past its limit counting as the limit
 unfoldable pub chainOf : ParsedChain → Chain
@@ -76,3 +103,12 @@ pub record Draws (r : Role) (d : Chain) (x : Drawn) : Type 0 where
   pub groups : groupsIn (x .groups) ≡ groupsOn r d
   pub floats : groupsIn (x .floats) ≡ floating d
   pub rings : ringsIn (x .rings) ≡ d .rings
+
+-- a is what f says of every chain that x draws
+pub record Says {A : Type 0} (x : Drawn) (a : A) (f : Role → Chain → A) : Type 0 where
+  pub is : (r : Role) (d : Chain) → Draws r d x → a ≡ f r d
+
+-- n is what f says of every chain that x draws, and no carbon past its last
+pub record SaysUpTo (x : Drawn) (n : ℕ) (f : Role → Chain → ℕ) : Type 0 where
+  pub says : Says x n f
+  pub fits : n ≤ x .carbon

@@ -21,8 +21,13 @@ ghost use lib.ListN.{take, getD};
 ghost use Rattle.chain.specs.declared.Role.the-variants.{Slot, Base};
 ghost use Rattle.chain.specs.Lists.{anyOf};
 ghost use Rattle.chain.specs.Features.{firstDrawn, isAcyl, alkenylBond, doubles, located, unlocated, oxygenAt, baseOxygens};
-ghost use Rattle.chain.specs.Refusals.{isEther, etherBase};
+ghost use Rattle.chain.specs.Refusals.{isEther, etherBase, isSphingoid, wrongKind};
 ghost use Rattle.drawable.specs.Drawn.{bondsIn, groupsIn, ringsIn, noBond, noGroup, noRing, bondRoom, groupRoom, ringRoom, Length, chainOf, groupAt, Draws};
+
+// place.rt: what does not fit on the chain, 32 and 33
+pub mod place;
+// draw.rt: what cannot be drawn, 12 to 15, and how far the chain is drawn as it is written
+pub mod draw;
 
 // Room for the double bonds read and for the one that `P-` adds.
 pub const BOND_ROOM: usize = 33;
@@ -416,5 +421,42 @@ pub fn drawn_as(role: Role, chain: ParsedChain) -> Drawn
         groups,
         floats,
         rings,
+    }
+}
+
+// d or t.
+fn is_sphingoid(prefix: ChainPrefix) -> bool
+    ensures { λ r. ⌜ r ≡ isSphingoid prefix ⌝ }
+{
+    match prefix {
+        ChainPrefix::Acyl => false,
+        ChainPrefix::EtherAlkyl => false,
+        ChainPrefix::EtherAlkenyl => false,
+        ChainPrefix::SphingoidD => true,
+        ChainPrefix::SphingoidT => true,
+    }
+}
+
+// 22: whether a chain is of the wrong kind for its place. A slot takes any chain but d and t with carbons, an acyl place an acyl chain with
+// carbons, and a base's place any chain of 4 carbons or more.
+pub fn wrong_kind(role: Role, chain: ParsedChain) -> bool
+    ensures { λ r. ⌜ r ≡ wrongKind role (chainOf chain) ⌝ }
+{
+    let prefix = chain.prefix;
+    let carbon = chain.carbon;
+    match role {
+        Role::Slot => {
+            if is_sphingoid(prefix) {
+                return carbon > 0;
+            }
+            false
+        }
+        Role::Acyl => {
+            if is_unprefixed(prefix) {
+                return carbon == 0;
+            }
+            true
+        }
+        Role::Base => carbon < 4,
     }
 }

@@ -1,6 +1,5 @@
 use borrow.Author.Needs.{needs}
-use Prim.Native.Nat.{_≤_, _-_}
-use native.Mathlib.Omega.{arith}
+use Prim.Native.Nat.{_-_}
 use mathlib.Core.Path.{_≡_, refl}
 use lib.ListN.{drop}
 use Rattle.chain.specs.Lists.{anyOf}
@@ -10,7 +9,7 @@ use Rattle.drawable.proofs.group_at.Statement.{statement}
 use Rattle.drawable.proofs.group_at.Tie as tie
 
 abbrev Inv-loop : tie.InvT-loop
-Inv-loop groups p n i₀ i = (anyOf (groupAt p) (groupsIn groups) ≡ anyOf (groupAt p) (drop i (groupsIn groups))) × (i ≤ n)
+Inv-loop groups p n i₀ i = anyOf (groupAt p) (groupsIn groups) ≡ anyOf (groupAt p) (drop i (groupsIn groups))
 
 abbrev μ-loop : tie.MeasureT-loop
 μ-loop groups p n i₀ i = n - i
@@ -19,7 +18,7 @@ len-requires : tie.Need-len-requires Inv-loop μ-loop
 len-requires c κs = search needs
 
 loop-holds : tie.Need-loop-holds Inv-loop μ-loop
-loop-holds c = (refl, omega arith)
+loop-holds c = refl
 
 at-requires : tie.Need-at-requires Inv-loop μ-loop
 at-requires c κs = search needs
@@ -37,7 +36,7 @@ loop-less : tie.Need-loop-less Inv-loop μ-loop
 loop-less c = search needs
 
 loop-again : tie.Need-loop-again Inv-loop μ-loop
-loop-again c = (search any-next, omega arith)
+loop-again c = search any-next
 
 returns-2 : tie.Need-returns-2 Inv-loop μ-loop
 returns-2 c = search any-none
