@@ -1,1 +1,3 @@
 pub mod BuiltLaws
+pub mod Templates
+pub mod Rows

@@ -84,7 +84,7 @@ sites-clear (at i js) =
 
 -- ---- labels
 
-pub LabelFits : ℕ → Type 0
+unfoldable pub LabelFits : ℕ → Type 0
 LabelFits sn = (1 ≤ sn) × (sn ≤ 4)
 
 within-yes : (lo hi x : ℕ) → lo ≤ x → x ≤ hi → within lo hi x ≡ true

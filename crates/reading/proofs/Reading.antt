@@ -20,12 +20,12 @@ unfolding andThen prepend
 andThen-prepend a fail k = refl
 andThen-prepend a (ok rs s) k = sym (prepend-prepend a rs (k s))
 
-andThen-assoc : (o : Out) (j k : State → Out) → andThen (andThen o j) k ≡ andThen o (λ s. andThen (j s) k)
+pub andThen-assoc : (o : Out) (j k : State → Out) → andThen (andThen o j) k ≡ andThen o (λ s. andThen (j s) k)
 unfolding andThen
 andThen-assoc fail j k = refl
 andThen-assoc (ok rs s) j k = andThen-prepend rs (j s) k
 
-prepend-nil : (o : Out) → prepend [] o ≡ o
+pub prepend-nil : (o : Out) → prepend [] o ≡ o
 unfolding prepend
 prepend-nil fail = refl
 prepend-nil (ok rs s) = refl
@@ -49,7 +49,7 @@ pub record Steps (u : Piece) (s : State) (r : List Row) (s′ : State) : Type 0 
 pub fail≢ok : {r : List Row} {s : State} → fail ≡ ok r s → ⊥
 fail≢ok e = let z : _≡_ {A = ℕ} 0 1 = cc in omega arith
 
-then-ok : (o : Out) {r r′ : List Row} {s s′ : State} (k : State → Out) → o ≡ ok r s → k s ≡ ok r′ s′ → andThen o k ≡ ok (r ++ r′) s′
+pub then-ok : (o : Out) {r r′ : List Row} {s s′ : State} (k : State → Out) → o ≡ ok r s → k s ≡ ok r′ s′ → andThen o k ≡ ok (r ++ r′) s′
 unfolding andThen prepend
 then-ok o k e f = rw (e, f)
 

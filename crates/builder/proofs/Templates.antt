@@ -1,0 +1,213 @@
+-- What is asked of a template, as tests that compute, so that one theorem serves every template: the eight of 01 pass them.
+-- Assumes nothing.
+use Prim.Native.Nat.{ℕ, zero, suc, _+_, _^_, _≤_, _<_}
+use mathlib.Core.Path.{_≡_, refl, sym, ap, _∙_}
+use mathlib.Core.Bool.{Bool, true, false, cond, not, _||_, _&&_}
+use mathlib.Core.Option.{Option, none, some}
+use mathlib.Core.List.{List, [], _∷_, _++_}
+use lib.ListN.{length}
+use lib.Dec.{eqb, ltb, leb}
+use Rattle.scan.specs.Part.{sameBytes}
+use Rattle.reading.specs.Ascii.{ascii}
+use Rattle.reading.specs.Piece.{Piece, atom, mark, dot, lpar, rpar}
+use Rattle.reading.specs.Lexer.{piecesOf}
+use Rattle.reading.specs.Machine.{Phase, fresh, opened, after, marked, plainly}
+use Rattle.reading.specs.Line.{below, distinct}
+use Rattle.reading.proofs.PartingLaws.{and-left, and-right}
+use Rattle.chain.specs.declared.Role.{Role}
+use Rattle.chain.specs.declared.Role.the-variants as role
+use Rattle.chain.specs.Lists.{anyOf, allOf}
+use Rattle.chain.proofs.Branches.{unlabelled}
+use Rattle.builder.specs.declared.Class.{Class}
+use Rattle.builder.specs.declared.Class.the-variants.{Fa, Gl1, Gl2, Gl3, Gp, Cl, Sb, Sa}
+use Rattle.builder.specs.Template.{Element, fixed, tail, slot, chain, elements, glycerol, roleOf, hasTail}
+use Rattle.builder.specs.Request.{fixedPieces, atomsOfPiece, atomsOfPieces}
+
+-- ---- a template's own pieces are a run
+
+-- where the machine stands: how many branches are open, and its phase; or it has failed
+pub data Turn : Type 0 where
+  no : Turn
+  to : ℕ → Phase → Turn
+
+unfoldable pub turnPiece : Piece → ℕ → Phase → Turn
+turnPiece (atom b []) k ph = to k after
+turnPiece (atom b (l ∷ ls)) k ph = no
+turnPiece (mark m) k fresh = no
+turnPiece (mark m) k opened = to k (marked (plainly m))
+turnPiece (mark m) k after = to k (marked (plainly m))
+turnPiece (mark m) k (marked m′) = no
+turnPiece dot k fresh = no
+turnPiece dot k opened = no
+turnPiece dot k after = to k fresh
+turnPiece dot k (marked m) = no
+turnPiece lpar k fresh = no
+turnPiece lpar k opened = no
+turnPiece lpar k after = to (suc k) opened
+turnPiece lpar k (marked m) = no
+turnPiece rpar zero ph = no
+turnPiece rpar (suc k) fresh = no
+turnPiece rpar (suc k) opened = no
+turnPiece rpar (suc k) after = to k after
+turnPiece rpar (suc k) (marked m) = no
+
+unfoldable pub andTurn : Turn → (ℕ → Phase → Turn) → Turn
+andTurn no f = no
+andTurn (to k ph) f = f k ph
+
+unfoldable pub turnPieces : List Piece → ℕ → Phase → Turn
+unfolding turnPiece andTurn
+turnPieces [] k ph = to k ph
+turnPieces (u ∷ us) k ph = andTurn (turnPiece u k ph) (λ k′ ph′. turnPieces us k′ ph′)
+
+-- a part hangs on an opening or an atom, a chain on an atom
+unfoldable pub turnTail : ℕ → Phase → Turn
+turnTail k fresh = no
+turnTail k opened = to k after
+turnTail k after = to k after
+turnTail k (marked m) = no
+
+unfoldable pub turnChain : ℕ → Phase → Turn
+turnChain k fresh = no
+turnChain k opened = no
+turnChain k after = to k after
+turnChain k (marked m) = no
+
+unfoldable pub turnElement : Element → ℕ → Phase → Turn
+unfolding turnPieces fixedPieces turnTail turnChain
+turnElement (fixed b) k ph = turnPieces (fixedPieces b) k ph
+turnElement tail k ph = turnTail k ph
+turnElement (slot sn) k ph = to k after
+turnElement (chain sn r) k ph = turnChain k ph
+
+unfoldable pub turnAll : List Element → ℕ → Phase → Turn
+unfolding turnElement andTurn
+turnAll [] k ph = to k ph
+turnAll (e ∷ es) k ph = andTurn (turnElement e k ph) (λ k′ ph′. turnAll es k′ ph′)
+
+-- it begins with nothing read, and ends after an atom with no branch open
+unfoldable pub ends : Turn → Bool
+ends no = false
+ends (to zero fresh) = false
+ends (to zero opened) = false
+ends (to zero after) = true
+ends (to zero (marked m)) = false
+ends (to (suc k) ph) = false
+
+-- ---- its chains
+
+unfoldable pub snsOf : List Element → List ℕ
+snsOf [] = []
+snsOf (fixed b ∷ es) = snsOf es
+snsOf (tail ∷ es) = snsOf es
+snsOf (slot sn ∷ es) = sn ∷ snsOf es
+snsOf (chain sn r ∷ es) = sn ∷ snsOf es
+
+unfoldable pub sameRole : Role → Role → Bool
+sameRole role.Slot role.Slot = true
+sameRole role.Slot role.Acyl = false
+sameRole role.Slot role.Base = false
+sameRole role.Acyl role.Slot = false
+sameRole role.Acyl role.Acyl = true
+sameRole role.Acyl role.Base = false
+sameRole role.Base role.Slot = false
+sameRole role.Base role.Acyl = false
+sameRole role.Base role.Base = true
+
+-- each chain stands in a place of its role
+unfoldable pub inRole : (ℕ → Role) → Element → Bool
+unfolding sameRole
+inRole ρ (fixed b) = true
+inRole ρ tail = true
+inRole ρ (slot sn) = sameRole (ρ sn) role.Slot
+inRole ρ (chain sn r) = sameRole (ρ sn) r
+
+-- the template's own atoms have no labels
+unfoldable pub isBare : Element → Bool
+unfolding unlabelled fixedPieces
+isBare (fixed b) = unlabelled (fixedPieces b)
+isBare tail = true
+isBare (slot sn) = true
+isBare (chain sn r) = true
+
+unfoldable pub isTailed : Element → Bool
+isTailed (fixed b) = false
+isTailed tail = true
+isTailed (slot sn) = false
+isTailed (chain sn r) = false
+
+abbrev pub isBase : Role → Bool
+isBase role.Slot = false
+isBase role.Acyl = false
+isBase role.Base = true
+
+unfoldable pub hasBase : Element → Bool
+hasBase (fixed b) = false
+hasBase tail = false
+hasBase (slot sn) = false
+hasBase (chain sn r) = isBase r
+
+-- "The base's C1 and C2 are atoms 1 and 0": such a template begins with these two
+unfoldable pub beginsCC : List Piece → Bool
+unfolding sameBytes ascii
+beginsCC (atom a [] ∷ lpar ∷ atom b [] ∷ us) = sameBytes a (ascii "C") && sameBytes b (ascii "C")
+beginsCC [] = false
+beginsCC (mark m ∷ us) = false
+beginsCC (dot ∷ us) = false
+beginsCC (lpar ∷ us) = false
+beginsCC (rpar ∷ us) = false
+beginsCC (atom a (l ∷ ls) ∷ us) = false
+beginsCC (atom a [] ∷ []) = false
+beginsCC (atom a [] ∷ atom b ls ∷ us) = false
+beginsCC (atom a [] ∷ mark m ∷ us) = false
+beginsCC (atom a [] ∷ dot ∷ us) = false
+beginsCC (atom a [] ∷ rpar ∷ us) = false
+beginsCC (atom a [] ∷ lpar ∷ []) = false
+beginsCC (atom a [] ∷ lpar ∷ mark m ∷ us) = false
+beginsCC (atom a [] ∷ lpar ∷ dot ∷ us) = false
+beginsCC (atom a [] ∷ lpar ∷ lpar ∷ us) = false
+beginsCC (atom a [] ∷ lpar ∷ rpar ∷ us) = false
+beginsCC (atom a [] ∷ lpar ∷ atom b (l ∷ ls) ∷ us) = false
+
+unfoldable pub headed : List Element → Bool
+unfolding beginsCC fixedPieces
+headed [] = false
+headed (fixed b ∷ es) = beginsCC (fixedPieces b)
+headed (tail ∷ es) = false
+headed (slot sn ∷ es) = false
+headed (chain sn r ∷ es) = false
+
+-- no more atoms than these
+unfoldable pub mostAtoms : List Element → ℕ
+unfolding atomsOfPieces fixedPieces
+mostAtoms [] = 0
+mostAtoms (fixed b ∷ es) = atomsOfPieces (fixedPieces b) + mostAtoms es
+mostAtoms (tail ∷ es) = 255 + mostAtoms es
+mostAtoms (slot sn ∷ es) = 25001 + mostAtoms es
+mostAtoms (chain sn r ∷ es) = 25000 + mostAtoms es
+
+-- ---- all tests
+
+pub record Fitting (ρ : ℕ → Role) (tailed : Bool) (es : List Element) : Type 0 where
+  pub runs : ends (turnAll es 0 fresh) ≡ true
+  pub bare : allOf isBare es ≡ true
+  pub roles : allOf (inRole ρ) es ≡ true
+  pub apart : distinct (snsOf es) ≡ true
+  pub four : below 5 (snsOf es) ≡ true
+  pub from-one : allOf (ltb 0) (snsOf es) ≡ true
+  pub few : leb (length (snsOf es)) 4 ≡ true
+  pub base : (not (anyOf hasBase es) || headed es) ≡ true
+  pub tails : anyOf isTailed es ≡ tailed
+  pub small : leb (mostAtoms es) 200000 ≡ true
+
+-- THE EIGHT TEMPLATES
+pub fitting : (c : Class) → Fitting (roleOf c) (hasTail c) (elements c)
+unfolding turnAll ends allOf anyOf isBare inRole distinct below snsOf hasBase headed isTailed mostAtoms elements
+fitting Fa = record { runs = refl; bare = refl; roles = refl; apart = refl; four = refl; from-one = refl; few = refl; base = refl; tails = refl; small = refl }
+fitting Gl1 = record { runs = refl; bare = refl; roles = refl; apart = refl; four = refl; from-one = refl; few = refl; base = refl; tails = refl; small = refl }
+fitting Gl2 = record { runs = refl; bare = refl; roles = refl; apart = refl; four = refl; from-one = refl; few = refl; base = refl; tails = refl; small = refl }
+fitting Gl3 = record { runs = refl; bare = refl; roles = refl; apart = refl; four = refl; from-one = refl; few = refl; base = refl; tails = refl; small = refl }
+fitting Gp = record { runs = refl; bare = refl; roles = refl; apart = refl; four = refl; from-one = refl; few = refl; base = refl; tails = refl; small = refl }
+fitting Cl = record { runs = refl; bare = refl; roles = refl; apart = refl; four = refl; from-one = refl; few = refl; base = refl; tails = refl; small = refl }
+fitting Sb = record { runs = refl; bare = refl; roles = refl; apart = refl; four = refl; from-one = refl; few = refl; base = refl; tails = refl; small = refl }
+fitting Sa = record { runs = refl; bare = refl; roles = refl; apart = refl; four = refl; from-one = refl; few = refl; base = refl; tails = refl; small = refl }
