@@ -1,3 +1,4 @@
 pub mod BuiltLaws
 pub mod Templates
 pub mod Rows
+pub mod Placing

@@ -60,7 +60,7 @@ carbonic-after n xs ys i c = record { from = c .from; is = bytes-after (i - n) x
 
 -- ---- the rows of parts and carbons
 
-length-hung : (on n : ℕ) (p : Part) → Hangs p → length (hung on n p) ≡ p .size
+pub length-hung : (on n : ℕ) (p : Part) → Hangs p → length (hung on n p) ≡ p .size
 unfolding hung
 length-hung on n p h = length-map (p .rows) (moveRow (place on n)) ∙ part-size h
 
