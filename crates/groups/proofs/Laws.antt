@@ -84,6 +84,9 @@ named-is s i r b w e = (rw (sub-zero (r .«abbr_len»)) at e) ∙ ap (λ (x : En
 pub abbr-within : (i : ℕ) (r : Row) → RowIs i r → length (r .abbr) ≡ 4 → r .«abbr_len» ≤ length (r .abbr)
 abbr-within i r w l = omega (arith, w .abbr-fits)
 
+pub branch-within : (i : ℕ) (r : Row) → RowIs i r → length (r .branch) ≡ 12 → r .«branch_len» ≤ length (r .branch)
+branch-within i r w l = omega (arith, w .branch-fits)
+
 -- ---- the look through the rows
 
 module _ (A : Found) (s : List ℕ) (i : ℕ) (v : A ≡ lookupFrom i (drop i entries) s) where

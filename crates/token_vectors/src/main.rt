@@ -1,0 +1,244 @@
+// Reads tokens from standard input, one to a line, and writes for each, on a line of its own, the record that the token reader makes of it:
+// `prefix c n bonds groups rings`, or the number of its refusal. It is run on stored vectors and held to the stored answers.
+use libc::STDIN_FILENO;
+use libc::STDOUT_FILENO;
+use record::Bridge;
+use record::ChainPrefix;
+use record::DbPos;
+use record::Geometry;
+use record::Mod;
+use record::ParsedChain;
+use record::Ring;
+
+// One byte past the longest token: a longer line answers as its first 256 bytes do.
+const LINE: usize = 256;
+
+const OUT: usize = 2048;
+
+fn prefix_letter(p: ChainPrefix) -> u8 {
+    match p {
+        ChainPrefix::Acyl => b'A',
+        ChainPrefix::EtherAlkyl => b'O',
+        ChainPrefix::EtherAlkenyl => b'P',
+        ChainPrefix::SphingoidD => b'D',
+        ChainPrefix::SphingoidT => b'T',
+    }
+}
+
+// What stands before an element of a list: a blank before the first, else a comma.
+fn separator(i: usize) -> u8 {
+    if i == 0 { b' ' } else { b',' }
+}
+
+// A list with no element.
+fn put_none(out: &mut [u8], at: usize, count: usize) -> usize {
+    if count == 0 {
+        return emit::put_text(out, at, b" -");
+    }
+    at
+}
+
+fn put_bond(out: &mut [u8], at: usize, bond: DbPos) -> usize {
+    let p = emit::put_number(out, at, bond.pos);
+    let geom = bond.geom;
+    match geom {
+        Geometry::Unstated => p,
+        Geometry::Cis => emit::put_byte(out, p, b'Z'),
+        Geometry::Trans => emit::put_byte(out, p, b'E'),
+    }
+}
+
+fn put_bonds(out: &mut [u8], at: usize, chain: ParsedChain) -> usize {
+    let n = chain.bond_count;
+    let bonds = chain.bonds;
+    let mut p = put_none(out, at, n);
+    let mut i = 0;
+    while i < n {
+        if record::MAX_BONDS <= i {
+            return p;
+        }
+        p = emit::put_byte(out, p, separator(i));
+        p = put_bond(out, p, bonds[i]);
+        i += 1;
+    }
+    p
+}
+
+fn put_branch(out: &mut [u8], at: usize, row: u8) -> usize {
+    let r = groups::row_at(row);
+    let n = r.branch_len;
+    let branch = r.branch;
+    emit::put_text(out, at, &branch[0..n])
+}
+
+fn put_group(out: &mut [u8], at: usize, group: Mod) -> usize {
+    let p = emit::put_number(out, at, group.pos);
+    let q = emit::put_byte(out, p, b':');
+    put_branch(out, q, group.row)
+}
+
+fn put_groups(out: &mut [u8], at: usize, chain: ParsedChain) -> usize {
+    let n = chain.group_count;
+    let groups = chain.groups;
+    let mut p = put_none(out, at, n);
+    let mut i = 0;
+    while i < n {
+        if record::GROUP_ROOM <= i {
+            return p;
+        }
+        p = emit::put_byte(out, p, separator(i));
+        p = put_group(out, p, groups[i]);
+        i += 1;
+    }
+    p
+}
+
+fn put_ring(out: &mut [u8], at: usize, ring: Ring) -> usize {
+    let p = emit::put_number(out, at, ring.start as u32);
+    let q = emit::put_byte(out, p, b'-');
+    let e = emit::put_number(out, q, ring.end as u32);
+    let bridge = ring.bridge;
+    match bridge {
+        Bridge::Epoxide => emit::put_byte(out, e, b'O'),
+        Bridge::Carbocycle => e,
+    }
+}
+
+fn put_rings(out: &mut [u8], at: usize, chain: ParsedChain) -> usize {
+    let n = chain.ring_count;
+    let rings = chain.rings;
+    let mut p = put_none(out, at, n);
+    let mut i = 0;
+    while i < n {
+        if record::MAX_RINGS <= i {
+            return p;
+        }
+        p = emit::put_byte(out, p, separator(i));
+        p = put_ring(out, p, rings[i]);
+        i += 1;
+    }
+    p
+}
+
+// The prefix, c and n.
+fn put_head(out: &mut [u8], at: usize, chain: ParsedChain) -> usize {
+    let prefix = chain.prefix;
+    let p = emit::put_byte(out, at, prefix_letter(prefix));
+    let q = emit::put_byte(out, p, b' ');
+    let r = emit::put_number(out, q, chain.carbon as u32);
+    let s = emit::put_byte(out, r, b' ');
+    emit::put_number(out, s, chain.unlocated as u32)
+}
+
+fn put_record(out: &mut [u8], at: usize, chain: ParsedChain) -> usize {
+    let p = put_head(out, at, chain);
+    let q = put_bonds(out, p, chain);
+    let r = put_groups(out, q, chain);
+    put_rings(out, r, chain)
+}
+
+fn put_answer(out: &mut [u8], token: &[u8]) -> usize {
+    let parsed = token::parse_chain_token(token);
+    let refusal = parsed.refusal;
+    if refusal != 0 {
+        let p = emit::put_number(out, 0, refusal as u32);
+        return emit::put_byte(out, p, b'\n');
+    }
+    let chain = parsed.chain;
+    let q = put_record(out, 0, chain);
+    emit::put_byte(out, q, b'\n')
+}
+
+fn write_answer(out: &mut [u8], token: &[u8]) {
+    let n = put_answer(out, token);
+    if n <= out.len() {
+        io::write_all(STDOUT_FILENO, &out[0..n]);
+    }
+}
+
+// A line as it comes in.
+struct Line {
+    len: usize,
+    bytes: [u8; LINE],
+}
+
+fn empty_line() -> Line {
+    let bytes = [0u8; LINE];
+    Line { len: 0, bytes }
+}
+
+fn with_byte(mut line: Line, b: u8) -> Line {
+    let at = line.len;
+    if at < LINE {
+        line.bytes[at] = b;
+        line.len = at + 1;
+    }
+    line
+}
+
+fn answer_line(out: &mut [u8], line: Line) {
+    let n = line.len;
+    let bytes = line.bytes;
+    if n <= LINE {
+        write_answer(out, &bytes[0..n]);
+    }
+}
+
+// The lines that end in a block, and what is left of the last.
+fn answer_block(out: &mut [u8], line: Line, block: &[u8]) -> Line {
+    let mut l = line;
+    let mut i = 0;
+    while i < block.len() {
+        let b = block[i];
+        i += 1;
+        if b == b'\n' {
+            answer_line(out, l);
+            l = empty_line();
+            continue;
+        }
+        l = with_byte(l, b);
+    }
+    l
+}
+
+// One block of input, and whether there was one.
+struct Turn {
+    more: bool,
+    line: Line,
+}
+
+fn read_block(out: &mut [u8], line: Line) -> Turn {
+    let mut block = io::buffer();
+    let n = io::read_full(STDIN_FILENO, &mut block);
+    if n == 0 {
+        return Turn { more: false, line };
+    }
+    let rest = answer_block(out, line, &block[..n]);
+    Turn {
+        more: true,
+        line: rest,
+    }
+}
+
+// A proved loop ends, and nothing says that the input does: the turns count down from a number that no run uses up.
+fn answer_all(out: &mut [u8]) {
+    let mut line = empty_line();
+    let mut turns = u64::MAX;
+    while turns > 0 {
+        let turn = read_block(out, line);
+        let rest = turn.line;
+        if !turn.more {
+            if rest.len > 0 {
+                answer_line(out, rest);
+            }
+            return;
+        }
+        line = rest;
+        turns -= 1;
+    }
+}
+
+fn main() {
+    let mut out = [0u8; OUT];
+    answer_all(&mut out);
+}
