@@ -6,6 +6,7 @@ pub mod WellFormed
 pub mod LexShow
 pub mod ShowLex
 pub mod Part
+pub mod Run
 pub mod Template
 pub mod TemplateText
 pub mod Examples
