@@ -148,7 +148,7 @@ lex-atom rest (bracket xs i h g) =
 goesOn : ℕ → Bool
 goesOn x = eqb x 108 || (eqb x 114 || (within 49 57 x || eqb x 37))
 
-onFed-ended : (u : Piece) (o : Fed) (k : Lex → Option (List Piece)) → onFed (ended u o) k ≡ before (u ∷ []) (onFed o k)
+pub onFed-ended : (u : Piece) (o : Fed) (k : Lex → Option (List Piece)) → onFed (ended u o) k ≡ before (u ∷ []) (onFed o k)
 unfolding onFed ended before
 onFed-ended u halt k = refl
 onFed-ended u (fed ps q) k = before-before u ps (k q)

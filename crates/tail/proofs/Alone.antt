@@ -11,10 +11,10 @@ use mathlib.Core.List.{List, [], _∷_, _++_}
 use lib.ListN.{length, length-append, length-set, length-replicate, getD, set, replicate}
 use lib.Seq.{getD-set-same, getD-set-other}
 use lib.Dec.{eqb, ltb}
-use borrow.Author.Tests.{eqb-true, eqb-false, eq-eqb, ne-eqb}
+use borrow.Author.Tests.{ltb-true, eqb-true, eqb-false, eq-eqb, ne-eqb}
 use Rattle.reading.specs.Row.{Row, row, Link, link}
-use Rattle.reading.specs.Piece.{Piece, atom, mark, lpar, rpar}
-use Rattle.reading.specs.Lexer.{memb, within, organic, marks, bracketed, pairs, Lex, between, inAtom, inBracket, Fed, fed, begin, feed, before, onFed, lex, piecesOf}
+use Rattle.reading.specs.Piece.{Piece, atom, mark, dot, lpar, rpar}
+use Rattle.reading.specs.Lexer.{memb, within, organic, marks, bracketed, pairs, second, Lex, between, inAtom, inBracket, Fed, fed, begin, feed, before, onFed, lex, piecesOf}
 use Rattle.reading.specs.Machine.{Entry, entry, Phase, fresh, opened, after, marked, State as Machine, st, lookup, remove, among, links, labels, joins, plainly, step as stepPiece}
 use Rattle.reading.specs.Part.{Part, alone, partRead, partLexed, partOf}
 use Rattle.reading.proofs.Reading.{Reads, Steps, reads-nil, reads-cons, reads-append, steps-atom, steps-lpar, steps-rpar, steps-mark}
@@ -29,28 +29,28 @@ use Rattle.tail.specs.Grammar.{noRings, withAtom, bonded, clashes, withD
 -- ---- the same atoms and digits
 
 -- where a digit is open
-abbrev openOn : ℕ → Option ℕ
+abbrev pub openOn : ℕ → Option ℕ
 openOn zero = none
 openOn (suc a) = some (suc a)
 
-record Like (q : Rings) (n cur : ℕ) (t : List Entry) : Type 0 where
-  atoms : n ≡ suc (q .last)
-  here : cur ≡ q .current
-  table : (m : ℕ) → lookup m t ≡ openOn (getD (q .opened) m 0)
-  known : (m : ℕ) → getD (q .opened) m 0 ≤ q .last
-  earlier : (a : ℕ) → getD (q .joined) a 0 ≤ q .last
-  ten : length (q .opened) ≡ 10
-  many : length (q .joined) ≡ 256
+pub record Like (q : Rings) (n cur : ℕ) (t : List Entry) : Type 0 where
+  pub atoms : n ≡ suc (q .last)
+  pub here : cur ≡ q .current
+  pub table : (m : ℕ) → lookup m t ≡ openOn (getD (q .opened) m 0)
+  pub known : (m : ℕ) → getD (q .opened) m 0 ≤ q .last
+  pub earlier : (a : ℕ) → getD (q .joined) a 0 ≤ q .last
+  pub ten : length (q .opened) ≡ 10
+  pub many : length (q .joined) ≡ 256
 
 -- an atom that is still being read, with the labels `ls` so far, from the state s
-record Pending (q : Rings) (ls : List ℕ) (n cur : ℕ) (t : List Entry) (ph : Phase) : Type 0 where
-  own : 1 ≤ n
-  ks : List Link
-  t′ : List Entry
-  does : labels ls n (joins ph cur) t ≡ links ks t′
-  like : Like q (suc n) n t′
-  bonds : (a : ℕ) → among a ks ≡ (eqb a (q .parent) || eqb (getD (q .joined) a 0) (q .current))
-  small : EachOf (λ (l : ℕ). l < 10) ls
+pub record Pending (q : Rings) (ls : List ℕ) (n cur : ℕ) (t : List Entry) (ph : Phase) : Type 0 where
+  pub own : 1 ≤ n
+  pub ks : List Link
+  pub t′ : List Entry
+  pub does : labels ls n (joins ph cur) t ≡ links ks t′
+  pub like : Like q (suc n) n t′
+  pub bonds : (a : ℕ) → among a ks ≡ (eqb a (q .parent) || eqb (getD (q .joined) a 0) (q .current))
+  pub small : EachOf (λ (l : ℕ). l < 10) ls
 
 -- where a new atom joins the current one
 abbrev Joining : Phase → Type 0
@@ -64,7 +64,7 @@ zero-list zero i = refl
 zero-list (suc n) zero = refl
 zero-list (suc n) (suc i) = zero-list n i
 
-like-start : Like noRings 1 0 []
+pub like-start : Like noRings 1 0 []
 unfolding lookup
 like-start =
     record {
@@ -113,10 +113,10 @@ or-true : (a : Bool) → (a || true) ≡ true
 or-true true = refl
 or-true false = refl
 
-false≢true : false ≡ true → ⊥
+pub false≢true : false ≡ true → ⊥
 false≢true e = let z : _≡_ {A = ℕ} 0 1 = cc in omega arith
 
-or-none : (a b : Bool) → (a || b) ≡ false → (a ≡ false) × (b ≡ false)
+pub or-none : (a b : Bool) → (a || b) ≡ false → (a ≡ false) × (b ≡ false)
 or-none true b e = let z : _≡_ {A = ℕ} 0 1 = cc in absurd (omega arith)
 or-none false b e = (refl, e)
 
@@ -241,36 +241,62 @@ module _ (q : Rings) (ls : List ℕ) (n cur : ℕ) (t : List Entry) (ph : Phase)
 
 -- ---- side by side
 
-data Sim : State → Lex → Machine → Type 0 where
+pub data Sim : State → Lex → Machine → Type 0 where
   at-opening : {stk : List ℕ} {q : Rings} {n cur : ℕ} {t : List Entry} → Like q n cur t → Sim (stands opening stk q) between (st n cur stk t opened)
   at-bond : {stk : List ℕ} {q : Rings} {n cur : ℕ} {t : List Entry} {m : ℕ} → Like q n cur t → Sim (stands afterBond stk q) between (st n cur stk t (marked m))
   at-closed : {stk : List ℕ} {q : Rings} {n cur : ℕ} {t : List Entry} → Like q n cur t → Sim (stands closed stk q) between (st n cur stk t after)
   at-letter : {stk : List ℕ} {q : Rings} {n cur : ℕ} {t : List Entry} {ph : Phase} {a : ℕ}
       → Pending q [] n cur t ph → Sim (stands (letter a) stk q) (inAtom (a ∷ []) []) (st n cur stk t ph)
   at-whole : {stk : List ℕ} {q : Rings} {n cur : ℕ} {t : List Entry} {ph : Phase} {b ls : List ℕ}
-      → Pending q ls n cur t ph → Sim (stands whole stk q) (inAtom b ls) (st n cur stk t ph)
+      → ((x : ℕ) → second x b ls ≡ false) → Pending q ls n cur t ph → Sim (stands whole stk q) (inAtom b ls) (st n cur stk t ph)
   at-inside : {stk : List ℕ} {q : Rings} {n cur : ℕ} {t : List Entry} {ph : Phase} {xs : List ℕ} {k : ℕ}
       → length xs ≡ k → Pending q [] n cur t ph → Sim (stands (inside k) stk q) (inBracket xs) (st n cur stk t ph)
 
+-- no second letter follows a label or a bracket
+pub second-labels : (x : ℕ) (b ls : List ℕ) (d : ℕ) → second x b (ls ++ d ∷ []) ≡ false
+unfolding second
+second-labels x [] ls d = refl
+second-labels x (a ∷ []) [] d = refl
+second-labels x (a ∷ []) (l ∷ ls) d = refl
+second-labels x (a ∷ a′ ∷ b) ls d = refl
+
+second-bracket : (x : ℕ) (xs : List ℕ) → second x (91 ∷ xs ++ 93 ∷ []) [] ≡ false
+unfolding second
+second-bracket x [] = refl
+second-bracket x (y ∷ xs) = refl
+
+-- no dot, and at most 16 branches in one another, of which k are open
+unfoldable pub Plain : ℕ → List Piece → Type 0
+Plain k [] = Unit {0}
+Plain k (atom b ls ∷ us) = Plain k us
+Plain k (mark m ∷ us) = Plain k us
+Plain k (dot ∷ us) = ⊥
+Plain k (lpar ∷ us) = (k < 16) × Plain (suc k) us
+Plain k (rpar ∷ us) = Plain (k - 1) us
+
+abbrev pub deep : Machine → ℕ
+deep (st n cur stk t ph) = length stk
+
 -- how many atoms of the tail there are
-abbrev lastOf : State → ℕ
+abbrev pub lastOf : State → ℕ
 lastOf wrong = 0
 lastOf (stands p stk q) = q .last
 
 -- both take the byte x: the grammar comes to G
-record Takes (L : Lex) (s : Machine) (x l : ℕ) (G : State) : Type 0 where
-  us : List Piece
-  next : Lex
-  rows : List Row
-  s′ : Machine
-  feeds : feed L x ≡ fed us next
-  reads : Reads us s rows s′
-  sim : Sim G next s′
-  digits : EachLabel (λ (d : ℕ). d < 10) us
-  grows : lastOf G ≤ suc l
+pub record Takes (L : Lex) (s : Machine) (x l : ℕ) (G : State) : Type 0 where
+  pub us : List Piece
+  pub next : Lex
+  pub rows : List Row
+  pub s′ : Machine
+  pub feeds : feed L x ≡ fed us next
+  pub reads : Reads us s rows s′
+  pub sim : Sim G next s′
+  pub digits : EachLabel (λ (d : ℕ). d < 10) us
+  pub plain : (vs : List Piece) → Plain (deep s′) vs → Plain (deep s) (us ++ vs)
+  pub grows : lastOf G ≤ suc l
 
 -- unless the grammar takes none
-abbrev May : Lex → Machine → ℕ → ℕ → State → Type 0
+abbrev pub May : Lex → Machine → ℕ → ℕ → State → Type 0
 May L s x l wrong = Unit {0}
 May L s x l (stands p stk q) = Takes L s x l (stands p stk q)
 
@@ -293,6 +319,7 @@ module _ (x : ℕ) (stk : List ℕ) (q : Rings) where
         reads = reads-nil _;
         sim = at-letter (pending-new q n cur t ph j v);
         digits = tt;
+        plain = λ vs h. h;
         grows = omega arith;
       })
       (λ _. may-cond _ _ _ _ (eqb x 91) _ _
@@ -306,13 +333,14 @@ module _ (x : ℕ) (stk : List ℕ) (q : Rings) where
         reads = reads-nil _;
         sim = at-inside refl (pending-new q n cur t ph j v);
         digits = tt;
+        plain = λ vs h. h;
         grows = omega arith;
       })
       (λ _. tt))
 
   bond-or-atom : (n cur : ℕ) (t : List Entry) (ph : Phase) → Joining ph → Steps (mark x) (st n cur stk t ph) [] (st n cur stk t (marked (plainly x))) → Like q n cur t
       → May between (st n cur stk t ph) x (q .last) (bondOrAtom x stk q)
-  unfolding bondOrAtom
+  unfolding bondOrAtom Plain
   bond-or-atom n cur t ph j m v =
       may-cond _ _ _ _ (memb x marks) _ _
       (λ e.
@@ -325,12 +353,13 @@ module _ (x : ℕ) (stk : List ℕ) (q : Rings) where
         reads = reads-cons m (reads-nil _);
         sim = at-bond v;
         digits = (tt, tt);
+        plain = λ vs h. h;
         grows = omega arith;
       })
       (λ _. atom-begins n cur t ph j v)
 
 branch-closes : (stk : List ℕ) (q : Rings) (n cur : ℕ) (t : List Entry) → Like q n cur t → May between (st n cur stk t after) 41 (q .last) (branchCloses stk q)
-unfolding branchCloses feed begin
+unfolding branchCloses feed begin Plain
 branch-closes [] q n cur t v = tt
 branch-closes (a ∷ stk) q n cur t v =
     record {
@@ -342,14 +371,15 @@ branch-closes (a ∷ stk) q n cur t v =
       reads = reads-cons (steps-rpar n cur a stk t) (reads-nil _);
       sim = at-closed (record { atoms = v .atoms; here = refl; table = v .table; known = v .known; earlier = v .earlier; ten = v .ten; many = v .many });
       digits = (tt, tt);
+      plain = λ vs h. subst (λ (k : ℕ). Plain k vs) (omega arith) h;
       grows = omega arith;
     }
 
 branch-opens : (stk : List ℕ) (q : Rings) (n cur : ℕ) (t : List Entry) → Like q n cur t → May between (st n cur stk t after) 40 (q .last) (branchOpens stk q)
-unfolding branchOpens feed begin
+unfolding branchOpens feed begin Plain
 branch-opens stk q n cur t v =
     may-cond _ _ _ _ (ltb (length stk) 16) _ _
-    (λ _.
+    (λ e.
     subst (λ (z : ℕ). Takes between (st n cur stk t after) 40 (q .last) (stands opening (z ∷ stk) q)) (v .here)
     (record {
       us = lpar ∷ [];
@@ -360,6 +390,7 @@ branch-opens stk q n cur t v =
       reads = reads-cons (steps-lpar n cur stk t) (reads-nil _);
       sim = at-opening v;
       digits = (tt, tt);
+      plain = λ vs h. (ltb-true (length stk) 16 e, h);
       grows = omega arith;
     }))
     (λ _. tt)
@@ -374,7 +405,7 @@ goes-on x stk q n cur t v =
 -- a byte that ends the atom before it
 ended-by : (x l : ℕ) (b ls : List ℕ) (stk : List ℕ) (q : Rings) (n cur : ℕ) (t : List Entry) (ph : Phase) (v : Pending q ls n cur t ph) (G : State)
     → May between (st (suc n) n stk (v .t′) after) x l G → May (inAtom b ls) (st n cur stk t ph) x l G
-unfolding feed
+unfolding feed Plain
 ended-by x l b ls stk q n cur t ph v wrong m = tt
 ended-by x l b ls stk q n cur t ph v (stands p k r) m =
     record {
@@ -386,6 +417,7 @@ ended-by x l b ls stk q n cur t ph v (stands p k r) m =
       reads = reads-cons (steps-atom b ls n cur stk t ph (v .ks) (v .t′) (v .does)) (m .reads);
       sim = m .sim;
       digits = (v .small, m .digits);
+      plain = λ vs h. m .plain vs h;
       grows = m .grows;
     }
 
@@ -405,8 +437,9 @@ digit-or x b ls stk q n cur t ph few v =
       s′ = st n cur stk t ph;
       feeds = ap (feed (inAtom b ls)) (omega arith) ∙ feed-digit b ls (x - 48) (omega arith) (omega arith);
       reads = reads-nil _;
-      sim = at-whole (pending-digit q ls n cur t ph v (x - 48) (omega arith) few c);
+      sim = at-whole (λ y. second-labels y b ls (x - 48)) (pending-digit q ls n cur t ph v (x - 48) (omega arith) few c);
       digits = tt;
+      plain = λ vs h. h;
       grows = omega (arith, digit-last (x - 48) q);
     }))
     (λ _. ended-by x (q .last) b ls stk q n cur t ph v (goesOn x stk q) (goes-on x stk q (suc n) n (v .t′) (v .like)))
@@ -426,6 +459,7 @@ bracket-on x k xs stk q n cur t ph e v =
       reads = reads-nil _;
       sim = at-inside (omega (arith, length-append xs (x ∷ []))) v;
       digits = tt;
+      plain = λ vs h. h;
       grows = omega arith;
     })
     (λ _. may-cond _ _ _ _ (eqb x 93 && within 1 16 k) _ _
@@ -439,15 +473,16 @@ bracket-on x k xs stk q n cur t ph e v =
       s′ = st n cur stk t ph;
       feeds = ap (feed (inBracket xs)) (eqb-true x 93 (both .0)) ∙ feed-bracket-end xs (omega arith) (omega arith);
       reads = reads-nil _;
-      sim = at-whole v;
+      sim = at-whole (λ y. second-bracket y xs) v;
       digits = tt;
+      plain = λ vs h. h;
       grows = omega arith;
     })
     (λ _. tt))
 
 -- one byte
-takes : {G : State} {L : Lex} {s : Machine} (x : ℕ) → lastOf G ≤ 255 → Sim G L s → May L s x (lastOf G) (step G x)
-unfolding step stepPiece
+pub takes : {G : State} {L : Lex} {s : Machine} (x : ℕ) → lastOf G ≤ 255 → Sim G L s → May L s x (lastOf G) (step G x)
+unfolding step stepPiece second
 takes x few (at-opening {stk} {q} {n} {cur} {t} v) = bond-or-atom x stk q n cur t opened tt (record { by = refl }) v
 takes x few (at-bond {stk} {q} {n} {cur} {t} {m} v) = atom-begins x stk q n cur t (marked m) tt v
 takes x few (at-closed {stk} {q} {n} {cur} {t} v) = goes-on x stk q n cur t v
@@ -461,25 +496,27 @@ takes x few (at-letter {stk} {q} {n} {cur} {t} {ph} {a} v) =
       s′ = st n cur stk t ph;
       feeds = feed-second a x e;
       reads = reads-nil _;
-      sim = at-whole v;
+      sim = at-whole (λ y. refl) v;
       digits = tt;
+      plain = λ vs h. h;
       grows = omega arith;
     })
     (λ _. digit-or x (a ∷ []) [] stk q n cur t ph few v)
-takes x few (at-whole {stk} {q} {n} {cur} {t} {ph} {b} {ls} v) = digit-or x b ls stk q n cur t ph few v
+takes x few (at-whole {stk} {q} {n} {cur} {t} {ph} {b} {ls} w v) = digit-or x b ls stk q n cur t ph few v
 takes x few (at-inside {stk} {q} {n} {cur} {t} {ph} {xs} {k} e v) = bracket-on x k xs stk q n cur t ph e v
 
 -- ---- all bytes
 
 -- the rest of the text is lexed to pieces that the machine reads to the end, with nothing open
-record Ends (L : Lex) (s : Machine) (xs : List ℕ) : Type 0 where
-  us : List Piece
-  rows : List Row
-  size : ℕ
-  last : ℕ
-  lexes : lex L xs ≡ some us
-  reads : Reads us s rows (st (suc size) last [] [] after)
-  digits : EachLabel (λ (d : ℕ). d < 10) us
+pub record Ends (L : Lex) (s : Machine) (xs : List ℕ) : Type 0 where
+  pub us : List Piece
+  pub rows : List Row
+  pub size : ℕ
+  pub last : ℕ
+  pub lexes : lex L xs ≡ some us
+  pub reads : Reads us s rows (st (suc size) last [] [] after)
+  pub digits : EachLabel (λ (d : ℕ). d < 10) us
+  pub plain : Plain (deep s) us
 
 each-append : (P : ℕ → Type 0) (a b : List Piece) → EachLabel P a → EachLabel P b → EachLabel P (a ++ b)
 each-append P [] b h g = g
@@ -496,6 +533,7 @@ ends-more {L} {s} {x} {l} {G} xs m e =
       lexes = ap (λ (z : Fed). onFed z (λ q′. lex q′ xs)) (m .feeds) ∙ ap (before (m .us)) (e .lexes);
       reads = reads-append (m .reads) (e .reads);
       digits = each-append (λ (d : ℕ). d < 10) (m .us) (e .us) (m .digits) (e .digits);
+      plain = m .plain (e .us) (e .plain);
     }
 
 none-found : (l : List ℕ) → noneOpen l ≡ true → (m : ℕ) → getD l m 0 ≡ 0
@@ -519,7 +557,7 @@ ends-settled [] q n cur t v h = record { none = refl; empty = shut q n cur t v h
 ends-settled (a ∷ stk) q n cur t v h = absurd (false≢true h)
 
 ends-pending : (b ls : List ℕ) (stk : List ℕ) (q : Rings) (n cur : ℕ) (t : List Entry) (ph : Phase) → Pending q ls n cur t ph → finished stk q ≡ true → Ends (inAtom b ls) (st n cur stk t ph) []
-unfolding lex
+unfolding lex Plain
 ends-pending b ls stk q n cur t ph v h =
     let e : record { none : stk ≡ []; empty : v .t′ ≡ []; count : suc n ≡ suc (q .last) } = ends-settled stk q (suc n) n (v .t′) (v .like) h in
     rw (e .none)
@@ -531,18 +569,19 @@ ends-pending b ls stk q n cur t ph v h =
       lexes = refl;
       reads = reads-cons (steps-atom b ls n cur [] t ph (v .ks) [] (v .does ∙ ap (links (v .ks)) (e .empty))) (reads-nil _);
       digits = (v .small, tt);
+      plain = tt;
     })
 
 ends-here : {G : State} {L : Lex} {s : Machine} → Sim G L s → done G ≡ true → Ends L s []
-unfolding done lex
+unfolding done lex Plain
 ends-here (at-opening v) h = absurd (false≢true h)
 ends-here (at-bond v) h = absurd (false≢true h)
 ends-here (at-closed {stk} {q} {n} {cur} {t} v) h =
     let e : record { none : stk ≡ []; empty : t ≡ []; count : n ≡ suc (q .last) } = ends-settled stk q n cur t v h in
     rw (e .none, e .empty, e .count)
-    (record { us = []; rows = []; size = q .last; last = cur; lexes = refl; reads = reads-nil _; digits = tt })
+    (record { us = []; rows = []; size = q .last; last = cur; lexes = refl; reads = reads-nil _; digits = tt; plain = tt })
 ends-here (at-letter {stk} {q} {n} {cur} {t} {ph} {a} v) h = ends-pending (a ∷ []) [] stk q n cur t ph v h
-ends-here (at-whole {stk} {q} {n} {cur} {t} {ph} {b} {ls} v) h = ends-pending b ls stk q n cur t ph v h
+ends-here (at-whole {stk} {q} {n} {cur} {t} {ph} {b} {ls} w v) h = ends-pending b ls stk q n cur t ph v h
 ends-here (at-inside e v) h = absurd (false≢true h)
 
 ends : (xs : List ℕ) {G : State} {L : Lex} {s : Machine} → lastOf G + length xs ≤ 255 → Sim G L s → scan G xs ≡ true → Ends L s xs
@@ -557,11 +596,12 @@ ends (x ∷ xs) {G} {L} {s} few v h = go (step G x) (takes x (omega arith) v) h 
 
 -- ---- THE LAW OF THE TAIL
 
--- the part that a tail is, in which every label is a digit
+-- the part that a tail is: every label is a digit, no dot stands in it, and at most 16 branches stand in one another
 pub record TailPart (xs : List ℕ) : Type 0 where
   pub part : Part
   pub is : partOf xs ≡ some part
   pub digits : EachLabel (λ (d : ℕ). d < 10) (part .pieces)
+  pub plain : Plain 0 (part .pieces)
 
 part-of : (xs : List ℕ) → Ends between (st 1 0 [] [] opened) xs → TailPart xs
 unfolding partOf piecesOf partLexed alone partRead
@@ -570,6 +610,7 @@ part-of xs e =
       part = record { pieces = e .us; rows = e .rows; size = e .size; last = e .last };
       is = ap partLexed (e .lexes) ∙ ap (partRead (e .us)) (e .reads .by);
       digits = e .digits;
+      plain = e .plain;
     }
 
 pub tail-alone : (xs : List ℕ) → isTail xs ≡ true → TailPart xs

@@ -2,4 +2,5 @@ pub mod Bytes
 pub mod Digits
 pub mod Scan
 pub mod Alone
+pub mod Exactly
 pub mod Examples
