@@ -35,7 +35,11 @@ each-rest P (u ∷ a) b h = each-rest P a b (h .1)
 -- ---- what is read comes apart
 
 -- the machine goes one way only: what is left is read from where the first pieces end
-reads-rest : (a : List Piece) {b : List Piece} {s s₁ s₂ : Machine} {r₁ r : List Row} → Reads a s r₁ s₁ → Reads (a ++ b) s r s₂ → record { rows : List Row; reads : Reads b s₁ rows s₂ }
+record Rest (us : List Piece) (s s′ : Machine) : Type 0 where
+  rows : List Row
+  reads : Reads us s rows s′
+
+reads-rest : (a : List Piece) {b : List Piece} {s s₁ s₂ : Machine} {r₁ r : List Row} → Reads a s r₁ s₁ → Reads (a ++ b) s r s₂ → Rest b s₁ s₂
 reads-rest [] {b} {s} {s₁} {s₂} {r₁} {r} d e = record { rows = r; reads = subst (λ (z : Machine). Reads b z r s₂) (reads-nil-only d .state) e }
 reads-rest (u ∷ a) {b} {s} {s₁} {s₂} {r₁} {r} d e =
     let p : Split u a s r₁ s₁ = reads-split d in
@@ -99,7 +103,13 @@ Ahead (inBracket xs) us = Unit {0}
 Ahead (inLabel b ls) us = BeginsLarge b ls us
 Ahead (inTens b ls d) us = (1 ≤ d) → BeginsLarge b ls us
 
-before-some : (a : List Piece) (o : Option (List Piece)) (us : List Piece) → before a o ≡ some us → record { rest : List Piece; lexed : o ≡ some rest; is : us ≡ a ++ rest }
+-- the pieces us are those of a, and then what o gives
+record After (a : List Piece) (o : Option (List Piece)) (us : List Piece) : Type 0 where
+  rest : List Piece
+  lexed : o ≡ some rest
+  is : us ≡ a ++ rest
+
+before-some : (a : List Piece) (o : Option (List Piece)) (us : List Piece) → before a o ≡ some us → After a o us
 unfolding before
 before-some a none us e = absurd (none≢some e)
 before-some a (some vs) us e = record { rest = vs; lexed = refl; is = cc }
@@ -117,15 +127,15 @@ ahead (x ∷ xs) (inAtom b ls) us e = λ w. go (ahead xs) (within 49 57 x) (eqb 
     go : ((L : Lex) (vs : List Piece) → lex L xs ≡ some vs → Ahead L vs) → (d p : Bool)
         → onFed (cond d (fed [] (inAtom b (ls ++ (x - 48) ∷ []))) (cond p (fed [] (inLabel b ls)) (ended (atom b ls) (begin x)))) (λ q. lex q xs) ≡ some us → Begins b ls us
     go ih true p h =
-        let q : record { rest : List Piece; lexed : lex (inAtom b (ls ++ (x - 48) ∷ [])) xs ≡ some rest; is : us ≡ [] ++ rest } = before-some [] (lex (inAtom b (ls ++ (x - 48) ∷ [])) xs) us h in
+        let q : After [] (lex (inAtom b (ls ++ (x - 48) ∷ [])) xs) us = before-some [] (lex (inAtom b (ls ++ (x - 48) ∷ [])) xs) us h in
         let z : Begins b (ls ++ (x - 48) ∷ []) (q .rest) = ih (inAtom b (ls ++ (x - 48) ∷ [])) (q .rest) (q .lexed) (λ y. second-labels y b ls (x - 48)) in
         record { more = (x - 48) ∷ z .more; rest = z .rest; is = q .is ∙ (z .is ∙ ap (λ (m : List ℕ). atom b m ∷ z .rest) (append-assoc ls ((x - 48) ∷ []) (z .more))) }
     go ih false true h =
-        let q : record { rest : List Piece; lexed : lex (inLabel b ls) xs ≡ some rest; is : us ≡ [] ++ rest } = before-some [] (lex (inLabel b ls) xs) us h in
+        let q : After [] (lex (inLabel b ls) xs) us = before-some [] (lex (inLabel b ls) xs) us h in
         let z : BeginsLarge b ls (q .rest) = ih (inLabel b ls) (q .rest) (q .lexed) in
         record { more = z .l ∷ z .more; rest = z .rest; is = q .is ∙ z .is }
     go ih false false h =
-        let q : record { rest : List Piece; lexed : onFed (begin x) (λ q. lex q xs) ≡ some rest; is : us ≡ (atom b ls ∷ []) ++ rest } =
+        let q : After (atom b ls ∷ []) (onFed (begin x) (λ q. lex q xs)) us =
         before-some (atom b ls ∷ []) (onFed (begin x) (λ q. lex q xs)) us (sym (onFed-ended (atom b ls) (begin x) (λ q. lex q xs)) ∙ h) in
         record { more = []; rest = q .rest; is = rw append-nil (q .is) }
 ahead (x ∷ xs) (inBracket ys) us e = tt
@@ -133,7 +143,7 @@ ahead (x ∷ xs) (inLabel b ls) us e = go (ahead xs) (within 49 57 x) refl e
   where
     go : ((L : Lex) (vs : List Piece) → lex L xs ≡ some vs → Ahead L vs) → (d : Bool) → within 49 57 x ≡ d → onFed (cond d (fed [] (inTens b ls (x - 48))) halt) (λ q. lex q xs) ≡ some us → BeginsLarge b ls us
     go ih true w h =
-        let q : record { rest : List Piece; lexed : lex (inTens b ls (x - 48)) xs ≡ some rest; is : us ≡ [] ++ rest } = before-some [] (lex (inTens b ls (x - 48)) xs) us h in
+        let q : After [] (lex (inTens b ls (x - 48)) xs) us = before-some [] (lex (inTens b ls (x - 48)) xs) us h in
         let z : BeginsLarge b ls (q .rest) = ih (inTens b ls (x - 48)) (q .rest) (q .lexed) (omega (arith, within-both 49 57 x w .0)) in
         record { l = z .l; large = z .large; more = z .more; rest = z .rest; is = q .is ∙ z .is }
     go ih false w h = absurd (none≢some h)
@@ -142,7 +152,7 @@ ahead (x ∷ xs) (inTens b ls d) us e = λ w. go (ahead xs) w (within 48 57 x) e
     go : ((L : Lex) (vs : List Piece) → lex L xs ≡ some vs → Ahead L vs) → 1 ≤ d → (c : Bool)
         → onFed (cond c (fed [] (inAtom b (ls ++ (10 * d + (x - 48)) ∷ []))) halt) (λ q. lex q xs) ≡ some us → BeginsLarge b ls us
     go ih w true h =
-        let q : record { rest : List Piece; lexed : lex (inAtom b (ls ++ (10 * d + (x - 48)) ∷ [])) xs ≡ some rest; is : us ≡ [] ++ rest } =
+        let q : After [] (lex (inAtom b (ls ++ (10 * d + (x - 48)) ∷ [])) xs) us =
         before-some [] (lex (inAtom b (ls ++ (10 * d + (x - 48)) ∷ [])) xs) us h in
         let z : Begins b (ls ++ (10 * d + (x - 48)) ∷ []) (q .rest) =
         ih (inAtom b (ls ++ (10 * d + (x - 48)) ∷ [])) (q .rest) (q .lexed) (λ y. second-labels y b ls (10 * d + (x - 48))) in
@@ -170,7 +180,7 @@ sign-of x xs us o b e = go (memb x marks) refl (eqb x 46) (eqb x 40) refl (eqb x
   where
     made : (u : Piece) → before (u ∷ []) (lex between xs) ≡ some us → ((rest : List Piece) → Sign x (u ∷ rest)) → Sign x us
     made u h f =
-        let q : record { rest : List Piece; lexed : lex between xs ≡ some rest; is : us ≡ (u ∷ []) ++ rest } = before-some (u ∷ []) (lex between xs) us h in
+        let q : After (u ∷ []) (lex between xs) us = before-some (u ∷ []) (lex between xs) us h in
         subst (Sign x) (sym (q .is)) (f (q .rest))
 
     go : (m : Bool) → memb x marks ≡ m → (d : Bool) (l : Bool) → eqb x 40 ≡ l → (r : Bool) → eqb x 41 ≡ r
@@ -318,36 +328,47 @@ module _ (q : Rings) (b ls : List ℕ) (n cur : ℕ) (stk : List ℕ) (t : List 
           let y : (eqb (suc a) n || among (suc a) (v .ks)) ≡ true = rw (v .like .here, v .bonds (suc a)) w in
           rw (v .like .table d, e, y)
 
-  module _ (x : ℕ) (xs : List ℕ) (us : List Piece) (l : lex (inAtom b ls) (x ∷ xs) ≡ some us) (r : List Row) (f : Machine) (d : Reads us (st n cur stk t ph) r f)
+  module _ (x : ℕ) (xs : List ℕ) (us : List Piece) (l : lex (inAtom b ls) (x ∷ xs) ≡ some us) (r : List Row) (f : Machine) (reads : Reads us (st n cur stk t ph) r f)
       (small : Small us) (h : Plain (length stk) us) (one : second x b ls ≡ false) where
+    digit-stuck : (d : ℕ) (vs : List Piece) → clashes d q ≡ true → us ≡ [] ++ vs → Begins b (ls ++ d ∷ []) vs → ⊥
+    unfolding stepPiece placed
+    digit-stuck d vs c e z =
+        stuck (ap (placed b n stk) (labels-stop ls d (z .more) n (joins ph cur) (v .ks) t (v .t′) (v .does) (clash-stops d c)))
+        (subst (λ (y : List Piece). Reads y (st n cur stk t ph) r f) (e ∙ z .is) reads)
+
     refuse-digit : within 49 57 x ≡ true → clashes (x - 48) q ≡ true → ⊥
-    unfolding lex feed onFed stepPiece placed
-    refuse-digit e c =
-        let w : record { rest : List Piece; lexed : lex (inAtom b (ls ++ (x - 48) ∷ [])) xs ≡ some rest; is : us ≡ [] ++ rest } =
-        before-some [] (lex (inAtom b (ls ++ (x - 48) ∷ [])) xs) us (rw (one, e) at l) in
-        let z : Begins b (ls ++ (x - 48) ∷ []) (w .rest) = ahead xs (inAtom b (ls ++ (x - 48) ∷ [])) (w .rest) (w .lexed) (λ y. second-labels y b ls (x - 48)) in
-        stuck
-        (ap (placed b n stk)
-        (labels-stop ls (x - 48) (z .more) n (joins ph cur) (v .ks) t (v .t′) (v .does) (clash-stops (x - 48) c)))
-        (subst (λ (y : List Piece). Reads y (st n cur stk t ph) r f) (w .is ∙ z .is) d)
+    unfolding lex feed onFed
+    refuse-digit e c = go (before-some [] (lex (inAtom b (ls ++ (x - 48) ∷ [])) xs) us (rw (one, e) at l))
+      where
+        go : After [] (lex (inAtom b (ls ++ (x - 48) ∷ [])) xs) us → ⊥
+        go w =
+            digit-stuck (x - 48) (w .rest) c (w .is)
+            (ahead xs (inAtom b (ls ++ (x - 48) ∷ [])) (w .rest) (w .lexed) (λ y. second-labels y b ls (x - 48)))
+
+    large-refused : (vs : List Piece) → us ≡ [] ++ vs → BeginsLarge b ls vs → ⊥
+    large-refused vs e z = omega (arith, z .large, each-at (λ (m : ℕ). m < 10) ls (z .l) (z .more) (subst Small (e ∙ z .is) small .0))
 
     refuse-percent : within 49 57 x ≡ false → eqb x 37 ≡ true → ⊥
     unfolding lex feed onFed
-    refuse-percent e p =
-        let w : record { rest : List Piece; lexed : lex (inLabel b ls) xs ≡ some rest; is : us ≡ [] ++ rest } = before-some [] (lex (inLabel b ls) xs) us (rw (one, e, p) at l) in
-        let z : BeginsLarge b ls (w .rest) = ahead xs (inLabel b ls) (w .rest) (w .lexed) in
-        omega (arith, z .large, each-at (λ (m : ℕ). m < 10) ls (z .l) (z .more) (subst Small (w .is ∙ z .is) small .0))
+    refuse-percent e p = go (before-some [] (lex (inLabel b ls) xs) us (rw (one, e, p) at l))
+      where
+        go : After [] (lex (inLabel b ls) xs) us → ⊥
+        go w = large-refused (w .rest) (w .is) (ahead xs (inLabel b ls) (w .rest) (w .lexed))
+
+    ended-refused : (vs : List Piece) → lex between (x ∷ xs) ≡ some vs → us ≡ (atom b ls ∷ []) ++ vs → goesOn x stk q ≡ wrong → ⊥
+    unfolding Plain
+    ended-refused vs k e g = go (reads-rest (atom b ls ∷ []) (reads-cons (steps-atom b ls n cur stk t ph (v .ks) (v .t′) (v .does)) (reads-nil _)) (subst (λ (z : List Piece). Reads z (st n cur stk t ph) r f) e reads))
+      where
+        go : Rest vs (st (suc n) n stk (v .t′) after) f → ⊥
+        go y = refuse-closed x xs vs k stk q (suc n) n (v .t′) (y .rows) f (y .reads) (subst (Plain (length stk)) e h) g
 
     refuse-ended : within 49 57 x ≡ false → eqb x 37 ≡ false → goesOn x stk q ≡ wrong → ⊥
-    unfolding lex feed onFed Plain
+    unfolding lex feed onFed
     refuse-ended e p g =
-        let k : before (atom b ls ∷ []) (lex between (x ∷ xs)) ≡ some us = sym (onFed-ended (atom b ls) (begin x) (λ y. lex y xs)) ∙ (rw (one, e, p) at l) in
-        let w : record { rest : List Piece; lexed : lex between (x ∷ xs) ≡ some rest; is : us ≡ (atom b ls ∷ []) ++ rest } =
-        before-some (atom b ls ∷ []) (lex between (x ∷ xs)) us k in
-        let y : record { rows : List Row; reads : Reads (w .rest) (st (suc n) n stk (v .t′) after) rows f } =
-        reads-rest (atom b ls ∷ []) (reads-cons (steps-atom b ls n cur stk t ph (v .ks) (v .t′) (v .does)) (reads-nil _))
-        (subst (λ (z : List Piece). Reads z (st n cur stk t ph) r f) (w .is) d) in
-        refuse-closed x xs (w .rest) (w .lexed) stk q (suc n) n (v .t′) (y .rows) f (y .reads) (subst (Plain (length stk)) (w .is) h) g
+        go (before-some (atom b ls ∷ []) (lex between (x ∷ xs)) us (sym (onFed-ended (atom b ls) (begin x) (λ y. lex y xs)) ∙ (rw (one, e, p) at l)))
+      where
+        go : After (atom b ls ∷ []) (lex between (x ∷ xs)) us → ⊥
+        go w = ended-refused (w .rest) (w .lexed) (w .is) g
 
     refuse-pending : digitOr x stk q ≡ wrong → ⊥
     unfolding digitOr
@@ -442,9 +463,9 @@ accepted (x ∷ xs) {G} {L} {s} us r n′ e few v l d small h =
   where
     more : (H : State) (m : Takes L s x (lastOf G) H)
         → ((us′ : List Piece) (r′ : List Row) → lex (m .next) xs ≡ some us′ → Reads us′ (m .s′) r′ (st n′ e [] [] after) → Small us′ → Plain (deep (m .s′)) us′ → scan H xs ≡ true)
-        → (w : record { rest : List Piece; lexed : lex (m .next) xs ≡ some rest; is : us ≡ m .us ++ rest }) → scan H xs ≡ true
+        → (w : After (m .us) (lex (m .next) xs) us) → scan H xs ≡ true
     more H m ih w =
-        let y : record { rows : List Row; reads : Reads (w .rest) (m .s′) rows (st n′ e [] [] after) } =
+        let y : Rest (w .rest) (m .s′) (st n′ e [] [] after) =
         reads-rest (m .us) (m .reads) (subst (λ (z : List Piece). Reads z s r (st n′ e [] [] after)) (w .is) d) in
         ih (w .rest) (y .rows) (w .lexed) (y .reads) (each-rest (λ (k : ℕ). k < 10) (m .us) (w .rest) (subst Small (w .is) small))
         (plain-rest (m .us) (w .rest) (m .reads) (subst (Plain (deep s)) (w .is) h))

@@ -61,32 +61,37 @@ pub data State : Type 0 where
   wrong : State
   stands : Place → List ℕ → Rings → State
 
+-- an atom has to begin: "B C N O P S F I Cl Br b c n o s p * or brackets"
 unfoldable pub atomBegins : ℕ → List ℕ → Rings → State
 unfolding memb organic
 atomBegins x stk r = cond (memb x organic) (stands (letter x) stk (withAtom r)) (cond (eqb x (code "[")) (stands (inside 0) stk (withAtom r)) wrong)
 
+-- "one or more atoms, each after at most one bond"
 unfoldable pub bondOrAtom : ℕ → List ℕ → Rings → State
 unfolding memb marks atomBegins
 bondOrAtom x stk r = cond (memb x marks) (stands afterBond stk r) (atomBegins x stk r)
 
+-- the branch that was opened last ends; the next atom joins the one at which it started
 unfoldable pub branchCloses : List ℕ → Rings → State
 branchCloses [] r = wrong
 branchCloses (a ∷ stk) r = stands closed stk (backTo a r)
 
--- "branches in branches to depth 16"
+-- "branches in branches to depth 16, each opening as a tail does"
 unfoldable pub branchOpens : List ℕ → Rings → State
 branchOpens stk r = cond (ltb (length stk) 16) (stands opening (r .current ∷ stk) r) wrong
 
--- after an atom with its digits, or after a branch
+-- "A branch follows an atom, its digits or another branch"; so does an atom, and the end of a branch
 unfoldable pub goesOn : ℕ → List ℕ → Rings → State
 unfolding branchCloses branchOpens bondOrAtom
 goesOn x stk r = cond (eqb x (code ")")) (branchCloses stk r) (cond (eqb x (code "(")) (branchOpens stk r) (bondOrAtom x stk r))
 
+-- "digits 1 to 9 straight after an atom"
 unfoldable pub digitOr : ℕ → List ℕ → Rings → State
 unfolding within clashes withDigit goesOn
 digitOr x stk r =
     cond (within (code "1") (code "9") x) (cond (clashes (x - code "0") r) wrong (stands whole stk (withDigit (x - code "0") r))) (goesOn x stk r)
 
+-- "brackets of 1 to 16 letters, digits, `+ - @`"; k bytes of it stand there
 unfoldable pub bracketOn : ℕ → ℕ → List ℕ → Rings → State
 unfolding bracketed within
 bracketOn x k stk r = cond (bracketed x) (stands (inside (suc k)) stk r) (cond (eqb x (code "]") && within 1 16 k) (stands whole stk r) wrong)
@@ -125,7 +130,8 @@ unfolding step done
 scan q [] = done q
 scan q (x ∷ xs) = scan (step q x) xs
 
--- whether the bytes are a tail
+-- whether the bytes are a tail: "1 to 255 bytes". Exactly those that read by themselves, hung on an atom, with digits for labels, no dot and
+-- at most 16 branches in one another: `tail-alone` and `only-tails` of proofs/
 unfoldable pub isTail : List ℕ → Bool
 unfolding scan within
 isTail xs = cond (within 1 255 (length xs)) (scan (stands opening [] noRings) xs) false

@@ -1,5 +1,6 @@
-// The check of a tail, the part of a line that the caller gives as text.
-// It promises 01's grammar exactly, for every byte string: what it accepts reads by itself, hung on an atom (proofs/Reading).
+// The check of a tail, the part of a line that the caller gives as text (01, Templates and the builder; refusal 23 rests on it).
+// It answers 01's grammar for every byte string. proofs/Alone and proofs/Exactly say what that is worth: the tails are exactly the texts,
+// within the limits, that read by themselves where they hang on an atom.
 ghost use mathlib.Core.Path.{_≡_};
 ghost use mathlib.Core.Bool.{true, false};
 ghost use Prim.Native.Nat.{_-_, _≤_, _<_};
