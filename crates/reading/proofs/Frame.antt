@@ -58,6 +58,14 @@ each-label-every f (dot ∷ us) = (tt, each-label-every f us)
 each-label-every f (lpar ∷ us) = (tt, each-label-every f us)
 each-label-every f (rpar ∷ us) = (tt, each-label-every f us)
 
+pub each-label-append : (P : ℕ → Type 0) (a b : List Piece) → EachLabel P a → EachLabel P b → EachLabel P (a ++ b)
+each-label-append P [] b h g = g
+each-label-append P (u ∷ a) b h g = (h .0, each-label-append P a b (h .1) g)
+
+pub each-label-split : (P : ℕ → Type 0) (a b : List Piece) → EachLabel P (a ++ b) → EachLabel P a × EachLabel P b
+each-label-split P [] b h = (tt, h)
+each-label-split P (u ∷ a) b h = let q : EachLabel P a × EachLabel P b = each-label-split P a b (h .1) in ((h .0, q .0), q .1)
+
 -- the label is not open
 abbrev pub Shut : List Entry → ℕ → Type 0
 Shut ext l = lookup l ext ≡ none

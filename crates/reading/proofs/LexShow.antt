@@ -24,7 +24,7 @@ pub true-T : (b : Bool) → b ≡ true → T b
 true-T true e = tt
 true-T false e = let z : _≡_ {A = ℕ} 0 1 = cc in absurd (omega arith)
 
-or-both : (a b : Bool) → (a || b) ≡ false → (a ≡ false) × (b ≡ false)
+pub or-both : (a b : Bool) → (a || b) ≡ false → (a ≡ false) × (b ≡ false)
 or-both true b e = let z : _≡_ {A = ℕ} 0 1 = cc in absurd (omega arith)
 or-both false b e = (refl, e)
 

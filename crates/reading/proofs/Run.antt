@@ -9,7 +9,7 @@ use Rattle.reading.specs.Row.{Row}
 use Rattle.reading.specs.Piece.{Piece, atom, mark, dot, lpar, rpar}
 use Rattle.reading.specs.Machine.{Entry, Phase, fresh, opened, after, marked, State, st, Out, fail, ok, Labelled, stop, links, labels, joins, plainly, placed, step, run, whole, readPieces}
 use Rattle.reading.proofs.Reading.{Reads, Steps, Split, reads-nil, reads-nil-only, reads-cons, reads-append, reads-split, steps-lpar, steps-rpar, steps-dot, steps-mark, steps-plain, reads-then}
-use Rattle.reading.proofs.Frame.{EachLabel}
+use Rattle.reading.proofs.Frame.{EachLabel, each-label-split}
 use Rattle.reading.proofs.Part.{none≢some}
 
 -- a mark, or none
@@ -139,10 +139,6 @@ reads-run us rs e = go (run us (st 0 0 [] [] fresh)) refl e
 
 -- ---- a run without labels reads
 
-each-split : (P : ℕ → Type 0) (a b : List Piece) → EachLabel P (a ++ b) → EachLabel P a × EachLabel P b
-each-split P [] b h = (tt, h)
-each-split P (u ∷ a) b h = let q : EachLabel P a × EachLabel P b = each-split P a b (h .1) in ((h .0, q .0), q .1)
-
 -- from a state, up to an atom or a `)`, with branches and labels as they were
 record Through (us : List Piece) (n cur : ℕ) (stk : List ℕ) (t : List Entry) (ph : Phase) : Type 0 where
   rows : List Row
@@ -169,21 +165,21 @@ through : {us : List Piece} → Run us → EachLabel NoLabel us → (n cur : ℕ
 unfolding step
 through (first b ls) h n cur stk t ph = through-atom b ls n cur stk t ph h
 through (and-atom {us} {ms} r m b ls) h n cur stk t ph =
-    let q : EachLabel NoLabel us × EachLabel NoLabel (ms ++ atom b ls ∷ []) = each-split NoLabel us (ms ++ atom b ls ∷ []) h in
-    let a : EachLabel NoLabel ms × EachLabel NoLabel (atom b ls ∷ []) = each-split NoLabel ms (atom b ls ∷ []) (q .1) in
+    let q : EachLabel NoLabel us × EachLabel NoLabel (ms ++ atom b ls ∷ []) = each-label-split NoLabel us (ms ++ atom b ls ∷ []) h in
+    let a : EachLabel NoLabel ms × EachLabel NoLabel (atom b ls ∷ []) = each-label-split NoLabel ms (atom b ls ∷ []) (q .1) in
     let x : Through us n cur stk t ph = through r (q .0) n cur stk t ph in
     let y : Through (ms ++ atom b ls ∷ []) (x .n′) (x .cur′) stk t after =
     through-marked (atom b ls ∷ []) m (x .n′) (x .cur′) stk t after (λ k. steps-mark k (x .n′) (x .cur′) stk t) (λ p. through-atom b ls (x .n′) (x .cur′) stk t p (a .1)) in
     record { rows = x .rows ++ y .rows; n′ = y .n′; cur′ = y .cur′; reads = reads-append (x .reads) (y .reads) }
 through (and-dot {us} r b ls) h n cur stk t ph =
-    let q : EachLabel NoLabel us × EachLabel NoLabel (dot ∷ atom b ls ∷ []) = each-split NoLabel us (dot ∷ atom b ls ∷ []) h in
+    let q : EachLabel NoLabel us × EachLabel NoLabel (dot ∷ atom b ls ∷ []) = each-label-split NoLabel us (dot ∷ atom b ls ∷ []) h in
     let x : Through us n cur stk t ph = through r (q .0) n cur stk t ph in
     let y : Through (atom b ls ∷ []) (x .n′) (x .cur′) stk t fresh = through-atom b ls (x .n′) (x .cur′) stk t fresh (q .1 .1) in
     record { rows = x .rows ++ y .rows; n′ = y .n′; cur′ = y .cur′; reads = reads-append (x .reads) (reads-cons (steps-dot (x .n′) (x .cur′) stk t) (y .reads)) }
 through (and-branch {us} {ms} {vs} r m v) h n cur stk t ph =
-    let q : EachLabel NoLabel us × EachLabel NoLabel ((lpar ∷ ms ++ vs) ++ rpar ∷ []) = each-split NoLabel us ((lpar ∷ ms ++ vs) ++ rpar ∷ []) h in
-    let a : EachLabel NoLabel (lpar ∷ ms ++ vs) × EachLabel NoLabel (rpar ∷ []) = each-split NoLabel (lpar ∷ ms ++ vs) (rpar ∷ []) (q .1) in
-    let w : EachLabel NoLabel ms × EachLabel NoLabel vs = each-split NoLabel ms vs (a .0 .1) in
+    let q : EachLabel NoLabel us × EachLabel NoLabel ((lpar ∷ ms ++ vs) ++ rpar ∷ []) = each-label-split NoLabel us ((lpar ∷ ms ++ vs) ++ rpar ∷ []) h in
+    let a : EachLabel NoLabel (lpar ∷ ms ++ vs) × EachLabel NoLabel (rpar ∷ []) = each-label-split NoLabel (lpar ∷ ms ++ vs) (rpar ∷ []) (q .1) in
+    let w : EachLabel NoLabel ms × EachLabel NoLabel vs = each-label-split NoLabel ms vs (a .0 .1) in
     let x : Through us n cur stk t ph = through r (q .0) n cur stk t ph in
     let y : Through (ms ++ vs) (x .n′) (x .cur′) (x .cur′ ∷ stk) t opened =
     through-marked vs m (x .n′) (x .cur′) (x .cur′ ∷ stk) t opened (λ k. record { by = refl }) (λ p. through v (w .1) (x .n′) (x .cur′) (x .cur′ ∷ stk) t p) in

@@ -19,10 +19,11 @@ use Rattle.reading.specs.Machine.{Entry, entry, Phase, fresh, opened, after, ma
 use Rattle.reading.specs.Part.{Part, alone, partRead, partLexed, partOf}
 use Rattle.reading.proofs.Reading.{Reads, Steps, reads-nil, reads-cons, reads-append, steps-atom, steps-lpar, steps-rpar, steps-mark}
 use Rattle.reading.proofs.OpenLabels.{lookup-same, lookup-other, lookup-removed, lookup-remove-other, nothing-open, label-opens, label-closes, labels-snoc}
-use Rattle.reading.proofs.Frame.{EachOf, EachLabel}
-use Rattle.reading.proofs.LexShow.{feed-digit, feed-inside, feed-bracket-end, feed-ended, feed-second, begin-mark, true-T}
+use Rattle.reading.proofs.Frame.{EachOf, EachLabel, each-label-append}
+use Rattle.reading.proofs.LexShow.{feed-digit, feed-inside, feed-bracket-end, feed-ended, feed-second, begin-mark, true-T, or-both}
 use Rattle.reading.proofs.ShowLex.{within-both, and-both}
 use Rattle.tail.specs.declared.Rings.{Rings}
+use Rattle.tail.proofs.Bytes.{or-false}
 use Rattle.tail.proofs.Scan.{digit-last, scan-wrong}
 use Rattle.tail.specs.Grammar.{noRings, withAtom, bonded, clashes, withDigit, noneOpen, State, wrong, stands, opening, afterBond, whole, closed, letter, inside, atomBegins, bondOrAtom, branchCloses, branchOpens, goesOn, digitOr, bracketOn, step, finished, done, scan, isTail}
 
@@ -77,10 +78,6 @@ like-start =
       many = length-replicate {A = ℕ} 256 0;
     }
 
-or-false : (a : Bool) → (a || false) ≡ a
-or-false true = refl
-or-false false = refl
-
 -- a new atom
 pending-new : (q : Rings) (n cur : ℕ) (t : List Entry) (ph : Phase) → Joining ph → Like q n cur t → Pending (withAtom q) [] n cur t ph
 unfolding joins labels among
@@ -115,10 +112,6 @@ or-true false = refl
 
 pub false≢true : false ≡ true → ⊥
 false≢true e = let z : _≡_ {A = ℕ} 0 1 = cc in omega arith
-
-pub or-none : (a b : Bool) → (a || b) ≡ false → (a ≡ false) × (b ≡ false)
-or-none true b e = let z : _≡_ {A = ℕ} 0 1 = cc in absurd (omega arith)
-or-none false b e = (refl, e)
 
 open-on : (a : ℕ) → 1 ≤ a → openOn a ≡ some a
 open-on zero h = absurd (omega arith)
@@ -207,7 +200,7 @@ module _ (q : Rings) (ls : List ℕ) (n cur : ℕ) (t : List Entry) (ph : Phase)
       place = omega (arith, v .like .many, v .like .known d, e)
 
       apart : (eqb (suc a) (q .current) ≡ false) × ((eqb (suc a) (q .parent) || eqb (getD (q .joined) (suc a) 0) (q .current)) ≡ false)
-      apart = or-none (eqb (suc a) (q .current)) _ (rw (ne-eqb (getD (q .opened) d 0) 0 (λ w. omega (arith, e)), e) at c)
+      apart = or-both (eqb (suc a) (q .current)) _ (rw (ne-eqb (getD (q .opened) d 0) 0 (λ w. omega (arith, e)), e) at c)
 
       table : (m : ℕ) → Dec (m ≡ d) → lookup m (remove d (v .t′)) ≡ openOn (getD (set (q .opened) d 0) m 0)
       table m (yes w) = rw (w, lookup-removed d (v .t′), getD-set-same (q .opened) d 0 0 room)
@@ -518,10 +511,6 @@ pub record Ends (L : Lex) (s : Machine) (xs : List ℕ) : Type 0 where
   pub digits : EachLabel (λ (d : ℕ). d < 10) us
   pub plain : Plain (deep s) us
 
-each-append : (P : ℕ → Type 0) (a b : List Piece) → EachLabel P a → EachLabel P b → EachLabel P (a ++ b)
-each-append P [] b h g = g
-each-append P (u ∷ a) b h g = (h .0, each-append P a b (h .1) g)
-
 ends-more : {L : Lex} {s : Machine} {x l : ℕ} {G : State} (xs : List ℕ) (m : Takes L s x l G) → Ends (m .next) (m .s′) xs → Ends L s (x ∷ xs)
 unfolding lex onFed before
 ends-more {L} {s} {x} {l} {G} xs m e =
@@ -532,7 +521,7 @@ ends-more {L} {s} {x} {l} {G} xs m e =
       last = e .last;
       lexes = ap (λ (z : Fed). onFed z (λ q′. lex q′ xs)) (m .feeds) ∙ ap (before (m .us)) (e .lexes);
       reads = reads-append (m .reads) (e .reads);
-      digits = each-append (λ (d : ℕ). d < 10) (m .us) (e .us) (m .digits) (e .digits);
+      digits = each-label-append (λ (d : ℕ). d < 10) (m .us) (e .us) (m .digits) (e .digits);
       plain = m .plain (e .us) (e .plain);
     }
 

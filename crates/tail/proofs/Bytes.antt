@@ -58,7 +58,7 @@ module _ (x : ℕ) (a : Bool) (e : a ≡ within 65 90 x) (f : a ≡ false) where
 
 -- ---- the second letter of an atom
 
-or-false : (a : Bool) → (a || false) ≡ a
+pub or-false : (a : Bool) → (a || false) ≡ a
 or-false true = refl
 or-false false = refl
 

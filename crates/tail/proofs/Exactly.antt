@@ -15,7 +15,7 @@ use Rattle.reading.specs.Lexer.{memb, within, organic, marks, bracketed, pairs,
 use Rattle.reading.specs.Machine.{Entry, Phase, fresh, opened, after, marked, State as Machine, st, Out, fail, ok, lookup, among, Labelled, stop, links, close, found, label, andLabels, labels, joins, placed, step as stepPiece}
 use Rattle.reading.specs.Part.{Part}
 use Rattle.reading.proofs.Reading.{Reads, Split, fail≢ok, reads-nil, reads-nil-only, reads-cons, reads-split, steps-atom}
-use Rattle.reading.proofs.Frame.{EachOf, EachLabel}
+use Rattle.reading.proofs.Frame.{EachOf, EachLabel, each-label-split}
 use Rattle.reading.proofs.LexShow.{onFed-ended, lex-show}
 use Rattle.reading.proofs.ShowLex.{within-both}
 use Rattle.reading.proofs.Part.{none≢some, PartFrom, part-from}
@@ -27,10 +27,6 @@ use Rattle.tail.proofs.Alone.{openOn, Like, Pending, Sim, at-opening, a
 
 abbrev Small : List Piece → Type 0
 Small us = EachLabel (λ (d : ℕ). d < 10) us
-
-each-rest : (P : ℕ → Type 0) (a b : List Piece) → EachLabel P (a ++ b) → EachLabel P b
-each-rest P [] b h = h
-each-rest P (u ∷ a) b h = each-rest P a b (h .1)
 
 -- ---- what is read comes apart
 
@@ -467,7 +463,7 @@ accepted (x ∷ xs) {G} {L} {s} us r n′ e few v l d small h =
     more H m ih w =
         let y : Rest (w .rest) (m .s′) (st n′ e [] [] after) =
         reads-rest (m .us) (m .reads) (subst (λ (z : List Piece). Reads z s r (st n′ e [] [] after)) (w .is) d) in
-        ih (w .rest) (y .rows) (w .lexed) (y .reads) (each-rest (λ (k : ℕ). k < 10) (m .us) (w .rest) (subst Small (w .is) small))
+        ih (w .rest) (y .rows) (w .lexed) (y .reads) (each-label-split (λ (k : ℕ). k < 10) (m .us) (w .rest) (subst Small (w .is) small) .1)
         (plain-rest (m .us) (w .rest) (m .reads) (subst (Plain (deep s)) (w .is) h))
 
     go : (H : State) → step G x ≡ H → May L s x (lastOf G) H

@@ -3,13 +3,14 @@ use Prim.Native.Nat.{ℕ, suc, _+_, _-_, _≤_, _<_}
 use native.Mathlib.Numerals.{add-one}
 use native.Mathlib.Omega.{arith}
 use mathlib.Core.Path.{_≡_, refl, sym, ap, _∙_}
-use mathlib.Core.Bool.{Bool, true, false, not, cond, _&&_}
+use mathlib.Core.Bool.{Bool, true, false, not, cond}
 use mathlib.Core.List.{List, [], _∷_}
 use lib.ListN.{length, drop, getD}
 use lib.Seq.{drop-cons, drop-length}
-use lib.Dec.{eqb, leb}
-use borrow.Author.Tests.{lt-ltb, le-ltb, eq-eqb, ne-eqb, le-leb, lt-leb, leb-true, not-true, not-false}
+use lib.Dec.{eqb}
+use borrow.Author.Tests.{lt-ltb, le-ltb, eq-eqb, ne-eqb, le-leb, lt-leb, not-true, not-false}
 use Rattle.reading.specs.Lexer.{memb, within, organic, marks, bracketed, pairs}
+use Rattle.reading.proofs.ShowLex.{within-both}
 use Rattle.tail.specs.declared.Rings.{Rings}
 use Rattle.tail.specs.declared.Found.{Found}
 use Rattle.tail.specs.declared.Found.the-variants.{Next, Nothing}
@@ -196,13 +197,7 @@ pub digits-first : (s : List ℕ) (at : ℕ) (q : Rings) → Digits s at q → I
 digits-first s at q h = record { same = λ stk. refl; least = omega arith; within = h .within; few = h .few }
 
 pub a-digit : (x : ℕ) (a : Bool) → a ≡ within 49 57 x → not a ≡ false → IsDigit x
-unfolding within
-a-digit x a e f = go (leb 49 x) refl (leb x 57) refl (sym e ∙ not-false a f)
-  where
-    go : (b : Bool) → leb 49 x ≡ b → (c : Bool) → leb x 57 ≡ c → (b && c) ≡ true → IsDigit x
-    go true p true q r = record { low = leb-true 49 x p; high = leb-true x 57 q }
-    go true p false q r = let z : _≡_ {A = ℕ} 0 1 = cc in absurd (omega arith)
-    go false p c q r = let z : _≡_ {A = ℕ} 0 1 = cc in absurd (omega arith)
+a-digit x a e f = let w : (49 ≤ x) × (x ≤ 57) = within-both 49 57 x (sym e ∙ not-false a f) in record { low = w .0; high = w .1 }
 
 module _ (s : List ℕ) (at : ℕ) (q₀ : Rings) (i : ℕ) (q : Rings) (v : InDigits s at q₀ i q) where
   pub digits-end : length s ≤ i → PastDigits s at q₀ (record { ok = true; next = i; rings = q })
