@@ -19,5 +19,6 @@ pub mod TrailerLaws
 pub mod NoBlank
 pub mod SetLaws
 pub mod LineLaws
+pub mod Exact
 pub mod Refusals
 pub mod LineExamples

@@ -21,7 +21,7 @@ use Rattle.reading.specs.Trailer.{Trailer, trailer, readTrailer}
 use Rattle.reading.specs.Line.{Apart, apart, barred, apartOf, flat, summed, below, distinct, times, once, rising, placedWell, swapsWell, sumsWell, judged, judgedApart, readLine}
 use Rattle.reading.specs.Show.{blockTexts, trailerTexts, labelBlocks, swapTexts, showTrailer, showBlocks, showLine, entries, upToLast}
 use Rattle.reading.proofs.PartingLaws.{and-left, and-right, and-both, All, all-map, NonEmpty, clear, Clears, clear-append, clear-one, clear-joined, parted-one, parted-then, parted-again, enclosed-between}
-use Rattle.reading.proofs.ListLaws.{below-all, all-below, times-all, all-times, once-elim, once-intro, distinct-times, rising-distinct}
+use Rattle.reading.proofs.ListLaws.{below-all, all-below, times-all, all-times, once-elim, once-intro, distinct-times, once-self, rising-distinct}
 use Rattle.reading.proofs.BlockLaws.{LabelFits, MarkFits, SitesFit, blocks-clear, blocks-read, entriesShown, entries-length, all-last, readLabels, labels-look, labels-times}
 use Rattle.reading.proofs.TrailerLaws.{SumFits, trailer-clear, trailer-read}
 use Rattle.reading.proofs.NoBlank.{text-clear}
@@ -163,6 +163,33 @@ pub record WellFormed (n : ℕ) (labels marks : List (At ℕ)) (sites : List (At
   pub sum-only : once (summed sums) (notesOf marks) ≡ true
   pub sum-some : All (λ s. NonEmpty (variablesOf s)) sums
   pub sum-number : All (λ s. numberOf s < 2 ^ 32) sums
+
+-- lists as a drawing makes them: marks and site lists by rising atom, variables rising, the sums' variables those of the marks in order
+pub rising-well : (n : ℕ) (labels marks : List (At ℕ)) (sites : List (At (List ℕ))) (sums : List Sum) → n ≤ 2 ^ 32
+    → below n (atomsOf labels) ≡ true → distinct (atomsOf labels) ≡ true → rising (notesOf labels) ≡ true → All LabelFits (notesOf labels)
+    → below n (atomsOf marks) ≡ true → rising (atomsOf marks) ≡ true → rising (notesOf marks) ≡ true → below 702 (notesOf marks) ≡ true
+    → below n (atomsOf sites) ≡ true → rising (atomsOf sites) ≡ true → below n (flat (notesOf sites)) ≡ true → All NonEmpty (notesOf sites)
+    → summed sums ≡ notesOf marks → All (λ s. NonEmpty (variablesOf s)) sums → All (λ s. numberOf s < 2 ^ 32) sums → WellFormed n labels marks sites sums
+rising-well n labels marks sites sums small la ld lr lf ma mr vr vn sa sr ss se same ue un =
+    let each-once : once (notesOf marks) (notesOf marks) ≡ true = once-self (notesOf marks) (rising-distinct (notesOf marks) vr) in
+    record {
+      atoms = small;
+      label-atoms = la;
+      label-apart = ld;
+      label-rising = lr;
+      label-fits = lf;
+      mark-atoms = ma;
+      mark-apart = rising-distinct (atomsOf marks) mr;
+      mark-named = vn;
+      site-atoms = sa;
+      site-apart = rising-distinct (atomsOf sites) sr;
+      site-sites = ss;
+      site-some = se;
+      sum-marked = rw same each-once;
+      sum-only = rw same each-once;
+      sum-some = ue;
+      sum-number = un;
+    }
 
 all-left : {A : Type 0} (P : A → Type 0) (xs ys : List A) → All P (xs ++ ys) → All P xs
 all-left P [] ys h = tt

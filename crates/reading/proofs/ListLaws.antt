@@ -114,3 +114,35 @@ unfolding distinct
 rising-distinct [] h = refl
 rising-distinct (x ∷ xs) h =
     and-both (not (memb x xs)) (distinct xs) (ap not (rising-none x xs x h (omega arith))) (rising-distinct xs (rising-tail x xs h))
+
+-- ---- lists end to end
+
+pub below-append : (n : ℕ) (xs ys : List ℕ) → below n xs ≡ true → below n ys ≡ true → below n (xs ++ ys) ≡ true
+unfolding below
+below-append n [] ys h g = g
+below-append n (x ∷ xs) ys h g =
+    and-both (ltb x n) (below n (xs ++ ys)) (and-left (ltb x n) (below n xs) h) (below-append n xs ys (and-right (ltb x n) (below n xs) h) g)
+
+pub below-more : (n m : ℕ) (xs : List ℕ) → n ≤ m → below n xs ≡ true → below m xs ≡ true
+unfolding below
+below-more n m [] l h = refl
+below-more n m (x ∷ xs) l h =
+    let b : x < n = ltb-true x n (and-left (ltb x n) (below n xs) h) in
+    and-both (ltb x m) (below m xs) (lt-ltb x m (omega arith)) (below-more n m xs l (and-right (ltb x n) (below n xs) h))
+
+-- what rises below m, and then what rises from m on, rises
+pub rising-append : (m : ℕ) (xs ys : List ℕ) → rising xs ≡ true → below m xs ≡ true → rising ys ≡ true → All (λ y. m ≤ y) ys → rising (xs ++ ys) ≡ true
+rising-append m [] ys r b s a = s
+rising-append m (x ∷ []) ys r b s a = first ys s a
+  where
+    small : x < m
+    small = unfold below in ltb-true x m (and-left (ltb x m) true b)
+
+    first : (ys : List ℕ) → rising ys ≡ true → All (λ y. m ≤ y) ys → rising (x ∷ ys) ≡ true
+    first [] s a = unfold rising in refl
+    first (y ∷ ys) s a = unfold rising in and-both (ltb x y) (rising (y ∷ ys)) (lt-ltb x y (omega (arith, small))) s
+rising-append m (x ∷ y ∷ xs) ys r b s a =
+    go (rising-append m (y ∷ xs) ys (rising-tail x (y ∷ xs) r) (unfold below in and-right (ltb x m) (below m (y ∷ xs)) b) s a)
+  where
+    go : rising (y ∷ (xs ++ ys)) ≡ true → rising (x ∷ y ∷ (xs ++ ys)) ≡ true
+    go h = unfold rising in and-both (ltb x y) (rising (y ∷ (xs ++ ys))) (and-left (ltb x y) (rising (y ∷ xs)) r) h

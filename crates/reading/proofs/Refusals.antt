@@ -18,10 +18,11 @@ use Rattle.reading.specs.Trailer.{Trailer, trailer}
 use Rattle.reading.specs.Line.{Apart, apart, apartOf, flat, summed, below, distinct, times, once, rising, placedWell, swapsWell, sumsWell, judged, judgedApart, readLine}
 use Rattle.reading.proofs.PartingLaws.{and-left, and-right, All}
 use Rattle.reading.proofs.ListLaws.{below-all, once-elim, distinct-times}
+use Rattle.reading.proofs.Exact.{lineOf, apart-exact}
 
 -- What holds of a line that reads as m
 pub record Kept (xs : List ℕ) (m : Molecule) : Type 0 where
-  -- its parts
+  -- its parts, of which it is the text and nothing else
   pub text : List ℕ
   pub rows : List Row
   pub entries : List (Option ℕ)
@@ -30,6 +31,7 @@ pub record Kept (xs : List ℕ) (m : Molecule) : Type 0 where
   pub swaps : List ℕ
   pub sums : List Sum
   pub parts : apartOf (parted 32 xs) ≡ some (apart text (blocks entries marks sites) (trailer swaps sums))
+  pub line-is : lineOf (apart text (blocks entries marks sites) (trailer swaps sums)) ≡ xs
   pub text-reads : readText text ≡ some rows
   pub molecule-is : m ≡ moleculeOf rows (labelled 0 entries) marks sites sums
   -- "an index past the atoms"
@@ -106,6 +108,7 @@ kept-judged xs m text es ms fs ws ss rows p r h =
       swaps = ws;
       sums = ss;
       parts = p;
+      line-is = apart-exact xs (apart text (blocks es ms fs) (trailer ws ss)) p;
       text-reads = r;
       molecule-is = t .1;
       entry-atoms = well .entry-atoms;
