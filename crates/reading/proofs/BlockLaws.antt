@@ -17,9 +17,9 @@ use Rattle.emit.specs.Text.{decimal}
 use Rattle.scan.specs.Number.{isDigit}
 use Rattle.scan.specs.Part.{sameBytes}
 use Rattle.reading.specs.Numeral.{number}
-use Rattle.reading.specs.Names.{small, nameOf, variable}
+use Rattle.reading.specs.Names.{nameCount, small, nameOf, variable}
 use Rattle.reading.specs.Molecule.{At, at, atomsOf, notesOf, look}
-use Rattle.reading.specs.Blocks.{snDigit, labelOf, entryOf, labelled, some-labels, entriesOf, markOf, sitesOf, Blocks, blocks, onlySites, marksThen, readBlocks}
+use Rattle.reading.specs.Blocks.{snDigit, labelOf, entryOf, labelled, someLabels, entriesOf, markOf, sitesOf, Blocks, blocks, onlySites, marksThen, readBlocks}
 use Rattle.reading.specs.Line.{distinct, times}
 use Rattle.reading.specs.Show.{showLabel, showEntry, entries, upToLast, labelBlock, showMark, showSites, labelBlocks, blockTexts}
 use Rattle.reading.proofs.PartingLaws.{and-left, and-right, every, All, all-map, all-any, NonEmpty, clear, Clears, clear-append, clear-class, clear-one, clear-joined, clears-shown, clears-append, parted-one, parted-then, each-shown, enclosed-between, list-read}
@@ -37,12 +37,12 @@ name-clear ss v h = clear-class small ss (nameOf v) (name-small v) h
 
 -- what can be shown: numbers below 2^32, variables that have a name of their own, lists that are not empty
 abbrev pub MarkFits : At ℕ → Type 0
-MarkFits (at i v) = (i < 2 ^ 32) × (v < 702)
+MarkFits (at i v) = (i < 2 ^ 32) × (v < nameCount)
 
 abbrev pub SitesFit : At (List ℕ) → Type 0
 SitesFit (at i js) = (i < 2 ^ 32) × (NonEmpty js × All (λ j. j < 2 ^ 32) js)
 
-pub mark-read : (i v : ℕ) → i < 2 ^ 32 → v < 702 → markOf (showMark (at i v)) ≡ some (at i v)
+pub mark-read : (i v : ℕ) → i < 2 ^ 32 → v < nameCount → markOf (showMark (at i v)) ≡ some (at i v)
 unfolding markOf showMark ascii follows every isDigit small within parted sameBytes
 mark-read i v h g =
     rw (
@@ -290,7 +290,7 @@ labels-times ls d x = counted-all x (upToLast ls) ls d (last-all (upToLast ls) l
 
 -- ---- the blocks
 
-some-read : (a sn : ℕ) (ls : List (At ℕ)) (es : List (Option ℕ)) → look a ls ≡ some sn → some-labels ls es ≡ some es
+some-read : (a sn : ℕ) (ls : List (At ℕ)) (es : List (Option ℕ)) → look a ls ≡ some sn → someLabels ls es ≡ some es
 unfolding look
 some-read a sn [] es h = cc
 some-read a sn (l ∷ ls) es h = refl

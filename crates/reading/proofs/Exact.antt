@@ -17,7 +17,7 @@ use Rattle.reading.specs.Parting.{_>>=_, each, onFirst, parted, two, thr
 use Rattle.reading.specs.Numeral.{number}
 use Rattle.reading.specs.Names.{nameOf, variable}
 use Rattle.reading.specs.Molecule.{At, at, Sum, sum}
-use Rattle.reading.specs.Blocks.{snDigit, labelOf, entryOf, labelled, some-labels, entriesOf, markOf, sitesOf, Blocks, blocks, onlySites, marksThen, readBlocks}
+use Rattle.reading.specs.Blocks.{snDigit, labelOf, entryOf, labelled, someLabels, entriesOf, markOf, sitesOf, Blocks, blocks, onlySites, marksThen, readBlocks}
 use Rattle.reading.specs.Trailer.{swapOf, sumOf, Trailer, trailer, onlySums, readTrailer}
 use Rattle.reading.specs.Line.{Apart, apart, barred, apartOf}
 use Rattle.reading.specs.Show.{showLabel, showEntry, showMark, showSites, showSwap, showSum, showTrailer, showBlocks}
@@ -171,7 +171,7 @@ unfoldable pub showEntries : List (Option ℕ) → List ℕ
 unfolding ascii joined showEntry
 showEntries es = ascii "$" ++ (joined 59 (map showEntry es) ++ ascii "$")
 
-some-told : (ls : List (At ℕ)) (es r : List (Option ℕ)) → some-labels ls es ≡ some r → es ≡ r
+some-told : (ls : List (At ℕ)) (es r : List (Option ℕ)) → someLabels ls es ≡ some r → es ≡ r
 some-told [] es r e = let z : _≡_ {A = ℕ} 0 1 = cc in absurd (omega arith)
 some-told (l ∷ ls) es r e = cc
 
@@ -278,7 +278,7 @@ entries-some p (x ∷ es) e = refl
 entries-some p [] e =
     after (enclosed (ascii "$") 36 p) _ [] e λ r f c. after (each entryOf (parted 59 r)) _ [] c λ q g d. nothing q (some-told (labelled 0 q) q [] d) d
   where
-    nothing : (q : List (Option ℕ)) → q ≡ [] → some-labels (labelled 0 q) q ≡ some [] → entryBlocks [] ≡ showEntries [] ∷ []
+    nothing : (q : List (Option ℕ)) → q ≡ [] → someLabels (labelled 0 q) q ≡ some [] → entryBlocks [] ≡ showEntries [] ∷ []
     nothing [] n d = unfold labelled in cc
     nothing (x ∷ q) n d = cc
 

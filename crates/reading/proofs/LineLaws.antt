@@ -15,6 +15,7 @@ use Rattle.reading.specs.Lexer.{memb, within}
 use Rattle.reading.specs.Row.{Row, row}
 use Rattle.reading.specs.Text.{readText}
 use Rattle.reading.specs.Parting.{_>>=_, parted, follows, closed, enclosed, joined}
+use Rattle.reading.specs.Names.{nameCount}
 use Rattle.reading.specs.Molecule.{At, at, atomsOf, notesOf, look, Atom, atom, Bond, Sum, sum, variablesOf, numberOf, Molecule, molecule, atomsFrom, bondsOf, setOf, sumKey, moleculeOf}
 use Rattle.reading.specs.Blocks.{Blocks, blocks, readBlocks, labelled}
 use Rattle.reading.specs.Trailer.{Trailer, trailer, readTrailer}
@@ -152,7 +153,7 @@ pub record WellFormed (n : ℕ) (labels marks : List (At ℕ)) (sites : List (At
   -- marks: at atoms of the text, no two at one atom, of variables that have names
   pub mark-atoms : below n (atomsOf marks) ≡ true
   pub mark-apart : distinct (atomsOf marks) ≡ true
-  pub mark-named : below 702 (notesOf marks) ≡ true
+  pub mark-named : below nameCount (notesOf marks) ≡ true
   -- site lists: at atoms of the text, no two at one atom, of atoms of the text, none empty
   pub site-atoms : below n (atomsOf sites) ≡ true
   pub site-apart : distinct (atomsOf sites) ≡ true
@@ -167,7 +168,7 @@ pub record WellFormed (n : ℕ) (labels marks : List (At ℕ)) (sites : List (At
 -- lists as a drawing makes them: marks and site lists by rising atom, variables rising, the sums' variables those of the marks in order
 pub rising-well : (n : ℕ) (labels marks : List (At ℕ)) (sites : List (At (List ℕ))) (sums : List Sum) → n ≤ 2 ^ 32
     → below n (atomsOf labels) ≡ true → distinct (atomsOf labels) ≡ true → rising (notesOf labels) ≡ true → All LabelFits (notesOf labels)
-    → below n (atomsOf marks) ≡ true → rising (atomsOf marks) ≡ true → rising (notesOf marks) ≡ true → below 702 (notesOf marks) ≡ true
+    → below n (atomsOf marks) ≡ true → rising (atomsOf marks) ≡ true → rising (notesOf marks) ≡ true → below nameCount (notesOf marks) ≡ true
     → below n (atomsOf sites) ≡ true → rising (atomsOf sites) ≡ true → below n (flat (notesOf sites)) ≡ true → All NonEmpty (notesOf sites)
     → summed sums ≡ notesOf marks → All (λ s. NonEmpty (variablesOf s)) sums → All (λ s. numberOf s < 2 ^ 32) sums → WellFormed n labels marks sites sums
 rising-well n labels marks sites sums small la ld lr lf ma mr vr vn sa sr ss se same ue un =
@@ -199,7 +200,7 @@ all-right : {A : Type 0} (P : A → Type 0) (xs ys : List A) → All P (xs ++ ys
 all-right P [] ys h = h
 all-right P (x ∷ xs) ys h = all-right P xs ys (h .1)
 
-fit-marks : (n : ℕ) (ms : List (At ℕ)) → n ≤ 2 ^ 32 → All (λ i. i < n) (atomsOf ms) → All (λ v. v < 702) (notesOf ms) → All MarkFits ms
+fit-marks : (n : ℕ) (ms : List (At ℕ)) → n ≤ 2 ^ 32 → All (λ i. i < n) (atomsOf ms) → All (λ v. v < nameCount) (notesOf ms) → All MarkFits ms
 unfolding atomsOf notesOf
 fit-marks n [] l a v = tt
 fit-marks n (at i v ∷ ms) l a w = ((omega arith, w .0), fit-marks n ms l (a .1) (w .1))
@@ -213,11 +214,11 @@ fit-sites n (at i js ∷ fs) l a s e = (
   fit-sites n fs l (a .1) (all-right (λ j. j < n) js (flat (notesOf fs)) s) (e .1),
 )
 
-fit-sums : (ss : List Sum) → All (λ v. v < 702) (summed ss) → All (λ s. NonEmpty (variablesOf s)) ss → All (λ s. numberOf s < 2 ^ 32) ss → All SumFits ss
+fit-sums : (ss : List Sum) → All (λ v. v < nameCount) (summed ss) → All (λ s. NonEmpty (variablesOf s)) ss → All (λ s. numberOf s < 2 ^ 32) ss → All SumFits ss
 unfolding summed
 fit-sums [] v e n = tt
 fit-sums (sum vs k ∷ ss) v e n =
-    ((e .0, (all-left (λ v. v < 702) vs (summed ss) v, n .0)), fit-sums ss (all-right (λ v. v < 702) vs (summed ss) v) (e .1) (n .1))
+    ((e .0, (all-left (λ v. v < nameCount) vs (summed ss) v, n .0)), fit-sums ss (all-right (λ v. v < nameCount) vs (summed ss) v) (e .1) (n .1))
 
 -- sums stand beside marks
 summed-some : (ss : List Sum) → NonEmpty ss → All (λ s. NonEmpty (variablesOf s)) ss → NonEmpty (summed ss)
@@ -239,17 +240,17 @@ blocks-some [] (m ∷ marks) sites n = tt
 blocks-some (l ∷ labels) (m ∷ marks) sites n = tt
 
 module _ (n : ℕ) (labels marks : List (At ℕ)) (sites : List (At (List ℕ))) (sums : List Sum) (w : WellFormed n labels marks sites sums) where
-  sums-named : All (λ v. v < 702) (summed sums)
+  sums-named : All (λ v. v < nameCount) (summed sums)
   sums-named =
       all-times (summed sums)
-      (λ v t. times-all (λ v. v < 702) (notesOf marks) (below-all 702 (notesOf marks) (w .mark-named)) v
+      (λ v t. times-all (λ v. v < nameCount) (notesOf marks) (below-all nameCount (notesOf marks) (w .mark-named)) v
       (omega (arith, once-elim (summed sums) (notesOf marks) (w .sum-only) v t)))
 
   well-showable : Showable labels marks sites sums
   well-showable =
       record {
         labels-fit = w .label-fits;
-        marks-fit = fit-marks n marks (w .atoms) (below-all n (atomsOf marks) (w .mark-atoms)) (below-all 702 (notesOf marks) (w .mark-named));
+        marks-fit = fit-marks n marks (w .atoms) (below-all n (atomsOf marks) (w .mark-atoms)) (below-all nameCount (notesOf marks) (w .mark-named));
         sites-fit =
             fit-sites n sites (w .atoms) (below-all n (atomsOf sites) (w .site-atoms)) (below-all n (flat (notesOf sites)) (w .site-sites)) (w .site-some);
         sums-fit = fit-sums sums sums-named (w .sum-some) (w .sum-number);

@@ -65,7 +65,9 @@ record Placed (n : ℕ) (es : List (Option ℕ)) (ms : List (At ℕ)) (fs : List
 
 placed : (n : ℕ) (es : List (Option ℕ)) (ms : List (At ℕ)) (fs : List (At (List ℕ))) → placedWell n (blocks es ms fs) ≡ true → Placed n es ms fs
 unfolding placedWell
-placed n es ms fs h = go (leb (length es) n) refl (below n (atomsOf ms)) refl (below n (atomsOf fs)) refl (below n (flat (notesOf fs))) refl (distinct (atomsOf ms)) refl (distinct (atomsOf fs)) refl h
+placed n es ms fs h =
+    go (leb (length es) n) refl (below n (atomsOf ms)) refl (below n (atomsOf fs)) refl (below n (flat (notesOf fs))) refl (distinct (atomsOf ms)) refl
+    (distinct (atomsOf fs)) refl h
   where
     go : (a : Bool) → leb (length es) n ≡ a → (b : Bool) → below n (atomsOf ms) ≡ b → (c : Bool) → below n (atomsOf fs) ≡ c
         → (d : Bool) → below n (flat (notesOf fs)) ≡ d → (e : Bool) → distinct (atomsOf ms) ≡ e → (f : Bool) → distinct (atomsOf fs) ≡ f

@@ -11,7 +11,7 @@ use Rattle.reading.specs.Ascii.{ascii}
 use Rattle.reading.specs.Lexer.{memb, within}
 use Rattle.reading.specs.Parting.{_>>=_, each, parted, two, follows, closed, enclosed, joined}
 use Rattle.reading.specs.Numeral.{number}
-use Rattle.reading.specs.Names.{small, nameOf, variable}
+use Rattle.reading.specs.Names.{nameCount, small, nameOf, variable}
 use Rattle.reading.specs.Molecule.{At, at, notesOf, Sum, sum}
 use Rattle.reading.specs.Blocks.{labelOf}
 use Rattle.reading.specs.Trailer.{swapOf, sumOf, Trailer, trailer, onlySums, readTrailer}
@@ -23,7 +23,7 @@ use Rattle.reading.proofs.BlockLaws.{decimal-clear, name-clear, LabelFi
 
 -- what can be shown: variables that have a name of their own, at least one, and a number below 2^32
 abbrev pub SumFits : Sum → Type 0
-SumFits (sum vs n) = NonEmpty vs × (All (λ v. v < 702) vs × (n < 2 ^ 32))
+SumFits (sum vs n) = NonEmpty vs × (All (λ v. v < nameCount) vs × (n < 2 ^ 32))
 
 -- ---- `swappable(..)`
 
@@ -61,7 +61,7 @@ shown-sum : (vs : List ℕ) (n : ℕ) → showSum (sum vs n) ≡ ascii "constrai
 unfolding showSum sumText ascii
 shown-sum vs n = simp append-assoc
 
-pub sum-read : (vs : List ℕ) (n : ℕ) → NonEmpty vs → All (λ v. v < 702) vs → n < 2 ^ 32 → sumOf (showSum (sum vs n)) ≡ some (sum vs n)
+pub sum-read : (vs : List ℕ) (n : ℕ) → NonEmpty vs → All (λ v. v < nameCount) vs → n < 2 ^ 32 → sumOf (showSum (sum vs n)) ≡ some (sum vs n)
 unfolding sumOf clear memb every isDigit small within sumText
 sum-read vs n e h b =
     rw (

@@ -8,7 +8,7 @@ use mathlib.Core.List.{List, [], _∷_}
 use Rattle.scan.specs.Part.{sameBytes}
 use Rattle.reading.specs.Ascii.{ascii}
 use Rattle.reading.specs.Lexer.{within}
-use Rattle.reading.specs.Parting.{_>>=_, each, parted, two, three, follows, closed, enclosed}
+use Rattle.reading.specs.Parting.{dollar, point, colon, semicolon, _>>=_, each, parted, two, three, follows, closed, enclosed}
 use Rattle.reading.specs.Numeral.{number}
 use Rattle.reading.specs.Names.{variable}
 use Rattle.reading.specs.Molecule.{At, at}
@@ -40,21 +40,21 @@ labelled i (none ∷ es) = labelled (suc i) es
 labelled i (some sn ∷ es) = at i sn ∷ labelled (suc i) es
 
 -- a list of labels is not empty
-abbrev pub some-labels : List (At ℕ) → List (Option ℕ) → Option (List (Option ℕ))
-some-labels [] es = none
-some-labels (l ∷ ls) es = some es
+abbrev pub someLabels : List (At ℕ) → List (Option ℕ) → Option (List (Option ℕ))
+someLabels [] es = none
+someLabels (l ∷ ls) es = some es
 
 -- the entries of a `$..$`
 unfoldable pub entriesOf : List ℕ → Option (List (Option ℕ))
 unfolding ascii enclosed each parted entryOf labelled
-entriesOf xs = enclosed (ascii "$") 36 xs >>= λ r. each entryOf (parted 59 r) >>= λ es. some-labels (labelled 0 es) es
+entriesOf xs = enclosed (ascii "$") dollar xs >>= λ r. each entryOf (parted semicolon r) >>= λ es. someLabels (labelled 0 es) es
 
 -- ---- `Sg:n:i:v:ht`
 
 unfoldable pub markOf : List ℕ → Option (At ℕ)
 unfolding ascii follows parted number variable sameBytes
 markOf xs =
-    follows (ascii "Sg:n:") xs >>= λ r. three (parted 58 r) >>= λ p. number (p .0) >>= λ i. variable (p .1) >>= λ v.
+    follows (ascii "Sg:n:") xs >>= λ r. three (parted colon r) >>= λ p. number (p .0) >>= λ i. variable (p .1) >>= λ v.
     cond (sameBytes (p .2) (ascii "ht")) (some (at i v)) none
 
 -- ---- `m:i:`
@@ -62,7 +62,7 @@ markOf xs =
 unfoldable pub sitesOf : List ℕ → Option (At (List ℕ))
 unfolding ascii follows parted number each
 sitesOf xs =
-    follows (ascii "m:") xs >>= λ r. two (parted 58 r) >>= λ p. number (p .0) >>= λ i. each number (parted 46 (p .1)) >>= λ js. some (at i js)
+    follows (ascii "m:") xs >>= λ r. two (parted colon r) >>= λ p. number (p .0) >>= λ i. each number (parted point (p .1)) >>= λ js. some (at i js)
 
 -- ---- the blocks in their order
 
@@ -70,17 +70,18 @@ sitesOf xs =
 pub data Blocks : Type 0 where
   blocks : List (Option ℕ) → List (At ℕ) → List (At (List ℕ)) → Blocks
 
--- the blocks that are left: all are site lists
+-- after the marks, all blocks are site lists
 unfoldable pub onlySites : List (Option ℕ) → List (At ℕ) → List (List ℕ) → Option Blocks
 unfolding each sitesOf
 onlySites es ms bs = each sitesOf bs >>= λ fs. some (blocks es ms fs)
 
--- marks, as long as there are some, and then site lists; k has what the blocks before them say
+-- the marks that lead, as long as there are some: k gets them, and the blocks after them
 unfoldable pub marksThen : (List (At ℕ) → List (List ℕ) → Option Blocks) → List (List ℕ) → Option Blocks
 unfolding markOf
 marksThen k [] = k [] []
 marksThen k (b ∷ bs) = elim (markOf b) [ none ↦ k [] (b ∷ bs) | some m ↦ marksThen (λ ms r. k (m ∷ ms) r) bs ]
 
+-- a `$..$`, if the first block is one, then the marks and the site lists
 unfoldable pub readBlocks : List (List ℕ) → Option Blocks
 unfolding entriesOf onlySites marksThen
 readBlocks [] = none

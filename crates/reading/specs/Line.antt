@@ -9,7 +9,7 @@ use Rattle.reading.specs.Ascii.{ascii}
 use Rattle.reading.specs.Lexer.{memb}
 use Rattle.reading.specs.Row.{Row}
 use Rattle.reading.specs.Text.{readText}
-use Rattle.reading.specs.Parting.{_>>=_, parted, follows, closed, enclosed}
+use Rattle.reading.specs.Parting.{blank, comma, semicolon, bar, _>>=_, parted, follows, closed, enclosed}
 use Rattle.reading.specs.Molecule.{At, at, atomsOf, notesOf, Sum, variablesOf, Molecule, moleculeOf}
 use Rattle.reading.specs.Blocks.{Blocks, blocks, readBlocks, labelled}
 use Rattle.reading.specs.Trailer.{Trailer, trailer, readTrailer}
@@ -23,7 +23,7 @@ pub data Apart : Type 0 where
 -- "After a blank and `|`, commas part the blocks", "A closing `|` follows"
 unfoldable pub barred : List ℕ → Option Blocks
 unfolding ascii enclosed parted readBlocks
-barred xs = enclosed (ascii "|") 124 xs >>= λ r. readBlocks (parted 44 r)
+barred xs = enclosed (ascii "|") bar xs >>= λ r. readBlocks (parted comma r)
 
 -- no blank stands in any of the three parts, so the line is parted at each. Bare text has no blocks
 unfoldable pub apartOf : List (List ℕ) → Option Apart
@@ -31,7 +31,7 @@ unfolding barred readTrailer parted
 apartOf [] = none
 apartOf (t ∷ []) = some (apart t (blocks [] [] []) (trailer [] []))
 apartOf (t ∷ b ∷ []) = barred b >>= λ bs. some (apart t bs (trailer [] []))
-apartOf (t ∷ b ∷ r ∷ []) = barred b >>= λ bs. readTrailer (parted 59 r) >>= λ tr. some (apart t bs tr)
+apartOf (t ∷ b ∷ r ∷ []) = barred b >>= λ bs. readTrailer (parted semicolon r) >>= λ tr. some (apart t bs tr)
 apartOf (t ∷ b ∷ r ∷ q ∷ ps) = none
 
 -- ---- what the parts must have of one another
@@ -102,4 +102,4 @@ judgedApart (apart t bs tr) = readText t >>= λ rs. judged bs tr rs
 
 unfoldable pub readLine : List ℕ → Option Molecule
 unfolding parted apartOf judgedApart
-readLine xs = apartOf (parted 32 xs) >>= λ p. judgedApart p
+readLine xs = apartOf (parted blank xs) >>= λ p. judgedApart p

@@ -7,9 +7,9 @@ use mathlib.Core.List.{List, [], _∷_}
 use lib.Dec.{ltb}
 use Rattle.reading.specs.Lexer.{within}
 
--- the 26 names of one letter, and 26 * 26 of two
-unfoldable pub variables : ℕ
-variables = 702
+-- how many names there are: 26 of one letter, and 26 * 26 of two
+abbrev pub nameCount : ℕ
+nameCount = 702
 
 unfoldable pub small : ℕ → Bool
 unfolding within
@@ -21,7 +21,7 @@ nameBelow i = cond (ltb i 26) ((97 + i) ∷ []) ((97 + (i - 26) / 26) ∷ (97 + 
 -- the name of variable i; past zz the names begin again, as in document 000
 unfoldable pub nameOf : ℕ → List ℕ
 unfolding nameBelow
-nameOf i = nameBelow (i % 702)
+nameOf i = nameBelow (i % nameCount)
 
 -- the index of the variable with this name
 unfoldable pub variable : List ℕ → Option ℕ

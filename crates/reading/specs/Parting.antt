@@ -5,6 +5,38 @@ use mathlib.Core.Option.{Option, none, some}
 use mathlib.Core.List.{List, [], _∷_, _++_}
 use lib.Dec.{eqb}
 
+-- ---- the bytes that part a line, and those that close a part
+
+abbrev pub blank : ℕ
+blank = 32
+
+abbrev pub dollar : ℕ
+dollar = 36
+
+abbrev pub closing : ℕ
+closing = 41
+
+abbrev pub plus : ℕ
+plus = 43
+
+abbrev pub comma : ℕ
+comma = 44
+
+abbrev pub point : ℕ
+point = 46
+
+abbrev pub colon : ℕ
+colon = 58
+
+abbrev pub semicolon : ℕ
+semicolon = 59
+
+abbrev pub equals : ℕ
+equals = 61
+
+abbrev pub bar : ℕ
+bar = 124
+
 -- ---- a reader's answer, and what is read after it
 
 infixl 20 _>>=_

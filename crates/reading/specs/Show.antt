@@ -4,7 +4,7 @@ use Prim.Native.Nat.{ℕ, zero, suc, _+_, max}
 use mathlib.Core.Option.{Option, none, some}
 use mathlib.Core.List.{List, [], _∷_, _++_, map}
 use Rattle.reading.specs.Ascii.{ascii}
-use Rattle.reading.specs.Parting.{joined}
+use Rattle.reading.specs.Parting.{plus, comma, point, semicolon, joined}
 use Rattle.emit.specs.Text.{decimal}
 use Rattle.reading.specs.Names.{nameOf}
 use Rattle.reading.specs.Molecule.{At, at, notesOf, look, Sum, sum}
@@ -34,7 +34,7 @@ upToLast (at i sn ∷ ls) = max (suc i) (upToLast ls)
 -- trailing empty entries are left out
 unfoldable pub labelBlock : List (At ℕ) → List ℕ
 unfolding ascii joined showEntry entries upToLast
-labelBlock ls = ascii "$" ++ (joined 59 (map showEntry (entries (upToLast ls) 0 ls)) ++ ascii "$")
+labelBlock ls = ascii "$" ++ (joined semicolon (map showEntry (entries (upToLast ls) 0 ls)) ++ ascii "$")
 
 unfoldable pub showMark : At ℕ → List ℕ
 unfolding ascii decimal nameOf
@@ -42,7 +42,7 @@ showMark (at i v) = ascii "Sg:n:" ++ (decimal i ++ (ascii ":" ++ (nameOf v ++ as
 
 unfoldable pub showSites : At (List ℕ) → List ℕ
 unfolding ascii decimal joined
-showSites (at i js) = ascii "m:" ++ (decimal i ++ (ascii ":" ++ joined 46 (map decimal js)))
+showSites (at i js) = ascii "m:" ++ (decimal i ++ (ascii ":" ++ joined point (map decimal js)))
 
 -- a line has a `$..$` exactly where it has labels
 unfoldable pub labelBlocks : List (At ℕ) → List (List ℕ)
@@ -58,11 +58,11 @@ blockTexts labels marks sites = labelBlocks labels ++ (map showMark marks ++ map
 
 unfoldable pub showSwap : List ℕ → List ℕ
 unfolding ascii joined showLabel
-showSwap sns = ascii "swappable(" ++ (joined 44 (map showLabel sns) ++ ascii ")")
+showSwap sns = ascii "swappable(" ++ (joined comma (map showLabel sns) ++ ascii ")")
 
 unfoldable pub showSum : Sum → List ℕ
 unfolding ascii joined nameOf decimal
-showSum (sum vs n) = ascii "constrain(" ++ (joined 43 (map nameOf vs) ++ (ascii "=" ++ (decimal n ++ ascii ")")))
+showSum (sum vs n) = ascii "constrain(" ++ (joined plus (map nameOf vs) ++ (ascii "=" ++ (decimal n ++ ascii ")")))
 
 unfoldable pub swapTexts : List (At ℕ) → List (List ℕ)
 unfolding showSwap notesOf
@@ -78,12 +78,12 @@ trailerTexts labels sums = swapTexts labels ++ map showSum sums
 unfoldable pub showTrailer : List (List ℕ) → List ℕ
 unfolding ascii joined
 showTrailer [] = []
-showTrailer (t ∷ ts) = ascii " " ++ joined 59 (t ∷ ts)
+showTrailer (t ∷ ts) = ascii " " ++ joined semicolon (t ∷ ts)
 
 unfoldable pub showBlocks : List (List ℕ) → List (List ℕ) → List ℕ
 unfolding ascii joined showTrailer
 showBlocks [] ts = []
-showBlocks (b ∷ bs) ts = ascii " |" ++ (joined 44 (b ∷ bs) ++ (ascii "|" ++ showTrailer ts))
+showBlocks (b ∷ bs) ts = ascii " |" ++ (joined comma (b ∷ bs) ++ (ascii "|" ++ showTrailer ts))
 
 -- The line of a text with sn labels (by rising sn), marks and site lists at some of its atoms, and with sums
 unfoldable pub showLine : List ℕ → List (At ℕ) → List (At ℕ) → List (At (List ℕ)) → List Sum → List ℕ

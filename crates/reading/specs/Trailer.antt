@@ -5,7 +5,7 @@ use Prim.Native.Nat.{ℕ}
 use mathlib.Core.Option.{Option, none, some}
 use mathlib.Core.List.{List, [], _∷_}
 use Rattle.reading.specs.Ascii.{ascii}
-use Rattle.reading.specs.Parting.{_>>=_, each, parted, two, follows, closed, enclosed}
+use Rattle.reading.specs.Parting.{closing, plus, comma, equals, _>>=_, each, parted, two, follows, closed, enclosed}
 use Rattle.reading.specs.Numeral.{number}
 use Rattle.reading.specs.Names.{variable}
 use Rattle.reading.specs.Molecule.{Sum, sum}
@@ -14,13 +14,13 @@ use Rattle.reading.specs.Blocks.{labelOf}
 -- the labels of a `swappable(..)`
 unfoldable pub swapOf : List ℕ → Option (List ℕ)
 unfolding ascii enclosed each parted labelOf
-swapOf xs = enclosed (ascii "swappable(") 41 xs >>= λ r. each labelOf (parted 44 r)
+swapOf xs = enclosed (ascii "swappable(") closing xs >>= λ r. each labelOf (parted comma r)
 
 -- the sum of a `constrain(..)`
 unfoldable pub sumOf : List ℕ → Option Sum
 unfolding ascii enclosed each parted number variable
 sumOf xs =
-    enclosed (ascii "constrain(") 41 xs >>= λ r. two (parted 61 r) >>= λ p. each variable (parted 43 (p .0)) >>= λ vs. number (p .1) >>= λ n.
+    enclosed (ascii "constrain(") closing xs >>= λ r. two (parted equals r) >>= λ p. each variable (parted plus (p .0)) >>= λ vs. number (p .1) >>= λ n.
     some (sum vs n)
 
 -- what the trailer says; no labels where there is no `swappable(..)`
@@ -31,6 +31,7 @@ unfoldable pub onlySums : List ℕ → List (List ℕ) → Option Trailer
 unfolding each sumOf
 onlySums ws ts = each sumOf ts >>= λ ss. some (trailer ws ss)
 
+-- a `swappable(..)`, if the first part is one, then the sums
 unfoldable pub readTrailer : List (List ℕ) → Option Trailer
 unfolding swapOf onlySums
 readTrailer [] = none
