@@ -84,6 +84,7 @@ sites-clear (at i js) =
 
 -- ---- labels
 
+-- a label that can be shown: sn1 to sn4
 unfoldable pub LabelFits : ℕ → Type 0
 LabelFits sn = (1 ≤ sn) × (sn ≤ 4)
 
