@@ -2,3 +2,4 @@ pub mod BuiltLaws
 pub mod Templates
 pub mod Rows
 pub mod Placing
+pub mod Whole

@@ -43,13 +43,13 @@ use Rattle.builder.proofs.Rows.{length-hung, Carbonic, carbonic-before,
 -- ---- items, drawn
 
 -- items that are drawn from a state with n atoms and nothing open, up to m atoms
-record Drawn (is : List Item) (n cur : ℕ) (stk : List ℕ) (ph : Phase) (m k : ℕ) (ph′ : Phase) : Type 0 where
-  rows : List Row
-  current : ℕ
-  stack : List ℕ
-  does : drawAll is (st n cur stk [] ph) ≡ ok rows (st m current stack [] ph′)
-  deep : length stack ≡ k
-  many : n + length rows ≡ m
+pub record Drawn (is : List Item) (n cur : ℕ) (stk : List ℕ) (ph : Phase) (m k : ℕ) (ph′ : Phase) : Type 0 where
+  pub rows : List Row
+  pub current : ℕ
+  pub stack : List ℕ
+  pub does : drawAll is (st n cur stk [] ph) ≡ ok rows (st m current stack [] ph′)
+  pub deep : length stack ≡ k
+  pub many : n + length rows ≡ m
 
 -- drawing items that are joined is drawing the first, and the others from where they end
 drawAll-append : (xs ys : List Item) (s : State) → drawAll (xs ++ ys) s ≡ andThen (drawAll xs s) (drawAll ys)
@@ -150,13 +150,13 @@ placing-append lo mid hi v u w (p ∷ ps) qs h g =
 abbrev pub InRows : ℕ → List Row → Placed → Type 0
 InRows n rs p = All (Carbonic n rs) (carbonAtoms (p .role) (p .chain) (p .first))
 
-record Made (is : List Item) (ps : List Placed) (n v cur : ℕ) (stk : List ℕ) (ph : Phase) (m w most k : ℕ) (ph′ : Phase) : Type 0 where
-  drawn : Drawn is n cur stk ph m k ph′
-  placing : Placing n m v w ps
-  carbons : All (InRows n (drawn .rows)) ps
-  few : m ≤ n + most
+pub record Made (is : List Item) (ps : List Placed) (n v cur : ℕ) (stk : List ℕ) (ph : Phase) (m w most k : ℕ) (ph′ : Phase) : Type 0 where
+  pub drawn : Drawn is n cur stk ph m k ph′
+  pub placing : Placing n m v w ps
+  pub carbons : All (InRows n (drawn .rows)) ps
+  pub few : m ≤ n + most
 
-abbrev MadeTo : List Item → List Placed → ℕ → ℕ → ℕ → List ℕ → Phase → ℕ → ℕ → ℕ → Turn → Type 0
+abbrev pub MadeTo : List Item → List Placed → ℕ → ℕ → ℕ → List ℕ → Phase → ℕ → ℕ → ℕ → Turn → Type 0
 MadeTo is ps n v cur stk ph m w most no = Unit {0}
 MadeTo is ps n v cur stk ph m w most (to k ph′) = Made is ps n v cur stk ph m w most k ph′
 
@@ -402,7 +402,7 @@ module _ (t : List ℕ) (ds : List Chain) (ρ : ℕ → Role) (accepts : (sn : �
       let z : (chainAt sn ds ≡ some d) × (0 < d .carbon) = nonempty-is sn ds d q in
       drawable r d (subst (λ (x : Role). Accepts x d) (same-role (ρ sn) r e) (accepts sn d (z .0))) (z .1)
 
-  made-all : (es : List Element) → allOf (inRole ρ) es ≡ true → (anyOf isTailed es ≡ true → TailFits t) → (n v cur : ℕ) (stk : List ℕ) (ph : Phase)
+  pub made-all : (es : List Element) → allOf (inRole ρ) es ≡ true → (anyOf isTailed es ≡ true → TailFits t) → (n v cur : ℕ) (stk : List ℕ) (ph : Phase)
       → MadeTo (allItems t ds es) (placedFrom t ds n v es) n v cur stk ph (atomsTo t ds n es) (variablesTo ds v es) (mostAtoms es) (turnAll es (length stk) ph)
   unfolding allOf anyOf inRole isTailed allItems itemsOf placedFrom atomsTo variablesTo mostAtoms turnAll turnElement
   made-all [] e h n v cur stk ph = made-nothing n v cur stk ph

@@ -1,0 +1,120 @@
+-- The drawing of a whole template: its rows, and where its chains stand among them.
+-- Assumes nothing.
+use Prim.Native.Nat.{ℕ, zero, suc, _+_, _≤_, _<_}
+use native.Mathlib.Omega.{arith}
+use mathlib.Core.Path.{_≡_, refl, sym, ap, _∙_}
+use mathlib.Core.Bool.{Bool, true, false, cond, _&&_, false≢true}
+use mathlib.Core.Option.{Option, none, some}
+use mathlib.Core.List.{List, [], _∷_, _++_, map}
+use lib.ListN.{length}
+use lib.Dec.{leb}
+use borrow.Author.Tests.{leb-true}
+use Rattle.scan.specs.Part.{sameBytes}
+use Rattle.scan.proofs.Laws.{same-equal}
+use Rattle.record.specs.Chain.{Chain}
+use Rattle.reading.specs.Ascii.{ascii}
+use Rattle.reading.specs.Row.{Link, link, Row, row}
+use Rattle.reading.specs.Piece.{Piece, atom, mark, dot, lpar, rpar}
+use Rattle.reading.specs.Machine.{Phase, fresh, opened, after, marked, State, st, Out, fail, ok, labels, joins, placed, step, prepend, andThen, whole}
+use Rattle.reading.specs.Template.{Item, piece, draw, drawAll, drawn}
+use Rattle.reading.proofs.Reading.{fail≢ok}
+use Rattle.reading.proofs.PartingLaws.{All, and-left, and-right}
+use Rattle.chain.specs.declared.Role.{Role}
+use Rattle.builder.specs.Template.{Element, fixed, tail, slot, chain}
+use Rattle.builder.specs.Request.{chainAt, fixedPieces, itemsOf, allItems, Placed, placedFrom}
+use Rattle.builder.proofs.Templates.{Turn, no, to, turnAll, ends, beginsCC, headed, mostAtoms, Fitting}
+use Rattle.builder.proofs.Rows.{rowBytes, Carbonic}
+use Rattle.builder.proofs.Placing.{Accepts, TailFits, Placing, InRows, Made, MadeTo, Drawn, made-all, atomsTo, variablesTo}
+
+-- ---- the first two atoms
+
+-- rows that begin with two carbons
+record TwoCarbons (rs : List Row) : Type 0 where
+  zeroth : rowBytes 0 rs ≡ some (ascii "C")
+  first : rowBytes 1 rs ≡ some (ascii "C")
+
+two-rows : (a b : List ℕ) (k k′ : List Link) (r : List Row) → a ≡ ascii "C" → b ≡ ascii "C" → TwoCarbons (row a k ∷ row b k′ ∷ r)
+unfolding rowBytes
+two-rows a b k k′ r x y = record { zeroth = ap (λ (w : List ℕ). some w) x; first = ap (λ (w : List ℕ). some w) y }
+
+two-carbons : (is : List Item) (us : List Piece) (rs : List Row) (s : State) → beginsCC us ≡ true → drawAll (map piece us ++ is) (st 0 0 [] [] fresh) ≡ ok rs s → TwoCarbons rs
+unfolding beginsCC drawAll draw step placed labels joins andThen prepend
+two-carbons is (atom a [] ∷ lpar ∷ atom b [] ∷ us) rs s h e = go (drawAll (map piece us ++ is) (st 2 1 (0 ∷ []) [] after)) e
+  where
+    go : (o : Out) → prepend (row a [] ∷ []) (prepend [] (prepend (row b (link 0 0 ∷ []) ∷ []) o)) ≡ ok rs s → TwoCarbons rs
+    go fail q = absurd (fail≢ok q)
+    go (ok r s′) q =
+        let z : row a [] ∷ row b (link 0 0 ∷ []) ∷ r ≡ rs = cc in
+        let x : a ≡ ascii "C" = same-equal a (ascii "C") (and-left (sameBytes a (ascii "C")) (sameBytes b (ascii "C")) h) in
+        let y : b ≡ ascii "C" = same-equal b (ascii "C") (and-right (sameBytes a (ascii "C")) (sameBytes b (ascii "C")) h) in
+        rw z at (two-rows a b [] (link 0 0 ∷ []) r x y)
+two-carbons is [] rs s h e = absurd (false≢true h)
+two-carbons is (mark m ∷ us) rs s h e = absurd (false≢true h)
+two-carbons is (dot ∷ us) rs s h e = absurd (false≢true h)
+two-carbons is (lpar ∷ us) rs s h e = absurd (false≢true h)
+two-carbons is (rpar ∷ us) rs s h e = absurd (false≢true h)
+two-carbons is (atom a (l ∷ ls) ∷ us) rs s h e = absurd (false≢true h)
+two-carbons is (atom a [] ∷ []) rs s h e = absurd (false≢true h)
+two-carbons is (atom a [] ∷ atom b ls ∷ us) rs s h e = absurd (false≢true h)
+two-carbons is (atom a [] ∷ mark m ∷ us) rs s h e = absurd (false≢true h)
+two-carbons is (atom a [] ∷ dot ∷ us) rs s h e = absurd (false≢true h)
+two-carbons is (atom a [] ∷ rpar ∷ us) rs s h e = absurd (false≢true h)
+two-carbons is (atom a [] ∷ lpar ∷ []) rs s h e = absurd (false≢true h)
+two-carbons is (atom a [] ∷ lpar ∷ mark m ∷ us) rs s h e = absurd (false≢true h)
+two-carbons is (atom a [] ∷ lpar ∷ dot ∷ us) rs s h e = absurd (false≢true h)
+two-carbons is (atom a [] ∷ lpar ∷ lpar ∷ us) rs s h e = absurd (false≢true h)
+two-carbons is (atom a [] ∷ lpar ∷ rpar ∷ us) rs s h e = absurd (false≢true h)
+two-carbons is (atom a [] ∷ lpar ∷ atom b (l ∷ ls) ∷ us) rs s h e = absurd (false≢true h)
+
+headed-carbons : (t : List ℕ) (ds : List Chain) (es : List Element) (rs : List Row) (s : State) → headed es ≡ true → drawAll (allItems t ds es) (st 0 0 [] [] fresh) ≡ ok rs s → TwoCarbons rs
+unfolding headed allItems itemsOf
+headed-carbons t ds [] rs s h e = absurd (false≢true h)
+headed-carbons t ds (fixed b ∷ es) rs s h e = two-carbons (allItems t ds es) (fixedPieces b) rs s h e
+headed-carbons t ds (tail ∷ es) rs s h e = absurd (false≢true h)
+headed-carbons t ds (slot sn ∷ es) rs s h e = absurd (false≢true h)
+headed-carbons t ds (chain sn r ∷ es) rs s h e = absurd (false≢true h)
+
+-- ---- the whole
+
+-- the rows of a template; its chains stand among them from atom 0 and variable 0 on
+pub record Stands (t : List ℕ) (ds : List Chain) (es : List Element) : Type 0 where
+  pub rows : List Row
+  pub is : drawn (allItems t ds es) ≡ some rows
+  pub placing : Placing 0 (length rows) 0 (variablesTo ds 0 es) (placedFrom t ds 0 0 es)
+  pub carbons : All (InRows 0 rows) (placedFrom t ds 0 0 es)
+  pub few : length rows ≤ 200000
+  pub heads : headed es ≡ true → Carbonic 0 rows 0 × Carbonic 0 rows 1
+
+whole-is : (rs : List Row) (n cur : ℕ) (stk : List ℕ) → length stk ≡ 0 → whole (ok rs (st n cur stk [] after)) ≡ some rs
+unfolding whole
+whole-is rs n cur [] h = refl
+whole-is rs n cur (p ∷ stk) h = absurd (omega arith)
+
+pub stands : (t : List ℕ) (ds : List Chain) (ρ : ℕ → Role) (tailed : Bool) (es : List Element) → Fitting ρ tailed es
+    → ((sn : ℕ) (d : Chain) → chainAt sn ds ≡ some d → Accepts (ρ sn) d) → (tailed ≡ true → TailFits t) → Stands t ds es
+unfolding ends drawn
+stands t ds ρ tailed es f accepts h =
+    go (turnAll es 0 fresh) (f .runs) (made-all t ds ρ accepts es (f .roles) (λ q. h (sym (f .tails) ∙ q)) 0 0 0 [] fresh)
+  where
+    made : Made (allItems t ds es) (placedFrom t ds 0 0 es) 0 0 0 [] fresh (atomsTo t ds 0 es) (variablesTo ds 0 es) (mostAtoms es) 0 after → Stands t ds es
+    made m =
+        let n : length (m .drawn .rows) ≡ atomsTo t ds 0 es = omega (arith, m .drawn .many) in
+        record {
+          rows = m .drawn .rows;
+          is = ap whole (m .drawn .does) ∙ whole-is (m .drawn .rows) (atomsTo t ds 0 es) (m .drawn .current) (m .drawn .stack) (m .drawn .deep);
+          placing = rw n (m .placing);
+          carbons = m .carbons;
+          few = omega (arith, m .few, leb-true (mostAtoms es) 200000 (f .small));
+          heads = λ q. carbonic (headed-carbons t ds es (m .drawn .rows) _ q (m .drawn .does));
+        }
+      where
+        carbonic : {rs : List Row} → TwoCarbons rs → Carbonic 0 rs 0 × Carbonic 0 rs 1
+        carbonic c = (record { from = omega arith; is = c .zeroth }, record { from = omega arith; is = c .first })
+
+    go : (T : Turn) → ends T ≡ true → MadeTo (allItems t ds es) (placedFrom t ds 0 0 es) 0 0 0 [] fresh (atomsTo t ds 0 es) (variablesTo ds 0 es) (mostAtoms es) T → Stands t ds es
+    go no e m = absurd (false≢true e)
+    go (to zero fresh) e m = absurd (false≢true e)
+    go (to zero opened) e m = absurd (false≢true e)
+    go (to zero after) e m = made m
+    go (to zero (marked x)) e m = absurd (false≢true e)
+    go (to (suc k) ph) e m = absurd (false≢true e)
