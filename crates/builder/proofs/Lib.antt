@@ -3,3 +3,4 @@ pub mod Templates
 pub mod Rows
 pub mod Placing
 pub mod Whole
+pub mod Text

@@ -397,7 +397,7 @@ same-role role.Base role.Acyl e = absurd (false≢true e)
 same-role role.Base role.Base e = refl
 
 module _ (t : List ℕ) (ds : List Chain) (ρ : ℕ → Role) (accepts : (sn : ℕ) (d : Chain) → chainAt sn ds ≡ some d → Accepts (ρ sn) d) where
-  drawable-at : (sn : ℕ) (r : Role) → sameRole (ρ sn) r ≡ true → (d : Chain) → nonempty sn ds ≡ some d → Drawable r d
+  pub drawable-at : (sn : ℕ) (r : Role) → sameRole (ρ sn) r ≡ true → (d : Chain) → nonempty sn ds ≡ some d → Drawable r d
   drawable-at sn r e d q =
       let z : (chainAt sn ds ≡ some d) × (0 < d .carbon) = nonempty-is sn ds d q in
       drawable r d (subst (λ (x : Role). Accepts x d) (same-role (ρ sn) r e) (accepts sn d (z .0))) (z .1)
