@@ -4,3 +4,4 @@ pub mod Rows
 pub mod Placing
 pub mod Whole
 pub mod Text
+pub mod Notes

@@ -1,3 +1,4 @@
 pub mod Template
 pub mod Request
 pub mod Built
+pub mod Promise
