@@ -259,6 +259,11 @@ module _ (r : Role) (d : Chain) (a : Drawable r d) where
       go true e = omega (arith, first-on)
       go false e = omega (arith, prefix-on, tail-long (eqb-false (d .unlocated) 0 e))
 
+  -- and never none
+  pub drawn-some : 1 ≤ drawnCount r d
+  unfolding drawnCount
+  drawn-some = omega (arith, literal-on)
+
   pub carbon-most : d .carbon ≤ 255
   carbon-most = go (d .branched) (a .sound .reduced)
     where
