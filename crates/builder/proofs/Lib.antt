@@ -5,3 +5,4 @@ pub mod Placing
 pub mod Whole
 pub mod Text
 pub mod Notes
+pub mod Sorted
