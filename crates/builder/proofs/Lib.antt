@@ -6,3 +6,5 @@ pub mod Whole
 pub mod Text
 pub mod Notes
 pub mod Sorted
+pub mod Tail
+pub mod Molecules
