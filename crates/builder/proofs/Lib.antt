@@ -8,3 +8,4 @@ pub mod Notes
 pub mod Sorted
 pub mod Tail
 pub mod Molecules
+pub mod Theorem

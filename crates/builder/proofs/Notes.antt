@@ -188,7 +188,7 @@ sn-sites-rise lo hi v w (p ∷ ps) h =
 
 -- ---- the marks of one chain among all
 
-look-outside : {A : Type 0} (i : ℕ) (ms : List (At A)) → All (λ j. i ≢ j) (atomsOf ms) → look i ms ≡ none
+pub look-outside : {A : Type 0} (i : ℕ) (ms : List (At A)) → All (λ j. i ≢ j) (atomsOf ms) → look i ms ≡ none
 unfolding look atomsOf
 look-outside i [] h = refl
 look-outside i (at j a ∷ ms) h = rw (ne-eqb i j (h .0)) (look-outside i ms (h .1))
@@ -228,6 +228,17 @@ own-marks lo hi v w (p ∷ ps) h = (
         → All (λ q. (i : ℕ) → q .first ≤ i → i < endOf q → look i (marksOf p ++ allMarks ps) ≡ look i (marksOf q)) qs
     later [] g f = tt
     later (q ∷ qs) g f = ((λ i a b. look-second i (marksOf p) (allMarks ps) (before i (omega (arith, g .0 .0))) ∙ f .0 i a b), later qs (g .1) (f .1))
+
+-- no mark stands before the chains
+pub marks-after : (m : ℕ) (ps : List Placed) → All (λ p. m ≤ p .first) ps → All (λ j. m ≤ j) (atomsOf (allMarks ps))
+unfolding allMarks
+marks-after m [] h = unfold atomsOf in tt
+marks-after m (p ∷ ps) h =
+    let e : ℕ = chainEnd (p .first) (carbons (p .role) (p .chain)) in
+    rw (atomsOf-append (marksOf p) (allMarks ps))
+    (all-append (λ j. m ≤ j) (atomsOf (marksOf p)) (atomsOf (allMarks ps))
+    (all-map {P = λ (j : ℕ). (p .first ≤ j) × (j < e)} (λ j q. omega (arith, q .0, h .0)) (atomsOf (marksOf p))
+    (rises-within (p .first) e (atomsOf (marksOf p)) (marks-rise (p .role) (p .chain) (p .first) (p .variable)))) (marks-after m ps (h .1)))
 
 -- ---- counts for all sums
 

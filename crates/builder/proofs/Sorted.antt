@@ -12,9 +12,10 @@ use lib.Dec.{eqb, ltb, leb}
 use borrow.Author.Tests.{eqb-true, eqb-false, eq-eqb, ne-eqb, leb-true, leb-false, not-true}
 use Rattle.record.specs.Chain.{Chain}
 use Rattle.reading.specs.Lexer.{memb}
+use Rattle.reading.specs.Piece.{Piece}
 use Rattle.reading.specs.Molecule.{At, at, atomsOf, notesOf}
 use Rattle.reading.specs.Line.{distinct, times}
-use Rattle.reading.proofs.PartingLaws.{All, all-map, and-left, and-right, and-both}
+use Rattle.reading.proofs.PartingLaws.{All, all-map, all-any, and-left, and-right, and-both}
 use Rattle.reading.proofs.ListLaws.{times-all, all-times, distinct-times}
 use Rattle.chain.specs.declared.Role.{Role}
 use Rattle.chain.specs.declared.Role.the-variants as role
@@ -23,8 +24,8 @@ use Rattle.chain.specs.Drawing.{carbons, atomsEnd}
 use Rattle.chain.proofs.Lists.{or-left, or-right, Rises, rises-from, rises-to, rises-le, all-append}
 use Rattle.chain.proofs.Atoms.{chainEnd-le, atomsEnd-le, atomsOf-append, notesOf-append}
 use Rattle.builder.specs.Template.{Element, fixed, tail, slot, chain}
-use Rattle.builder.specs.Request.{nonempty, fixedPieces, tailPart, Placed, atomsOfPieces, siteOf, place, atomsAfter, variablesAfter, placedFrom, insertBySn, bySn, siteNote, snSites}
-use Rattle.builder.proofs.Templates.{snsOf, isBase, hasBase}
+use Rattle.builder.specs.Request.{nonempty, fixedPieces, tailPart, Placed, atomsOfPiece, atomsOfPieces, siteOf, place, atomsAfter, variablesAfter, placedFrom, insertBySn, bySn, siteNote, snSites}
+use Rattle.builder.proofs.Templates.{snsOf, isBase, hasBase, headed, Begins, begins}
 
 -- ---- what a template places
 
@@ -76,6 +77,23 @@ placed-after t ds n v (chain sn r ∷ es) =
     all-append (λ p. n ≤ p .first) (place sn r (siteOf r n) n v (nonempty sn ds)) (placedFrom t ds m w es)
     (place-all (λ p. n ≤ p .first) sn r (siteOf r n) n v (nonempty sn ds) (λ d. omega arith))
     (all-map {P = λ (p : Placed). m ≤ p .first} (λ p h. omega (arith, after-le r n (nonempty sn ds))) (placedFrom t ds m w es) (placed-after t ds m w es))
+
+not-headed : (ps : List Placed) → All (λ p. false ≡ true → 2 ≤ p .first) ps
+not-headed ps = all-any {P = λ (p : Placed). false ≡ true → 2 ≤ p .first} (λ p e. absurd (false≢true e)) ps
+
+-- after `C(C` the chains begin with atom 2 or later
+pub headed-first : (t : List ℕ) (ds : List Chain) (es : List Element) → All (λ p. headed es ≡ true → 2 ≤ p .first) (placedFrom t ds 0 0 es)
+unfolding placedFrom headed
+headed-first t ds [] = tt
+headed-first t ds (fixed b ∷ es) =
+    all-map {P = λ (p : Placed). 0 + atomsOfPieces (fixedPieces b) ≤ p .first} (λ p h e. omega (arith, two (fixedPieces b) (begins (fixedPieces b) e)))
+    (placedFrom t ds (0 + atomsOfPieces (fixedPieces b)) 0 es) (placed-after t ds (0 + atomsOfPieces (fixedPieces b)) 0 es)
+  where
+    two : (us : List Piece) → Begins us → 2 ≤ atomsOfPieces us
+    two us h = rw (h .is) (unfold atomsOfPieces atomsOfPiece in omega arith)
+headed-first t ds (tail ∷ es) = not-headed (placedFrom t ds 0 0 (tail ∷ es))
+headed-first t ds (slot sn ∷ es) = not-headed (placedFrom t ds 0 0 (slot sn ∷ es))
+headed-first t ds (chain sn r ∷ es) = not-headed (placedFrom t ds 0 0 (chain sn r ∷ es))
 
 -- a base is placed only by a template that has one
 or-second : (a b : Bool) → b ≡ true → (a || b) ≡ true

@@ -2,15 +2,18 @@
 -- Assumes nothing.
 use Prim.Native.Nat.{ℕ, zero, suc, _+_, _^_, _≤_, _<_}
 use mathlib.Core.Path.{_≡_, refl, sym, ap, _∙_}
-use mathlib.Core.Bool.{Bool, true, false, cond, not, _||_, _&&_}
+use mathlib.Core.Bool.{Bool, true, false, cond, not, _||_, _&&_, false≢true}
 use mathlib.Core.Option.{Option, none, some}
 use mathlib.Core.List.{List, [], _∷_, _++_}
 use lib.ListN.{length}
 use lib.Dec.{eqb, ltb, leb}
 use Rattle.scan.specs.Part.{sameBytes}
+use Rattle.scan.proofs.Laws.{same-equal}
 use Rattle.reading.specs.Ascii.{ascii}
 use Rattle.reading.specs.Piece.{Piece, atom, mark, dot, lpar, rpar}
 use Rattle.reading.specs.Lexer.{piecesOf}
+use Rattle.reading.specs.Parting.{_>>=_}
+use Rattle.reading.proofs.Part.{none≢some}
 use Rattle.reading.specs.Machine.{Phase, fresh, opened, after, marked, plainly}
 use Rattle.reading.specs.Line.{below, distinct}
 use Rattle.reading.proofs.PartingLaws.{and-left, and-right}
@@ -147,27 +150,76 @@ hasBase tail = false
 hasBase (slot sn) = false
 hasBase (chain sn r) = isBase r
 
--- "The base's C1 and C2 are atoms 1 and 0": such a template begins with these two
-unfoldable pub beginsCC : List Piece → Bool
+-- what follows a C at the beginning, and what follows a `(`
+unfoldable pub afterC : List Piece → Option (List Piece)
 unfolding sameBytes ascii
-beginsCC (atom a [] ∷ lpar ∷ atom b [] ∷ us) = sameBytes a (ascii "C") && sameBytes b (ascii "C")
-beginsCC [] = false
-beginsCC (mark m ∷ us) = false
-beginsCC (dot ∷ us) = false
-beginsCC (lpar ∷ us) = false
-beginsCC (rpar ∷ us) = false
-beginsCC (atom a (l ∷ ls) ∷ us) = false
-beginsCC (atom a [] ∷ []) = false
-beginsCC (atom a [] ∷ atom b ls ∷ us) = false
-beginsCC (atom a [] ∷ mark m ∷ us) = false
-beginsCC (atom a [] ∷ dot ∷ us) = false
-beginsCC (atom a [] ∷ rpar ∷ us) = false
-beginsCC (atom a [] ∷ lpar ∷ []) = false
-beginsCC (atom a [] ∷ lpar ∷ mark m ∷ us) = false
-beginsCC (atom a [] ∷ lpar ∷ dot ∷ us) = false
-beginsCC (atom a [] ∷ lpar ∷ lpar ∷ us) = false
-beginsCC (atom a [] ∷ lpar ∷ rpar ∷ us) = false
-beginsCC (atom a [] ∷ lpar ∷ atom b (l ∷ ls) ∷ us) = false
+afterC [] = none
+afterC (atom b [] ∷ us) = cond (sameBytes b (ascii "C")) (some us) none
+afterC (atom b (l ∷ ls) ∷ us) = none
+afterC (mark m ∷ us) = none
+afterC (dot ∷ us) = none
+afterC (lpar ∷ us) = none
+afterC (rpar ∷ us) = none
+
+unfoldable pub afterOpen : List Piece → Option (List Piece)
+afterOpen [] = none
+afterOpen (atom b ls ∷ us) = none
+afterOpen (mark m ∷ us) = none
+afterOpen (dot ∷ us) = none
+afterOpen (lpar ∷ us) = some us
+afterOpen (rpar ∷ us) = none
+
+abbrev pub isSome : Option (List Piece) → Bool
+isSome none = false
+isSome (some us) = true
+
+-- "The base's C1 and C2 are atoms 1 and 0": such a template begins with `C(C`
+unfoldable pub beginsCC : List Piece → Bool
+unfolding afterC afterOpen
+beginsCC us = isSome (afterC us >>= afterOpen >>= afterC)
+
+after-c : (us r : List Piece) → afterC us ≡ some r → us ≡ atom (ascii "C") [] ∷ r
+unfolding afterC
+after-c [] r h = absurd (none≢some h)
+after-c (atom b [] ∷ us) r h = go (sameBytes b (ascii "C")) refl h
+  where
+    go : (x : Bool) → sameBytes b (ascii "C") ≡ x → cond x (some us) none ≡ some r → atom b [] ∷ us ≡ atom (ascii "C") [] ∷ r
+    go true e q = let z : b ≡ ascii "C" = same-equal b (ascii "C") e in let w : us ≡ r = cc in rw (z, w)
+    go false e q = absurd (none≢some q)
+after-c (atom b (l ∷ ls) ∷ us) r h = absurd (none≢some h)
+after-c (mark m ∷ us) r h = absurd (none≢some h)
+after-c (dot ∷ us) r h = absurd (none≢some h)
+after-c (lpar ∷ us) r h = absurd (none≢some h)
+after-c (rpar ∷ us) r h = absurd (none≢some h)
+
+after-open : (us r : List Piece) → afterOpen us ≡ some r → us ≡ lpar ∷ r
+unfolding afterOpen
+after-open [] r h = absurd (none≢some h)
+after-open (atom b ls ∷ us) r h = absurd (none≢some h)
+after-open (mark m ∷ us) r h = absurd (none≢some h)
+after-open (dot ∷ us) r h = absurd (none≢some h)
+after-open (lpar ∷ us) r h = cc
+after-open (rpar ∷ us) r h = absurd (none≢some h)
+
+pub record Begins (us : List Piece) : Type 0 where
+  pub rest : List Piece
+  pub is : us ≡ atom (ascii "C") [] ∷ lpar ∷ atom (ascii "C") [] ∷ rest
+
+pub begins : (us : List Piece) → beginsCC us ≡ true → Begins us
+unfolding beginsCC
+begins us h = first (afterC us) refl h
+  where
+    third : (a b : List Piece) → us ≡ atom (ascii "C") [] ∷ a → a ≡ lpar ∷ b → (o : Option (List Piece)) → afterC b ≡ o → isSome o ≡ true → Begins us
+    third a b p q none e h = absurd (false≢true h)
+    third a b p q (some c) e h = let z : b ≡ atom (ascii "C") [] ∷ c = after-c b c e in record { rest = c; is = cc }
+
+    second : (a : List Piece) → us ≡ atom (ascii "C") [] ∷ a → (o : Option (List Piece)) → afterOpen a ≡ o → isSome (o >>= afterC) ≡ true → Begins us
+    second a p none e h = absurd (false≢true h)
+    second a p (some b) e h = third a b p (after-open a b e) (afterC b) refl h
+
+    first : (o : Option (List Piece)) → afterC us ≡ o → isSome (o >>= afterOpen >>= afterC) ≡ true → Begins us
+    first none e h = absurd (false≢true h)
+    first (some a) e h = second a (after-c us a e) (afterOpen a) refl h
 
 unfoldable pub headed : List Element → Bool
 unfolding beginsCC fixedPieces

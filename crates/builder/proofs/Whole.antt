@@ -9,8 +9,6 @@ use mathlib.Core.List.{List, [], _∷_, _++_, map}
 use lib.ListN.{length}
 use lib.Dec.{leb}
 use borrow.Author.Tests.{leb-true}
-use Rattle.scan.specs.Part.{sameBytes}
-use Rattle.scan.proofs.Laws.{same-equal}
 use Rattle.record.specs.Chain.{Chain}
 use Rattle.reading.specs.Ascii.{ascii}
 use Rattle.reading.specs.Row.{Link, link, Row, row}
@@ -18,11 +16,11 @@ use Rattle.reading.specs.Piece.{Piece, atom, mark, dot, lpar, rpar}
 use Rattle.reading.specs.Machine.{Phase, fresh, opened, after, marked, State, st, Out, fail, ok, labels, joins, placed, step, prepend, andThen, whole}
 use Rattle.reading.specs.Template.{Item, piece, draw, drawAll, drawn}
 use Rattle.reading.proofs.Reading.{fail≢ok}
-use Rattle.reading.proofs.PartingLaws.{All, and-left, and-right}
+use Rattle.reading.proofs.PartingLaws.{All}
 use Rattle.chain.specs.declared.Role.{Role}
 use Rattle.builder.specs.Template.{Element, fixed, tail, slot, chain}
 use Rattle.builder.specs.Request.{chainAt, fixedPieces, itemsOf, allItems, Placed, placedFrom}
-use Rattle.builder.proofs.Templates.{Turn, no, to, turnAll, ends, beginsCC, headed, mostAtoms, Fitting}
+use Rattle.builder.proofs.Templates.{Turn, no, to, turnAll, ends, Begins, begins, headed, mostAtoms, Fitting}
 use Rattle.builder.proofs.Rows.{rowBytes, Carbonic}
 use Rattle.builder.proofs.Placing.{Accepts, TailFits, Placing, InRows, Made, MadeTo, Drawn, made-all, atomsTo, variablesTo}
 
@@ -33,43 +31,25 @@ record TwoCarbons (rs : List Row) : Type 0 where
   zeroth : rowBytes 0 rs ≡ some (ascii "C")
   first : rowBytes 1 rs ≡ some (ascii "C")
 
-two-rows : (a b : List ℕ) (k k′ : List Link) (r : List Row) → a ≡ ascii "C" → b ≡ ascii "C" → TwoCarbons (row a k ∷ row b k′ ∷ r)
+two-rows : (k k′ : List Link) (r : List Row) → TwoCarbons (row (ascii "C") k ∷ row (ascii "C") k′ ∷ r)
 unfolding rowBytes
-two-rows a b k k′ r x y = record { zeroth = ap (λ (w : List ℕ). some w) x; first = ap (λ (w : List ℕ). some w) y }
+two-rows k k′ r = record { zeroth = refl; first = refl }
 
-two-carbons : (is : List Item) (us : List Piece) (rs : List Row) (s : State) → beginsCC us ≡ true → drawAll (map piece us ++ is) (st 0 0 [] [] fresh) ≡ ok rs s → TwoCarbons rs
-unfolding beginsCC drawAll draw step placed labels joins andThen prepend
-two-carbons is (atom a [] ∷ lpar ∷ atom b [] ∷ us) rs s h e = go (drawAll (map piece us ++ is) (st 2 1 (0 ∷ []) [] after)) e
+two-carbons : (is : List Item) (us : List Piece) (rs : List Row) (s : State) → Begins us → drawAll (map piece us ++ is) (st 0 0 [] [] fresh) ≡ ok rs s → TwoCarbons rs
+unfolding drawAll draw step placed labels joins andThen prepend
+two-carbons is us rs s h e =
+    go (drawAll (map piece (h .rest) ++ is) (st 2 1 (0 ∷ []) [] after)) (ap (λ (z : List Piece). drawAll (map piece z ++ is) (st 0 0 [] [] fresh)) (sym (h .is)) ∙ e)
   where
-    go : (o : Out) → prepend (row a [] ∷ []) (prepend [] (prepend (row b (link 0 0 ∷ []) ∷ []) o)) ≡ ok rs s → TwoCarbons rs
+    go : (o : Out) → prepend (row (ascii "C") [] ∷ []) (prepend [] (prepend (row (ascii "C") (link 0 0 ∷ []) ∷ []) o)) ≡ ok rs s → TwoCarbons rs
     go fail q = absurd (fail≢ok q)
     go (ok r s′) q =
-        let z : row a [] ∷ row b (link 0 0 ∷ []) ∷ r ≡ rs = cc in
-        let x : a ≡ ascii "C" = same-equal a (ascii "C") (and-left (sameBytes a (ascii "C")) (sameBytes b (ascii "C")) h) in
-        let y : b ≡ ascii "C" = same-equal b (ascii "C") (and-right (sameBytes a (ascii "C")) (sameBytes b (ascii "C")) h) in
-        rw z at (two-rows a b [] (link 0 0 ∷ []) r x y)
-two-carbons is [] rs s h e = absurd (false≢true h)
-two-carbons is (mark m ∷ us) rs s h e = absurd (false≢true h)
-two-carbons is (dot ∷ us) rs s h e = absurd (false≢true h)
-two-carbons is (lpar ∷ us) rs s h e = absurd (false≢true h)
-two-carbons is (rpar ∷ us) rs s h e = absurd (false≢true h)
-two-carbons is (atom a (l ∷ ls) ∷ us) rs s h e = absurd (false≢true h)
-two-carbons is (atom a [] ∷ []) rs s h e = absurd (false≢true h)
-two-carbons is (atom a [] ∷ atom b ls ∷ us) rs s h e = absurd (false≢true h)
-two-carbons is (atom a [] ∷ mark m ∷ us) rs s h e = absurd (false≢true h)
-two-carbons is (atom a [] ∷ dot ∷ us) rs s h e = absurd (false≢true h)
-two-carbons is (atom a [] ∷ rpar ∷ us) rs s h e = absurd (false≢true h)
-two-carbons is (atom a [] ∷ lpar ∷ []) rs s h e = absurd (false≢true h)
-two-carbons is (atom a [] ∷ lpar ∷ mark m ∷ us) rs s h e = absurd (false≢true h)
-two-carbons is (atom a [] ∷ lpar ∷ dot ∷ us) rs s h e = absurd (false≢true h)
-two-carbons is (atom a [] ∷ lpar ∷ lpar ∷ us) rs s h e = absurd (false≢true h)
-two-carbons is (atom a [] ∷ lpar ∷ rpar ∷ us) rs s h e = absurd (false≢true h)
-two-carbons is (atom a [] ∷ lpar ∷ atom b (l ∷ ls) ∷ us) rs s h e = absurd (false≢true h)
+        let z : row (ascii "C") [] ∷ row (ascii "C") (link 0 0 ∷ []) ∷ r ≡ rs = cc in
+        rw z at (two-rows [] (link 0 0 ∷ []) r)
 
 headed-carbons : (t : List ℕ) (ds : List Chain) (es : List Element) (rs : List Row) (s : State) → headed es ≡ true → drawAll (allItems t ds es) (st 0 0 [] [] fresh) ≡ ok rs s → TwoCarbons rs
 unfolding headed allItems itemsOf
 headed-carbons t ds [] rs s h e = absurd (false≢true h)
-headed-carbons t ds (fixed b ∷ es) rs s h e = two-carbons (allItems t ds es) (fixedPieces b) rs s h e
+headed-carbons t ds (fixed b ∷ es) rs s h e = two-carbons (allItems t ds es) (fixedPieces b) rs s (begins (fixedPieces b) h) e
 headed-carbons t ds (tail ∷ es) rs s h e = absurd (false≢true h)
 headed-carbons t ds (slot sn ∷ es) rs s h e = absurd (false≢true h)
 headed-carbons t ds (chain sn r ∷ es) rs s h e = absurd (false≢true h)

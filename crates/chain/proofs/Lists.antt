@@ -172,7 +172,7 @@ rises-drop zero a b xs h = h
 rises-drop (suc n) a b [] h = h
 rises-drop (suc n) a b (x ∷ xs) h = rises-from a (suc x) b (drop n xs) (omega (arith, h .0)) (rises-drop n (suc x) b xs (h .1))
 
-rises-none : (a b z : ℕ) (xs : List ℕ) → Rises a b xs → z < a → memb z xs ≡ false
+pub rises-none : (a b z : ℕ) (xs : List ℕ) → Rises a b xs → z < a → memb z xs ≡ false
 unfolding memb
 rises-none a b z [] h g = refl
 rises-none a b z (x ∷ xs) h g = rw (ne-eqb z x (λ e. omega (arith, h .0))) (rises-none (suc x) b z xs (h .1) (omega (arith, h .0)))

@@ -1,0 +1,314 @@
+-- DEMAND 3 for every request that is accepted: one proof for all templates that pass the tests, of which the eight classes are instances.
+-- Assumes nothing.
+use Prim.Native.Nat.{ℕ, zero, suc, _+_, _-_, _*_, _^_, _≤_, _<_}
+use native.Mathlib.Omega.{arith}
+use mathlib.Core.Path.{_≡_, refl, sym, ap, _∙_, subst}
+use mathlib.Core.Logic.{_≢_}
+use mathlib.Core.Bool.{Bool, true, false, cond, not, _||_, _&&_, false≢true}
+use mathlib.Core.Option.{Option, none, some}
+use mathlib.Core.List.{List, [], _∷_, _++_, map}
+use lib.ListN.{length}
+use lib.Dec.{eqb, ltb, leb}
+use borrow.Author.Tests.{leb-true, ltb-true, ne-eqb}
+use Rattle.record.specs.Chain.{Chain}
+use Rattle.reading.specs.Ascii.{ascii}
+use Rattle.reading.specs.Lexer.{memb}
+use Rattle.reading.specs.Row.{Row}
+use Rattle.reading.specs.Molecule.{At, at, atomsOf, notesOf, look, Sum, variablesOf, numberOf, sumSet, Molecule, moleculeOf}
+use Rattle.reading.specs.Line.{flat, summed, below, distinct, rising, once, readLine}
+use Rattle.reading.specs.Chain.{chainEnd}
+use Rattle.reading.specs.Template.{drawn}
+use Rattle.reading.proofs.PartingLaws.{All, all-map, NonEmpty, and-left, and-right, and-both}
+use Rattle.reading.proofs.ListLaws.{below-all, all-below, once-self}
+use Rattle.reading.proofs.BlockLaws.{LabelFits}
+use Rattle.reading.proofs.LineLaws.{WellFormed, line-reads-back}
+use Rattle.chain.specs.declared.Role.{Role}
+use Rattle.chain.specs.declared.Role.the-variants as role
+use Rattle.chain.specs.Lists.{anyOf, allOf}
+use Rattle.chain.specs.Features.{firstDrawn, drawnCount}
+use Rattle.chain.specs.Drawing as draw
+use Rattle.chain.specs.Drawing.{carbons, carbonAtoms}
+use Rattle.chain.specs.Counts.{total, copies, Counts, Meets, methyls}
+use Rattle.chain.proofs.Lists.{Rises, rises-from, rises-to, rises-within, rises-distinct, rises-rising, rises-none, all-both}
+use Rattle.chain.proofs.Accepted.{Drawable}
+use Rattle.chain.proofs.Atoms.{carbon-atoms-rise, carbon-atoms-count, carbon-atoms-distinct, atomsEnd-le}
+use Rattle.chain.proofs.Counts.{SumStands, Chosen, written-add-up}
+use Rattle.builder.specs.declared.Class.{Class}
+use Rattle.builder.specs.Template.{Element, elements, fewest, most, roleOf, hasTail}
+use Rattle.builder.specs.Request.{chainAt, Placed, placedFrom, placed, allMarks, allSites, allSums, bySn, headCarbons, indicesOf, snSites, labels, orNoRows, allItems, rowsDrawn, moleculeDrawn, textOf, lineOf}
+use Rattle.builder.specs.Promise.{Each, bytesAt, variableAt, sumsIn, chainsFrom, namesOf, Listed, Choice, AddsUp, Promise}
+use Rattle.builder.proofs.Templates.{snsOf, isBase, hasBase, headed, Fitting, fitting}
+use Rattle.builder.proofs.Rows.{rowBytes, Carbonic}
+use Rattle.builder.proofs.Placing.{Accepts, TailFits, Placing, InRows, variablesTo}
+use Rattle.builder.proofs.Whole.{Stands, stands}
+use Rattle.builder.proofs.Text.{text-reads}
+use Rattle.builder.proofs.Notes.{endOf, placing-within, placing-drawable, all-marks-rise, all-variables-rise, all-summed, all-sums-stand, variables-most, all-sites-rise, all-sites-within, all-sites-flat, all-sites-some, sn-sites-rise, own-marks, look-outside, marks-after, total-agrees, all-chosen, own-sums}
+use Rattle.builder.proofs.Sorted.{sns-placed, headed-first, base-placed, length-placed, placed-apart, all-sorted, snOf, sorted-rise, site-notes-rise, sorted-sites-apart, sorted-sites-all}
+use Rattle.builder.proofs.Tail.{TailReads, tail-fits}
+use Rattle.builder.proofs.Molecules.{bytes-at, variable-at, sums-in, set-all, all-set}
+
+-- ---- what is accepted
+
+-- the number of tokens fits the class, every chain is read and has no refusal in its place, and the tail reads by itself where there is one
+pub record Accepted (c : Class) (t : List ℕ) (ds : List Chain) : Type 0 where
+  pub few : fewest c ≤ length ds
+  pub many : length ds ≤ most c
+  pub chains : (sn : ℕ) (d : Chain) → chainAt sn ds ≡ some d → Accepts (roleOf c sn) d
+  pub tail : hasTail c ≡ true → TailReads t
+
+all-each : {A : Type 0} (P : A → Type 0) (l : List A) → All P l → Each P l
+all-each P [] h = tt
+all-each P (x ∷ l) h = (h .0, all-each P l (h .1))
+
+each-all : {A : Type 0} (P : A → Type 0) (l : List A) → Each P l → All P l
+each-all P [] h = tt
+each-all P (x ∷ l) h = (h .0, each-all P l (h .1))
+
+-- ---- a base's C1 and C2 before its other carbons
+
+heads-number : (r : Role) (is : List ℕ) → length (headCarbons r ++ is) ≡ firstDrawn r - 1 + length is
+heads-number role.Slot is = omega arith
+heads-number role.Acyl is = omega arith
+heads-number role.Base is = omega arith
+
+heads-once : (r : Role) (a b : ℕ) (is : List ℕ) → (isBase r ≡ true → 2 ≤ a) → Rises a b is → distinct (headCarbons r ++ is) ≡ true
+unfolding distinct memb
+heads-once role.Slot a b is h g = rises-distinct a b is g
+heads-once role.Acyl a b is h g = rises-distinct a b is g
+heads-once role.Base a b is h g =
+    let two : 2 ≤ a = h refl in
+    rw (rises-none a b 1 is g (omega arith), rises-none a b 0 is g (omega arith)) (rises-distinct a b is g)
+
+heads-each : (P : ℕ → Type 0) (r : Role) (is : List ℕ) → (isBase r ≡ true → P 0 × P 1) → All P is → All P (headCarbons r ++ is)
+heads-each P role.Slot is h g = g
+heads-each P role.Acyl is h g = g
+heads-each P role.Base is h g = (h refl .1, (h refl .0, g))
+
+-- each counts one
+heads-total : (count : ℕ → ℕ) (r : Role) (is : List ℕ) → (isBase r ≡ true → (count 0 ≡ 1) × (count 1 ≡ 1)) → total count (headCarbons r ++ is) ≡ firstDrawn r - 1 + total count is
+unfolding total
+heads-total count role.Slot is h = omega arith
+heads-total count role.Acyl is h = omega arith
+heads-total count role.Base is h = omega (arith, h refl)
+
+-- ---- any template that passes the tests
+
+module _ (t : List ℕ) (ds : List Chain) (ρ : ℕ → Role) (tailed : Bool) (es : List Element) (f : Fitting ρ tailed es) (s : Stands t ds es) where
+  abbrev ps : List Placed
+  ps = placedFrom t ds 0 0 es
+
+  sns-within : All (λ p. (1 ≤ p .sn) × (p .sn < 5)) ps
+  unfolding allOf
+  sns-within =
+      sns-placed (λ z. (1 ≤ z) × (z < 5)) t ds 0 0 es (all-both (λ z. 1 ≤ z) (λ z. z < 5) (snsOf es) (positive (snsOf es) (f .from-one)) (below-all 5 (snsOf es) (f .four)))
+    where
+      positive : (xs : List ℕ) → allOf (ltb 0) xs ≡ true → All (λ z. 1 ≤ z) xs
+      positive [] h = tt
+      positive (x ∷ xs) h = (ltb-true 0 x (and-left (ltb 0 x) (allOf (ltb 0) xs) h), positive xs (and-right (ltb 0 x) (allOf (ltb 0) xs) h))
+
+  -- the labels, by rising sn
+  abbrev all-labels : List (At ℕ)
+  all-labels = snSites (bySn ps)
+
+  notes-rise : Rises 1 5 (notesOf all-labels)
+  notes-rise = site-notes-rise 1 5 (bySn ps) (sorted-rise 1 5 ps (omega arith) sns-within (placed-apart t ds 0 0 es (f .apart)))
+
+  abbrev n : ℕ
+  n = length (s .rows)
+
+  -- either all labels or none
+  record LabelsWell (ls : List (At ℕ)) : Type 0 where
+    atoms : below n (atomsOf ls) ≡ true
+    apart : distinct (atomsOf ls) ≡ true
+    rises : rising (notesOf ls) ≡ true
+    fits : All LabelFits (notesOf ls)
+
+  labels-well : LabelsWell all-labels
+  unfolding LabelFits
+  labels-well =
+      let r : Rises 0 n (atomsOf (snSites ps)) = sn-sites-rise 0 n 0 (variablesTo ds 0 es) ps (s .placing) in
+      record {
+        atoms = all-below n (atomsOf all-labels)
+            (sorted-sites-all (λ i. i < n) ps (all-map {P = λ (i : ℕ). (0 ≤ i) × (i < n)} (λ i h. h .1) (atomsOf (snSites ps)) (rises-within 0 n (atomsOf (snSites ps)) r)));
+        apart = sorted-sites-apart ps (rises-distinct 0 n (atomsOf (snSites ps)) r);
+        rises = rises-rising 1 5 (notesOf all-labels) notes-rise;
+        fits = all-map {P = λ (i : ℕ). (1 ≤ i) × (i < 5)} (λ i h. (h .0, omega (arith, h .1))) (notesOf all-labels) (rises-within 1 5 (notesOf all-labels) notes-rise);
+      }
+
+  no-labels : LabelsWell []
+  unfolding atomsOf notesOf below distinct rising
+  no-labels = record { atoms = refl; apart = refl; rises = refl; fits = tt }
+
+  cond-well : (b : Bool) → LabelsWell (cond b all-labels [])
+  cond-well true = labels-well
+  cond-well false = no-labels
+
+  -- what is said of the atoms keeps the rules of a line
+  well-formed : (swap : Bool) → WellFormed n (labels swap all-labels) (allMarks ps) (allSites ps) (allSums ps)
+  unfolding labels
+  well-formed swap =
+      let l : LabelsWell (labels swap all-labels) = cond-well (swap && ltb 1 (length all-labels)) in
+      let w : ℕ = variablesTo ds 0 es in
+      let ms : Rises 0 n (atomsOf (allMarks ps)) = all-marks-rise 0 n 0 w ps (s .placing) in
+      let vs : Rises 0 w (notesOf (allMarks ps)) = all-variables-rise 0 n 0 w ps (s .placing) in
+      let fs : Rises 0 n (atomsOf (allSites ps)) = all-sites-rise 0 n 0 w ps (s .placing) in
+      let many : w ≤ 508 = omega (arith, variables-most 0 n 0 w ps (s .placing), length-placed t ds 0 0 es, leb-true (length (snsOf es)) 4 (f .few)) in
+      let ds : All (λ p. Drawable (p .role) (p .chain)) ps = placing-drawable 0 n 0 w ps (s .placing) in
+      record {
+        atoms = omega (arith, s .few);
+        label-atoms = l .atoms;
+        label-apart = l .apart;
+        label-rising = l .rises;
+        label-fits = l .fits;
+        mark-atoms = within (atomsOf (allMarks ps)) ms;
+        mark-apart = rises-distinct 0 n (atomsOf (allMarks ps)) ms;
+        mark-named = all-below 702 (notesOf (allMarks ps))
+            (all-map {P = λ (i : ℕ). (0 ≤ i) × (i < w)} (λ i h. omega (arith, h .1)) (notesOf (allMarks ps)) (rises-within 0 w (notesOf (allMarks ps)) vs));
+        site-atoms = within (atomsOf (allSites ps)) fs;
+        site-apart = rises-distinct 0 n (atomsOf (allSites ps)) fs;
+        site-sites = all-below n (flat (notesOf (allSites ps))) (all-sites-flat n (allSites ps) (all-sites-within 0 n 0 w ps (s .placing)));
+        site-some = all-sites-some ps ds;
+        sum-marked = rw (all-summed ps) (once-self (notesOf (allMarks ps)) (rises-distinct 0 w (notesOf (allMarks ps)) vs));
+        sum-only = rw (all-summed ps) (once-self (notesOf (allMarks ps)) (rises-distinct 0 w (notesOf (allMarks ps)) vs));
+        sum-some = all-map {P = SumStands} (λ x h. some-of (variablesOf x) (h .some)) (allSums ps) (all-sums-stand ps ds);
+        sum-number = all-map {P = SumStands} (λ x h. omega (arith, h .small)) (allSums ps) (all-sums-stand ps ds);
+      }
+    where
+      within : (is : List ℕ) → Rises 0 (length (s .rows)) is → below (length (s .rows)) is ≡ true
+      within is r = all-below (length (s .rows)) is (all-map {P = λ (i : ℕ). (0 ≤ i) × (i < length (s .rows))} (λ i h. h .1) is (rises-within 0 (length (s .rows)) is r))
+
+      some-of : (xs : List ℕ) → 0 < length xs → NonEmpty xs
+      some-of [] h = absurd (omega arith)
+      some-of (x ∷ xs) h = tt
+
+  -- THE LINE READS as the molecule of the drawing
+  abbrev drawnMolecule : Bool → Molecule
+  drawnMolecule swap = moleculeOf (s .rows) (labels swap all-labels) (allMarks ps) (allSites ps) (allSums ps)
+
+  -- ---- the indices of a chain
+
+  -- a base stands in a template that begins with its C1 and C2
+  headed-base : All (λ p. isBase (p .role) ≡ true → headed es ≡ true) ps
+  headed-base =
+      all-map {P = λ (p : Placed). isBase (p .role) ≡ true → anyOf hasBase es ≡ true} (λ p h e. go (anyOf hasBase es) (headed es) (f .base) (h e)) ps (base-placed t ds 0 0 es)
+    where
+      go : (a b : Bool) → (not a || b) ≡ true → a ≡ true → b ≡ true
+      go true b h e = h
+      go false b h e = absurd (false≢true e)
+
+  -- where no mark is
+  no-head-mark : headed es ≡ true → (i : ℕ) → i < 2 → look i (allMarks ps) ≡ none
+  no-head-mark h i l =
+      look-outside i (allMarks ps)
+      (all-map {P = λ (j : ℕ). 2 ≤ j} (λ j q e. omega arith) (atomsOf (allMarks ps))
+      (marks-after 2 ps (all-map {P = λ (p : Placed). headed es ≡ true → 2 ≤ p .first} (λ p q. q h) ps (headed-first t ds es))))
+
+  -- what is known of a chain that stands among the rows
+  record Known (p : Placed) : Type 0 where
+    drawable : Drawable (p .role) (p .chain)
+    ends : endOf p ≤ n
+    inside : InRows 0 (s .rows) p
+    head : isBase (p .role) ≡ true → headed es ≡ true
+    late : headed es ≡ true → 2 ≤ p .first
+    marks : (i : ℕ) → p .first ≤ i → i < endOf p → look i (allMarks ps) ≡ look i (draw.marks (p .role) (p .chain) (p .first) (p .variable))
+
+  known : All Known ps
+  known =
+      go ps (placing-drawable 0 n 0 w ps (s .placing)) (placing-within 0 n 0 w ps (s .placing)) (s .carbons) headed-base (headed-first t ds es) (own-marks 0 n 0 w ps (s .placing))
+    where
+      w : ℕ
+      w = variablesTo ds 0 es
+
+      go : (qs : List Placed) → All (λ p. Drawable (p .role) (p .chain)) qs → All (λ p. (0 ≤ p .first) × (endOf p ≤ n)) qs → All (InRows 0 (s .rows)) qs
+          → All (λ p. isBase (p .role) ≡ true → headed es ≡ true) qs → All (λ p. headed es ≡ true → 2 ≤ p .first) qs
+          → All (λ p. (i : ℕ) → p .first ≤ i → i < endOf p → look i (allMarks ps) ≡ look i (draw.marks (p .role) (p .chain) (p .first) (p .variable))) qs → All Known qs
+      go [] a b c d l e = tt
+      go (q ∷ qs) a b c d l e =
+          (record { drawable = a .0; ends = b .0 .1; inside = c .0; head = d .0; late = l .0; marks = e .0 }, go qs (a .1) (b .1) (c .1) (d .1) (l .1) (e .1))
+
+  module _ (swap : Bool) where
+    -- the row of a carbon is its atom's in the molecule
+    carbonic-bytes : (i : ℕ) → Carbonic 0 (s .rows) i → bytesAt (drawnMolecule swap) i ≡ some (ascii "C")
+    carbonic-bytes i c =
+        let e : i - 0 ≡ i = omega arith in
+        bytes-at (s .rows) (labels swap all-labels) (allMarks ps) (allSites ps) (allSums ps) i (ascii "C") (rw e at (c .is))
+
+    carbonic-variable : (i : ℕ) → Carbonic 0 (s .rows) i → variableAt (drawnMolecule swap) i ≡ look i (allMarks ps)
+    carbonic-variable i c =
+        let e : i - 0 ≡ i = omega arith in
+        variable-at (s .rows) (labels swap all-labels) (allMarks ps) (allSites ps) (allSums ps) i (ascii "C") (rw e at (c .is))
+
+    listed : (p : Placed) → Known p → Listed (drawnMolecule swap) p
+    unfolding indicesOf
+    listed p k =
+        let is : List ℕ = carbonAtoms (p .role) (p .chain) (p .first) in
+        record {
+          carbons = refl;
+          number = heads-number (p .role) is ∙ ap (λ (z : ℕ). firstDrawn (p .role) - 1 + z) (carbon-atoms-count (p .role) (p .chain) (p .first));
+          once = heads-once (p .role) (p .first) (chainEnd (p .first) (carbons (p .role) (p .chain))) is (λ e. k .late (k .head e)) (carbon-atoms-rise (p .role) (p .chain) (p .first));
+          each =
+              all-each (λ i. bytesAt (drawnMolecule swap) i ≡ some (ascii "C")) (headCarbons (p .role) ++ is)
+              (heads-each (λ i. bytesAt (drawnMolecule swap) i ≡ some (ascii "C")) (p .role) is (λ e. (carbonic-bytes 0 (s .heads (k .head e) .0), carbonic-bytes 1 (s .heads (k .head e) .1)))
+              (all-map {P = Carbonic 0 (s .rows)} (λ i c. carbonic-bytes i c) is (k .inside)));
+        }
+
+    -- ---- the counts
+
+    -- what the molecule says of a chain's carbon is what the chain's own marks say
+    own-copies : (count : ℕ → ℕ) (p : Placed) → Known p
+        → All (λ i. copies count (variableAt (drawnMolecule swap) i) ≡ copies count (look i (draw.marks (p .role) (p .chain) (p .first) (p .variable)))) (carbonAtoms (p .role) (p .chain) (p .first))
+    own-copies count p k =
+        let m : ℕ = chainEnd (p .first) (carbons (p .role) (p .chain)) in
+        let is : List ℕ = carbonAtoms (p .role) (p .chain) (p .first) in
+        all-map {P = λ (i : ℕ). Carbonic 0 (s .rows) i × ((p .first ≤ i) × (i < m))}
+        (λ i h. ap (copies count) (carbonic-variable i (h .0) ∙ k .marks i (h .1 .0) (omega (arith, h .1 .1, atomsEnd-le (p .role) (p .chain) (p .first))))) is
+        (all-both (Carbonic 0 (s .rows)) (λ i. (p .first ≤ i) × (i < m)) is (k .inside) (rises-within (p .first) m is (carbon-atoms-rise (p .role) (p .chain) (p .first))))
+
+    -- C1 and C2 of a base have no mark
+    head-copies : (count : ℕ → ℕ) (p : Placed) → Known p → isBase (p .role) ≡ true
+        → (copies count (variableAt (drawnMolecule swap) 0) ≡ 1) × (copies count (variableAt (drawnMolecule swap) 1) ≡ 1)
+    unfolding copies
+    head-copies count p k e = (
+      ap (copies count) (carbonic-variable 0 (s .heads (k .head e) .0) ∙ no-head-mark (k .head e) 0 (omega arith)),
+      ap (copies count) (carbonic-variable 1 (s .heads (k .head e) .1) ∙ no-head-mark (k .head e) 1 (omega arith)),
+    )
+
+    adds-up : (count : ℕ → ℕ) → All (Meets count) (allSums ps) → (p : Placed) → Known p → All (Meets count) (draw.sums (p .role) (p .chain) (p .variable))
+        → AddsUp (drawnMolecule swap) count p
+    unfolding indicesOf
+    adds-up count h p k m =
+        let g : ℕ → ℕ = λ i. copies count (variableAt (drawnMolecule swap) i) in
+        let is : List ℕ = carbonAtoms (p .role) (p .chain) (p .first) in
+        let own : total g is ≡ total (λ i. copies count (look i (draw.marks (p .role) (p .chain) (p .first) (p .variable)))) is =
+        total-agrees g (λ i. copies count (look i (draw.marks (p .role) (p .chain) (p .first) (p .variable)))) is (own-copies count p k)
+        in
+        record { written = omega (arith, heads-total g (p .role) is (head-copies count p k), written-add-up (p .role) (p .chain) (k .drawable) (p .first) (p .variable) count m) }
+
+    -- ---- the parts of the promise
+
+    all-listed : Each (Listed (drawnMolecule swap)) (bySn ps)
+    all-listed = all-each (Listed (drawnMolecule swap)) (bySn ps) (all-sorted (Listed (drawnMolecule swap)) ps (all-map {P = Known} (λ p k. listed p k) ps known))
+
+    chosen : (count : ℕ → ℕ) × Choice (drawnMolecule swap) count
+    chosen =
+        let x : Chosen (allSums ps) = all-chosen 0 n 0 (variablesTo ds 0 es) ps (s .placing) in
+        (
+          x .count,
+          record {
+            counts = x .counts;
+            meets =
+                rw (sums-in (s .rows) (labels swap all-labels) (allMarks ps) (allSites ps) (allSums ps))
+                (all-each (Meets (x .count)) (sumSet (allSums ps)) (set-all (Meets (x .count)) (allSums ps) (x .meets)));
+          },
+        )
+
+    all-add-up : (count : ℕ → ℕ) → Choice (drawnMolecule swap) count → Each (AddsUp (drawnMolecule swap) count) (bySn ps)
+    all-add-up count x =
+        let m : All (Meets count) (allSums ps) =
+        all-set (Meets count) (allSums ps)
+        (each-all (Meets count) (sumSet (allSums ps)) (rw (sums-in (s .rows) (labels swap all-labels) (allMarks ps) (allSites ps) (allSums ps)) at (x .meets)))
+        in
+        all-each (AddsUp (drawnMolecule swap) count) (bySn ps)
+        (all-sorted (AddsUp (drawnMolecule swap) count) ps
+        (all-map {P = λ (p : Placed). Known p × All (Meets count) (draw.sums (p .role) (p .chain) (p .variable))} (λ p h. adds-up count m p (h .0) (h .1)) ps
+        (all-both Known (λ p. All (Meets count) (draw.sums (p .role) (p .chain) (p .variable))) ps known (own-sums count ps m))))
