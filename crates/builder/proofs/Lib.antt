@@ -8,4 +8,5 @@ pub mod Notes
 pub mod Sorted
 pub mod Tail
 pub mod Molecules
+pub mod Listing
 pub mod Theorem

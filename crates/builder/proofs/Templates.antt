@@ -11,7 +11,7 @@ use Rattle.scan.specs.Part.{sameBytes}
 use Rattle.scan.proofs.Laws.{same-equal}
 use Rattle.reading.specs.Ascii.{ascii}
 use Rattle.reading.specs.Piece.{Piece, atom, mark, dot, lpar, rpar}
-use Rattle.reading.specs.Lexer.{piecesOf}
+use Rattle.reading.specs.Lexer.{piecesOf, memb}
 use Rattle.reading.specs.Parting.{_>>=_}
 use Rattle.reading.proofs.Part.{none≢some}
 use Rattle.reading.specs.Machine.{Phase, fresh, opened, after, marked, plainly}
@@ -19,11 +19,11 @@ use Rattle.reading.specs.Line.{below, distinct}
 use Rattle.reading.proofs.PartingLaws.{and-left, and-right}
 use Rattle.chain.specs.declared.Role.{Role}
 use Rattle.chain.specs.declared.Role.the-variants as role
-use Rattle.chain.specs.Lists.{anyOf, allOf}
+use Rattle.chain.specs.Lists.{anyOf, allOf, valuesFrom}
 use Rattle.chain.proofs.Branches.{unlabelled}
 use Rattle.builder.specs.declared.Class.{Class}
 use Rattle.builder.specs.declared.Class.the-variants.{Fa, Gl1, Gl2, Gl3, Gp, Cl, Sb, Sa}
-use Rattle.builder.specs.Template.{Element, fixed, tail, slot, chain, elements, glycerol, roleOf, hasTail}
+use Rattle.builder.specs.Template.{Element, fixed, tail, slot, chain, elements, glycerol, most, roleOf, hasTail}
 use Rattle.builder.specs.Request.{fixedPieces, atomsOfPiece, atomsOfPieces}
 
 -- ---- a template's own pieces are a run
@@ -240,7 +240,8 @@ mostAtoms (chain sn r ∷ es) = 25000 + mostAtoms es
 
 -- ---- all tests
 
-pub record Fitting (ρ : ℕ → Role) (tailed : Bool) (es : List Element) : Type 0 where
+-- of a template for at most m tokens, whose chains have the roles ρ, with or without a tail
+pub record Fitting (m : ℕ) (ρ : ℕ → Role) (tailed : Bool) (es : List Element) : Type 0 where
   pub runs : ends (turnAll es 0 fresh) ≡ true
   pub bare : allOf isBare es ≡ true
   pub roles : allOf (inRole ρ) es ≡ true
@@ -251,15 +252,16 @@ pub record Fitting (ρ : ℕ → Role) (tailed : Bool) (es : List Element) : Typ
   pub base : (not (anyOf hasBase es) || headed es) ≡ true
   pub tails : anyOf isTailed es ≡ tailed
   pub small : leb (mostAtoms es) 200000 ≡ true
+  pub places : allOf (λ sn. memb sn (snsOf es)) (valuesFrom (λ k. k) 1 m) ≡ true
 
 -- THE EIGHT TEMPLATES
-pub fitting : (c : Class) → Fitting (roleOf c) (hasTail c) (elements c)
-unfolding turnAll ends allOf anyOf isBare inRole distinct below snsOf hasBase headed isTailed mostAtoms elements
-fitting Fa = record { runs = refl; bare = refl; roles = refl; apart = refl; four = refl; from-one = refl; few = refl; base = refl; tails = refl; small = refl }
-fitting Gl1 = record { runs = refl; bare = refl; roles = refl; apart = refl; four = refl; from-one = refl; few = refl; base = refl; tails = refl; small = refl }
-fitting Gl2 = record { runs = refl; bare = refl; roles = refl; apart = refl; four = refl; from-one = refl; few = refl; base = refl; tails = refl; small = refl }
-fitting Gl3 = record { runs = refl; bare = refl; roles = refl; apart = refl; four = refl; from-one = refl; few = refl; base = refl; tails = refl; small = refl }
-fitting Gp = record { runs = refl; bare = refl; roles = refl; apart = refl; four = refl; from-one = refl; few = refl; base = refl; tails = refl; small = refl }
-fitting Cl = record { runs = refl; bare = refl; roles = refl; apart = refl; four = refl; from-one = refl; few = refl; base = refl; tails = refl; small = refl }
-fitting Sb = record { runs = refl; bare = refl; roles = refl; apart = refl; four = refl; from-one = refl; few = refl; base = refl; tails = refl; small = refl }
-fitting Sa = record { runs = refl; bare = refl; roles = refl; apart = refl; four = refl; from-one = refl; few = refl; base = refl; tails = refl; small = refl }
+pub fitting : (c : Class) → Fitting (most c) (roleOf c) (hasTail c) (elements c)
+unfolding memb valuesFrom  turnAll ends allOf anyOf isBare inRole distinct below snsOf hasBase headed isTailed mostAtoms elements
+fitting Fa = record { runs = refl; bare = refl; roles = refl; apart = refl; four = refl; from-one = refl; few = refl; base = refl; tails = refl; small = refl; places = refl }
+fitting Gl1 = record { runs = refl; bare = refl; roles = refl; apart = refl; four = refl; from-one = refl; few = refl; base = refl; tails = refl; small = refl; places = refl }
+fitting Gl2 = record { runs = refl; bare = refl; roles = refl; apart = refl; four = refl; from-one = refl; few = refl; base = refl; tails = refl; small = refl; places = refl }
+fitting Gl3 = record { runs = refl; bare = refl; roles = refl; apart = refl; four = refl; from-one = refl; few = refl; base = refl; tails = refl; small = refl; places = refl }
+fitting Gp = record { runs = refl; bare = refl; roles = refl; apart = refl; four = refl; from-one = refl; few = refl; base = refl; tails = refl; small = refl; places = refl }
+fitting Cl = record { runs = refl; bare = refl; roles = refl; apart = refl; four = refl; from-one = refl; few = refl; base = refl; tails = refl; small = refl; places = refl }
+fitting Sb = record { runs = refl; bare = refl; roles = refl; apart = refl; four = refl; from-one = refl; few = refl; base = refl; tails = refl; small = refl; places = refl }
+fitting Sa = record { runs = refl; bare = refl; roles = refl; apart = refl; four = refl; from-one = refl; few = refl; base = refl; tails = refl; small = refl; places = refl }

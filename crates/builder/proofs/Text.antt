@@ -145,8 +145,8 @@ module _ (t : List ℕ) (ds : List Chain) (ρ : ℕ → Role) (accepts : (sn : �
       (all-read es b (and-right (sameRole (ρ sn) r) (allOf (inRole ρ) es) e) h)
 
   -- THE TEXT: with labels from 10 on it reads as the rows of the drawing
-  pub text-reads : (tailed : Bool) (es : List Element) → Fitting ρ tailed es → (tailed ≡ true → TailFits t) → (s : Stands t ds es)
+  pub text-reads : (most : ℕ) (tailed : Bool) (es : List Element) → Fitting most ρ tailed es → (tailed ≡ true → TailFits t) → (s : Stands t ds es)
       → readText (show (templatePieces 10 (allItems t ds es))) ≡ some (s .rows)
-  text-reads tailed es f h s =
+  text-reads most tailed es f h s =
       let q : Reads (allItems t ds es) (length (snsOf es)) = all-read es (f .bare) (f .roles) (λ e. h (sym (f .tails) ∙ e)) in
       template-text 10 (allItems t ds es) (s .rows) (omega arith) (omega (arith, q .label 10, leb-true (length (snsOf es)) 4 (f .few))) (q .well) (q .fits 10) (s .is)

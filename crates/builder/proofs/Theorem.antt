@@ -34,7 +34,7 @@ use Rattle.chain.proofs.Accepted.{Drawable}
 use Rattle.chain.proofs.Atoms.{carbon-atoms-rise, carbon-atoms-count, carbon-atoms-distinct, atomsEnd-le}
 use Rattle.chain.proofs.Counts.{SumStands, Chosen, written-add-up}
 use Rattle.builder.specs.declared.Class.{Class}
-use Rattle.builder.specs.Template.{Element, elements, fewest, most, roleOf, hasTail}
+use Rattle.builder.specs.Template.{Element, elements, fewest, most as mostTokens, roleOf, hasTail}
 use Rattle.builder.specs.Request.{chainAt, Placed, placedFrom, placed, allMarks, allSites, allSums, bySn, headCarbons, indicesOf, snSites, labels, orNoRows, allItems, rowsDrawn, moleculeDrawn, textOf, lineOf}
 use Rattle.builder.specs.Promise.{Each, bytesAt, variableAt, sumsIn, chainsFrom, namesOf, Listed, Choice, AddsUp, Promise}
 use Rattle.builder.proofs.Templates.{snsOf, isBase, hasBase, headed, Fitting, fitting}
@@ -52,7 +52,7 @@ use Rattle.builder.proofs.Molecules.{bytes-at, variable-at, sums-in, se
 -- the number of tokens fits the class, every chain is read and has no refusal in its place, and the tail reads by itself where there is one
 pub record Accepted (c : Class) (t : List ℕ) (ds : List Chain) : Type 0 where
   pub few : fewest c ≤ length ds
-  pub many : length ds ≤ most c
+  pub many : length ds ≤ mostTokens c
   pub chains : (sn : ℕ) (d : Chain) → chainAt sn ds ≡ some d → Accepts (roleOf c sn) d
   pub tail : hasTail c ≡ true → TailReads t
 
@@ -93,7 +93,7 @@ heads-total count role.Base is h = omega (arith, h refl)
 
 -- ---- any template that passes the tests
 
-module _ (t : List ℕ) (ds : List Chain) (ρ : ℕ → Role) (tailed : Bool) (es : List Element) (f : Fitting ρ tailed es) (s : Stands t ds es) where
+module _ (t : List ℕ) (ds : List Chain) (most : ℕ) (ρ : ℕ → Role) (tailed : Bool) (es : List Element) (f : Fitting most ρ tailed es) (s : Stands t ds es) where
   abbrev ps : List Placed
   ps = placedFrom t ds 0 0 es
 

@@ -70,10 +70,10 @@ unfolding whole
 whole-is rs n cur [] h = refl
 whole-is rs n cur (p ∷ stk) h = absurd (omega arith)
 
-pub stands : (t : List ℕ) (ds : List Chain) (ρ : ℕ → Role) (tailed : Bool) (es : List Element) → Fitting ρ tailed es
+pub stands : (t : List ℕ) (ds : List Chain) (most : ℕ) (ρ : ℕ → Role) (tailed : Bool) (es : List Element) → Fitting most ρ tailed es
     → ((sn : ℕ) (d : Chain) → chainAt sn ds ≡ some d → Accepts (ρ sn) d) → (tailed ≡ true → TailFits t) → Stands t ds es
 unfolding ends drawn
-stands t ds ρ tailed es f accepts h =
+stands t ds most ρ tailed es f accepts h =
     go (turnAll es 0 fresh) (f .runs) (made-all t ds ρ accepts es (f .roles) (λ q. h (sym (f .tails) ∙ q)) 0 0 0 [] fresh)
   where
     made : Made (allItems t ds es) (placedFrom t ds 0 0 es) 0 0 0 [] fresh (atomsTo t ds 0 es) (variablesTo ds 0 es) (mostAtoms es) 0 after → Stands t ds es
