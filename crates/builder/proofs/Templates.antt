@@ -256,7 +256,7 @@ pub record Fitting (m : ℕ) (ρ : ℕ → Role) (tailed : Bool) (es : List Elem
 
 -- THE EIGHT TEMPLATES
 pub fitting : (c : Class) → Fitting (most c) (roleOf c) (hasTail c) (elements c)
-unfolding memb valuesFrom  turnAll ends allOf anyOf isBare inRole distinct below snsOf hasBase headed isTailed mostAtoms elements
+unfolding memb valuesFrom turnAll ends allOf anyOf isBare inRole distinct below snsOf hasBase headed isTailed mostAtoms elements
 fitting Fa = record { runs = refl; bare = refl; roles = refl; apart = refl; four = refl; from-one = refl; few = refl; base = refl; tails = refl; small = refl; places = refl }
 fitting Gl1 = record { runs = refl; bare = refl; roles = refl; apart = refl; four = refl; from-one = refl; few = refl; base = refl; tails = refl; small = refl; places = refl }
 fitting Gl2 = record { runs = refl; bare = refl; roles = refl; apart = refl; four = refl; from-one = refl; few = refl; base = refl; tails = refl; small = refl; places = refl }

@@ -45,6 +45,7 @@ use Rattle.builder.proofs.Text.{text-reads}
 use Rattle.builder.proofs.Notes.{endOf, placing-within, placing-drawable, all-marks-rise, all-variables-rise, all-summed, all-sums-stand, variables-most, all-sites-rise, all-sites-within, all-sites-flat, all-sites-some, sn-sites-rise, own-marks, look-outside, marks-after, total-agrees, all-chosen, own-sums}
 use Rattle.builder.proofs.Sorted.{sns-placed, headed-first, base-placed, length-placed, placed-apart, all-sorted, snOf, sorted-rise, site-notes-rise, sorted-sites-apart, sorted-sites-all}
 use Rattle.builder.proofs.Tail.{TailReads, tail-fits}
+use Rattle.builder.proofs.Listing.{chains-listed}
 use Rattle.builder.proofs.Molecules.{bytes-at, variable-at, sums-in, set-all, all-set}
 
 -- ---- what is accepted
@@ -291,8 +292,7 @@ module _ (t : List ℕ) (ds : List Chain) (most : ℕ) (ρ : ℕ → Role) (tail
 
     chosen : (count : ℕ → ℕ) × Choice (drawnMolecule swap) count
     chosen =
-        let x : Chosen (allSums ps) = all-chosen 0 n 0 (variablesTo ds 0 es) ps (s .placing) in
-        (
+        let x : Chosen (allSums ps) = all-chosen 0 n 0 (variablesTo ds 0 es) ps (s .placing) in (
           x .count,
           record {
             counts = x .counts;
@@ -312,3 +312,38 @@ module _ (t : List ℕ) (ds : List Chain) (most : ℕ) (ρ : ℕ → Role) (tail
         (all-sorted (AddsUp (drawnMolecule swap) count) ps
         (all-map {P = λ (p : Placed). Known p × All (Meets count) (draw.sums (p .role) (p .chain) (p .variable))} (λ p h. adds-up count m p (h .0) (h .1)) ps
         (all-both Known (λ p. All (Meets count) (draw.sums (p .role) (p .chain) (p .variable))) ps known (own-sums count ps m))))
+
+  sns-rise : Rises 1 5 (map snOf (bySn ps))
+  sns-rise = sorted-rise 1 5 ps (omega arith) sns-within (placed-apart t ds 0 0 es (f .apart))
+
+-- ---- DEMAND 3
+
+pub promise : (c : Class) (swap : Bool) (t : List ℕ) (ds : List Chain) → Accepted c t ds → Promise c swap t ds
+unfolding placed lineOf textOf moleculeDrawn rowsDrawn
+promise c swap t ds a =
+    record {
+      reads =
+          line-reads-back (textOf c t ds) (s .rows) (labels swap (snSites (bySn ps))) (allMarks ps) (allSites ps) (allSums ps)
+          (text-reads t ds (roleOf c) (a .chains) (mostTokens c) (hasTail c) es f (λ e. tail-fits t (a .tail e)) s)
+          (well-formed t ds (mostTokens c) (roleOf c) (hasTail c) es f s swap)
+          ∙ ap (λ (m : Molecule). some m) (sym same);
+      chains = chains-listed t ds (mostTokens c) es (f .places) (a .many) (placed-apart t ds 0 0 es (f .apart)) 5 (sns-rise t ds (mostTokens c) (roleOf c) (hasTail c) es f s);
+      indices = rw same (all-listed t ds (mostTokens c) (roleOf c) (hasTail c) es f s swap);
+      choice = rw same (chosen t ds (mostTokens c) (roleOf c) (hasTail c) es f s swap);
+      carbons = rw same (all-add-up t ds (mostTokens c) (roleOf c) (hasTail c) es f s swap);
+    }
+  where
+    es : List Element
+    es = elements c
+
+    f : Fitting (mostTokens c) (roleOf c) (hasTail c) (elements c)
+    f = fitting c
+
+    s : Stands t ds (elements c)
+    s = stands t ds (mostTokens c) (roleOf c) (hasTail c) (elements c) f (a .chains) (λ e. tail-fits t (a .tail e))
+
+    ps : List Placed
+    ps = placedFrom t ds 0 0 (elements c)
+
+    same : moleculeDrawn c swap t ds ≡ moleculeOf (s .rows) (labels swap (snSites (bySn ps))) (allMarks ps) (allSites ps) (allSums ps)
+    same = ap (λ (z : List Row). moleculeOf z (labels swap (snSites (bySn ps))) (allMarks ps) (allSites ps) (allSums ps)) (ap orNoRows (s .is))
