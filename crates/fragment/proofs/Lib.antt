@@ -1,2 +1,4 @@
 pub mod Left
+pub mod Fronts
 pub mod TextLaws
+pub mod BondLaws

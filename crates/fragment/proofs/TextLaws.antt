@@ -16,7 +16,6 @@ use Rattle.emit.proofs.Laws.{written-nil, written-append, written-length}
 use Rattle.groups.specs.declared.Row.{Row}
 use Rattle.groups.specs.Groups.{Entry, entry, entries, blank, entryAt, entryOf, RowIs}
 use Rattle.record.specs.declared.Mod.{Mod}
-use Rattle.record.specs.declared.Bridge.the-variants.{Epoxide}
 use Rattle.record.specs.declared.Ring.{Ring as Closed}
 use Rattle.reading.specs.Ascii.{ascii}
 use Rattle.reading.specs.Piece.{Piece, atom, dot, lpar, rpar, show, showLabel, showLabels}
@@ -27,24 +26,9 @@ use Rattle.chain.specs.Lists.{only}
 use Rattle.chain.specs.Bonds.{markOf}
 use Rattle.chain.specs.Drawing.{orNone, branchPart, branches, ringPairs}
 use Rattle.fragment.specs.Text.{branchText, groupText, sitting, groupsText, labelsText, carbonText, bridgeText, floatText}
+use Rattle.drawable.specs.Drawn.{Length, groupRoom, ringRoom, noGroup, noRing}
+use Rattle.fragment.proofs.Fronts.{next-of, none-left}
 use Rattle.fragment.proofs.Left.{Left, left-less, left-same, left-none, written-three}
-
--- ---- a list in the front of an array
-
-module _ {A : Type 0} (n : ℕ) (xs : List A) where
-  pub front-next : (d : A) (i : ℕ) → n ≤ length xs → i < n → drop i (take n xs) ≡ getD xs i d ∷ drop (i + 1) (take n xs)
-  front-next d i g h =
-      rw (add-one i) (drop-cons (take n xs) i d (rw (length-take-le n xs g) h) ∙ rw (getD-take n xs i d h))
-
-  pub front-end : (i : ℕ) → n ≤ i → drop i (take n xs) ≡ []
-  front-end i h = drop-of-length-le (take n xs) {i = i} (omega (arith, length-take n xs))
-
--- what an index past the end reads
-abbrev pub noGroup : Mod
-noGroup = record { pos = 0; row = 0 }
-
-abbrev pub noRing : Closed
-noRing = record { start = 0; end = 0; bridge = Epoxide }
 
 -- ---- the branches of the table, by one computed test over all of it
 
@@ -133,19 +117,18 @@ unfolding groupsText sitting only branches partPieces show
 sitting-none k = refl
 
 -- a turn of the loop through the groups, and its end
-module _ {xs ys ts : List ℕ} {at p : ℕ} (gs : List Mod) (n i k : ℕ) (l : length gs ≡ 18) (m : n ≤ 18)
-    (v : Left xs at ts ys p (groupsText (sitting k (drop i (take n gs))))) where
-  pub group-here : {zs : List ℕ} {q : ℕ} → length xs < 2 ^ 64 → i < n → getD gs i noGroup .pos ≡ k → Written ys p (groupText (getD gs i noGroup .row)) zs q
-      → Left xs at ts zs q (groupsText (sitting k (drop (i + 1) (take n gs))))
-  group-here h t e w =
-      left-less _ h v (ap (λ (us : List Mod). groupsText (sitting k us)) (front-next n gs noGroup i (omega arith) t) ∙ sitting-here k (getD gs i noGroup) (drop (i + 1) (take n gs)) e) w
+module _ {xs ys ts : List ℕ} {at p n : ℕ} {gs : List Mod} (i k : ℕ) (s : Length groupRoom gs n) (v : Left xs at ts ys p (groupsText (sitting k (drop i gs)))) where
+  pub group-here : {zs : List ℕ} {q : ℕ} (g : Mod) → length xs < 2 ^ 64 → i < n → g ≡ getD gs i noGroup → g .pos ≡ k → Written ys p (groupText (g .row)) zs q
+      → Left xs at ts zs q (groupsText (sitting k (drop (i + 1) gs)))
+  group-here g h t e f w =
+      left-less _ h v (ap (λ (us : List Mod). groupsText (sitting k us)) (next-of s noGroup g i e t) ∙ sitting-here k g (drop (i + 1) gs) f) w
 
-  pub group-past : i < n → (getD gs i noGroup .pos ≡ k → ⊥) → Left xs at ts ys p (groupsText (sitting k (drop (i + 1) (take n gs))))
-  group-past t e =
-      left-same v (ap (λ (us : List Mod). groupsText (sitting k us)) (front-next n gs noGroup i (omega arith) t) ∙ ap groupsText (sitting-past k (getD gs i noGroup) (drop (i + 1) (take n gs)) e))
+  pub group-past : (g : Mod) → i < n → g ≡ getD gs i noGroup → (g .pos ≡ k → ⊥) → Left xs at ts ys p (groupsText (sitting k (drop (i + 1) gs)))
+  group-past g t e f =
+      left-same v (ap (λ (us : List Mod). groupsText (sitting k us)) (next-of s noGroup g i e t) ∙ ap groupsText (sitting-past k g (drop (i + 1) gs) f))
 
   pub groups-end : n ≤ i → Written xs at ts ys p
-  groups-end t = left-none v (ap (λ (us : List Mod). groupsText (sitting k us)) (front-end n gs i t) ∙ sitting-none k)
+  groups-end t = left-none v (ap (λ (us : List Mod). groupsText (sitting k us)) (none-left s i t) ∙ sitting-none k)
 
 -- ---- labels
 
@@ -159,42 +142,44 @@ module _ {xs ys : List ℕ} {at p : ℕ} (l : ℕ) where
   unfolding showLabel
   label-two g h u v w = rw (le-ltb l 10 h) (written-three g u v w)
 
-labels-here : (k l : ℕ) (x : Closed) (rs : List Closed) → (eqb (x .start) k || eqb (x .end) k) ≡ true
-    → labelsText k l (ringPairs (x ∷ rs)) ≡ showLabel l ++ labelsText k (l + 1) (ringPairs rs)
+labels-cons : (k l : ℕ) (x : Closed) (rs : List Closed)
+    → labelsText k l (ringPairs (x ∷ rs)) ≡ labelsText k l (ringPairs (x ∷ [])) ++ labelsText k (l + 1) (ringPairs rs)
 unfolding labelsText labelsAt ringPairs showLabels
-labels-here k l x rs e = rw (e, add-one l)
-
-labels-past : (k l : ℕ) (x : Closed) (rs : List Closed) → (eqb (x .start) k || eqb (x .end) k) ≡ false
-    → labelsText k l (ringPairs (x ∷ rs)) ≡ labelsText k (l + 1) (ringPairs rs)
-unfolding labelsText labelsAt ringPairs showLabels
-labels-past k l x rs e = rw (e, add-one l)
+labels-cons k l x rs = rw (add-one l) (go (eqb (x .start) k || eqb (x .end) k))
+  where
+    go : (b : Bool) → showLabels (cond b (l ∷ labelsAt k (suc l) (ringPairs rs)) (labelsAt k (suc l) (ringPairs rs)))
+        ≡ showLabels (cond b (l ∷ []) []) ++ showLabels (labelsAt k (suc l) (ringPairs rs))
+    go true = rw (append-nil (showLabel l))
+    go false = refl
 
 labels-none : (k l : ℕ) → labelsText k l (ringPairs []) ≡ []
 unfolding labelsText labelsAt ringPairs showLabels
 labels-none k l = refl
 
+-- one ring
+module _ {xs ys : List ℕ} {at p : ℕ} (k l : ℕ) (x : Closed) where
+  pub end-start : x .start ≡ k → Written xs at (showLabel l) ys p → Written xs at (labelsText k l (ringPairs (x ∷ []))) ys p
+  unfolding labelsText labelsAt ringPairs showLabels
+  end-start e w = rw (eq-eqb (x .start) k e, append-nil (showLabel l)) w
+
+  pub end-end : (x .start ≡ k → ⊥) → x .end ≡ k → Written xs at (showLabel l) ys p → Written xs at (labelsText k l (ringPairs (x ∷ []))) ys p
+  unfolding labelsText labelsAt ringPairs showLabels
+  end-end n e w = rw (ne-eqb (x .start) k n, eq-eqb (x .end) k e, append-nil (showLabel l)) w
+
+pub end-none : (xs : List ℕ) (at k l : ℕ) (x : Closed) → at < 2 ^ 64 → (x .start ≡ k → ⊥) → (x .end ≡ k → ⊥) → Written xs at (labelsText k l (ringPairs (x ∷ []))) xs at
+unfolding labelsText labelsAt ringPairs showLabels
+end-none xs at k l x h n e = rw (ne-eqb (x .start) k n, ne-eqb (x .end) k e) (written-nil xs at h)
+
 -- a turn of the loop through the rings, and its end
-module _ {xs ys ts : List ℕ} {at p : ℕ} (rs : List Closed) (n i k l : ℕ) (s : length rs ≡ 8) (m : n ≤ 8)
-    (v : Left xs at ts ys p (labelsText k l (ringPairs (drop i (take n rs))))) where
-  ring-next : i < n → labelsText k l (ringPairs (drop i (take n rs))) ≡ labelsText k l (ringPairs (getD rs i noRing ∷ drop (i + 1) (take n rs)))
-  ring-next t = ap (λ (us : List Closed). labelsText k l (ringPairs us)) (front-next n rs noRing i (omega arith) t)
-
-  pub label-start : {zs : List ℕ} {q : ℕ} → length xs < 2 ^ 64 → i < n → getD rs i noRing .start ≡ k → Written ys p (showLabel l) zs q
-      → Left xs at ts zs q (labelsText k (l + 1) (ringPairs (drop (i + 1) (take n rs))))
-  label-start h t e w = left-less _ h v (ring-next t ∙ labels-here k l (getD rs i noRing) _ (rw (eq-eqb (getD rs i noRing .start) k e))) w
-
-  pub label-end : {zs : List ℕ} {q : ℕ} → length xs < 2 ^ 64 → i < n → (getD rs i noRing .start ≡ k → ⊥) → getD rs i noRing .end ≡ k → Written ys p (showLabel l) zs q
-      → Left xs at ts zs q (labelsText k (l + 1) (ringPairs (drop (i + 1) (take n rs))))
-  label-end h t o e w =
-      left-less _ h v (ring-next t ∙ labels-here k l (getD rs i noRing) _ (rw (ne-eqb (getD rs i noRing .start) k o, eq-eqb (getD rs i noRing .end) k e))) w
-
-  pub label-past : i < n → (getD rs i noRing .start ≡ k → ⊥) → (getD rs i noRing .end ≡ k → ⊥)
-      → Left xs at ts ys p (labelsText k (l + 1) (ringPairs (drop (i + 1) (take n rs))))
-  label-past t o e =
-      left-same v (ring-next t ∙ labels-past k l (getD rs i noRing) _ (rw (ne-eqb (getD rs i noRing .start) k o, ne-eqb (getD rs i noRing .end) k e)))
+module _ {xs ys ts : List ℕ} {at p n : ℕ} {rs : List Closed} (i k l : ℕ) (s : Length ringRoom rs n)
+    (v : Left xs at ts ys p (labelsText k l (ringPairs (drop i rs)))) where
+  pub label-next : {zs : List ℕ} {q : ℕ} (x : Closed) → length xs < 2 ^ 64 → i < n → x ≡ getD rs i noRing → Written ys p (labelsText k l (ringPairs (x ∷ []))) zs q
+      → Left xs at ts zs q (labelsText k (l + 1) (ringPairs (drop (i + 1) rs)))
+  label-next x h t e w =
+      left-less _ h v (ap (λ (us : List Closed). labelsText k l (ringPairs us)) (next-of s noRing x i e t) ∙ labels-cons k l x (drop (i + 1) rs)) w
 
   pub labels-end : n ≤ i → Written xs at ts ys p
-  labels-end t = left-none v (ap (λ (us : List Closed). labelsText k l (ringPairs us)) (front-end n rs i t) ∙ labels-none k l)
+  labels-end t = left-none v (ap (λ (us : List Closed). labelsText k l (ringPairs us)) (none-left s i t) ∙ labels-none k l)
 
 -- ---- the carbon and its bridge
 

@@ -1,2 +1,3 @@
-// One chain as it is drawn: its text at a place of a lent line, and the atoms of its carbons.
+// One chain as it is drawn: its bonds by carbon, its text at a place of a lent line, and the atoms of its carbons.
+pub mod bonds;
 pub mod text;

@@ -1,14 +1,15 @@
 // The text of a chain, written at a place of a lent slice: leaf writers for what stands on a carbon.
+use drawable::Groups;
+use drawable::Rings;
+use record::Ring;
 ghost use mathlib.Core.Path.{_≡_};
 ghost use mathlib.Core.List.{[], _∷_};
 ghost use Prim.Native.Nat.{_+_, _≤_, _<_};
-ghost use lib.ListN.{take};
 ghost use Rattle.emit.specs.Text.{Written};
+ghost use Rattle.drawable.specs.Drawn.{groupsIn, ringsIn};
 ghost use Rattle.reading.specs.Piece.{showLabel};
 ghost use Rattle.chain.specs.Drawing.{ringPairs};
 ghost use Rattle.fragment.specs.Text.{branchText, groupText, sitting, groupsText, labelsText, carbonText, bridgeText, floatText};
-use record::Mod;
-use record::Ring;
 
 // The branch of a group, by its row of the table.
 fn put_branch(out: &mut [u8], at: usize, row: u8) -> usize
@@ -39,14 +40,14 @@ fn put_float(out: &mut [u8], at: usize, row: u8) -> usize
 }
 
 // The groups of carbon k, in token order.
-fn put_groups(out: &mut [u8], at: usize, groups: [Mod; 18], n: usize, k: u32) -> usize
-    requires { ⌜ n ≤ 18 ⌝ }
-    ensures { λ r. ⌜ Written (now (out .entry)) at (groupsText (sitting k (take n groups))) (now (out .exit)) r ⌝ }
+fn put_groups(out: &mut [u8], at: usize, groups: Groups, k: u32) -> usize
+    ensures { λ r. ⌜ Written (now (out .entry)) at (groupsText (sitting k (groupsIn groups))) (now (out .exit)) r ⌝ }
 {
+    let n = groups.len();
     let mut p = at;
     let mut i = 0;
     while i < n {
-        let g = groups[i];
+        let g = groups.at(i);
         if g.pos == k {
             let row = g.row;
             p = put_group(out, p, row);
@@ -70,28 +71,30 @@ fn put_label(out: &mut [u8], at: usize, label: u8) -> usize
     emit::put_byte(out, q, 48 + label % 10)
 }
 
-// The labels of carbon k: one for each ring that starts or ends there.
-fn put_labels(out: &mut [u8], at: usize, rings: [Ring; 8], n: usize, k: u16, label: u8) -> usize
-    requires { ⌜ (n ≤ 8) × (label + 8 ≤ 255) ⌝ }
-    ensures { λ r. ⌜ Written (now (out .entry)) at (labelsText k label (ringPairs (take n rings))) (now (out .exit)) r ⌝ }
+// The label of a ring that starts or ends at carbon k; of any other, nothing.
+fn put_end(out: &mut [u8], at: usize, ring: Ring, k: u16, label: u8) -> usize
+    ensures { λ r. ⌜ Written (now (out .entry)) at (labelsText k label (ringPairs (ring ∷ []))) (now (out .exit)) r ⌝ }
 {
+    if ring.start == k {
+        return put_label(out, at, label);
+    }
+    if ring.end == k {
+        return put_label(out, at, label);
+    }
+    at
+}
+
+// The labels of carbon k, in the rings' order; the first ring has the label given, the next the one after.
+fn put_labels(out: &mut [u8], at: usize, rings: Rings, k: u16, label: u8) -> usize
+    requires { ⌜ label + 8 ≤ 255 ⌝ }
+    ensures { λ r. ⌜ Written (now (out .entry)) at (labelsText k label (ringPairs (ringsIn rings))) (now (out .exit)) r ⌝ }
+{
+    let n = rings.len();
     let mut p = at;
     let mut l = label;
     let mut i = 0;
     while i < n {
-        let x = rings[i];
-        if x.start == k {
-            p = put_label(out, p, l);
-            l += 1;
-            i += 1;
-            continue;
-        }
-        if x.end == k {
-            p = put_label(out, p, l);
-            l += 1;
-            i += 1;
-            continue;
-        }
+        p = put_end(out, p, rings.at(i), k, l);
         l += 1;
         i += 1;
     }

@@ -2,31 +2,32 @@ use borrow.Author.Needs.{needs}
 use Prim.Native.Nat.{_+_, _-_}
 use mathlib.Core.Path.{_≡_}
 use native.Mathlib.Omega.{arith}
-use lib.ListN.{take, drop}
+use lib.ListN.{drop}
 use Rattle.chain.specs.Drawing.{ringPairs}
+use Rattle.drawable.specs.Drawn.{Length, ringRoom, ringsIn}
 use Rattle.fragment.specs.Text.{labelsText}
 use Rattle.fragment.proofs.Left.{Left, left-all, left-length}
-use Rattle.fragment.proofs.TextLaws.{label-start, label-end, label-past, labels-end}
+use Rattle.fragment.proofs.TextLaws.{label-next, labels-end}
 use Rattle.fragment.proofs.text.put_labels.Statement.{statement}
 use Rattle.fragment.proofs.text.put_labels.Tie as tie
 
 abbrev Inv-loop : tie.InvT-loop
-Inv-loop out₀ at n k label rings p₀ l₀ i₀ out p l i = (l ≡ label + i) × Left out₀ at (labelsText k label (ringPairs (take n rings))) out p (labelsText k l (ringPairs (drop i (take n rings))))
+Inv-loop out₀ at rings k label n p₀ l₀ i₀ out p l i = Length ringRoom (ringsIn rings) n × (l ≡ label + i) × Left out₀ at (labelsText k label (ringPairs (ringsIn rings))) out p (labelsText k l (ringPairs (drop i (ringsIn rings))))
 
 abbrev μ-loop : tie.MeasureT-loop
-μ-loop out₀ at n k label rings p₀ l₀ i₀ out p l i = n - i
+μ-loop out₀ at rings k label n p₀ l₀ i₀ out p l i = n - i
+
+len-requires : tie.Need-len-requires Inv-loop μ-loop
+len-requires c κs = search needs
 
 loop-holds : tie.Need-loop-holds Inv-loop μ-loop
-loop-holds c = (omega arith, left-all _ _ _ (omega arith))
+loop-holds c = (search needs, omega arith, left-all _ _ _ (omega arith))
 
-mul-x : tie.Need-mul-x Inv-loop μ-loop
-mul-x c = search needs
+at-requires : tie.Need-at-requires Inv-loop μ-loop
+at-requires c κs = search needs
 
-array-copy-out-x : tie.Need-array-copy-out-x Inv-loop μ-loop
-array-copy-out-x c = search needs
-
-put-label-requires : tie.Need-put-label-requires Inv-loop μ-loop
-put-label-requires c κs = search needs
+put-end-requires : tie.Need-put-end-requires Inv-loop μ-loop
+put-end-requires c κs = search needs
 
 add-l : tie.Need-add-l Inv-loop μ-loop
 add-l c = search needs
@@ -38,34 +39,7 @@ loop-less : tie.Need-loop-less Inv-loop μ-loop
 loop-less c = search needs
 
 loop-again : tie.Need-loop-again Inv-loop μ-loop
-loop-again c = (omega arith, search (label-start, arith))
-
-put-label-requires-2 : tie.Need-put-label-requires-2 Inv-loop μ-loop
-put-label-requires-2 c κs = search needs
-
-add-l-2 : tie.Need-add-l-2 Inv-loop μ-loop
-add-l-2 c = search needs
-
-add-i-2 : tie.Need-add-i-2 Inv-loop μ-loop
-add-i-2 c = search needs
-
-loop-less-2 : tie.Need-loop-less-2 Inv-loop μ-loop
-loop-less-2 c = search needs
-
-loop-again-2 : tie.Need-loop-again-2 Inv-loop μ-loop
-loop-again-2 c = (omega arith, search (label-end, arith))
-
-add-l-3 : tie.Need-add-l-3 Inv-loop μ-loop
-add-l-3 c = search needs
-
-add-i-3 : tie.Need-add-i-3 Inv-loop μ-loop
-add-i-3 c = search needs
-
-loop-less-3 : tie.Need-loop-less-3 Inv-loop μ-loop
-loop-less-3 c = search needs
-
-loop-again-3 : tie.Need-loop-again-3 Inv-loop μ-loop
-loop-again-3 c = (omega arith, search (label-past, arith))
+loop-again c = (search needs, omega arith, search (label-next, arith))
 
 same-length : tie.Need-same-length Inv-loop μ-loop
 same-length c = search left-length
@@ -79,22 +53,13 @@ put-labels-spec =
     (tie.spec
     Inv-loop
     μ-loop
+    len-requires
     loop-holds
-    mul-x
-    array-copy-out-x
-    put-label-requires
+    at-requires
+    put-end-requires
     add-l
     add-i
     loop-less
     loop-again
-    put-label-requires-2
-    add-l-2
-    add-i-2
-    loop-less-2
-    loop-again-2
-    add-l-3
-    add-i-3
-    loop-less-3
-    loop-again-3
     same-length
     returns)
