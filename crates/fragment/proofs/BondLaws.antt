@@ -38,11 +38,11 @@ stored xs p v k h = go (eqb p k) refl
 
 -- ---- places where something stands
 
-where-none : {test : ℕ → Bool} (v : ℕ) (ks : List ℕ) → ((k : ℕ) → test k ≡ false) → SetWhere test v ks ks
+pub where-none : {test : ℕ → Bool} (v : ℕ) (ks : List ℕ) → ((k : ℕ) → test k ≡ false) → SetWhere test v ks ks
 where-none v ks e = record { size = refl; at = λ k h. rw (e k) }
 
 -- one place more
-where-one : {test more : ℕ → Bool} {v : ℕ} {ks js : List ℕ} (p : ℕ) → SetWhere test v ks js
+pub where-one : {test more : ℕ → Bool} {v : ℕ} {ks js : List ℕ} (p : ℕ) → SetWhere test v ks js
     → ((k : ℕ) → more k ≡ (eqb p k || test k)) → SetWhere more v ks (set js p v)
 where-one {test} {more} {v} {ks} {js} p s e =
     record { size = length-set js p v ∙ s .size; at = λ k h. stored js p v k (omega (arith, s .size)) ∙ go k (eqb p k) (s .at k h) (e k) }
@@ -223,7 +223,7 @@ length-mark c Unstated p ks = refl
 length-mark c Cis p ks = length-close c false p (openMark p ks) ∙ length-open p ks
 length-mark c Trans p ks = length-close c true p (openMark p ks) ∙ length-open p ks
 
-length-marks : (c : ℕ) (bs : List DbPos) (p n : ℕ) (ks : List ℕ) → length (markFrom c bs p n ks) ≡ length ks
+pub length-marks : (c : ℕ) (bs : List DbPos) (p n : ℕ) (ks : List ℕ) → length (markFrom c bs p n ks) ≡ length ks
 unfolding markFrom
 length-marks c bs p zero ks = refl
 length-marks c bs p (suc n) ks = length-marks c bs (suc p) n (markBond c (geometryAt p bs) p ks) ∙ length-mark c (geometryAt p bs) p ks

@@ -2,3 +2,5 @@ pub mod Left
 pub mod Fronts
 pub mod TextLaws
 pub mod BondLaws
+pub mod TokenLaws
+pub mod RangeLaws

@@ -76,13 +76,13 @@ module _ {row : ℕ} {g : Row} (w : RowIs row g) where
 
 -- ---- groups
 
-parts-cons : (p : Part) (ps : List Part) → show (partPieces (p ∷ ps)) ≡ show (partPieces (p ∷ [])) ++ show (partPieces ps)
+pub parts-cons : (p : Part) (ps : List Part) → show (partPieces (p ∷ ps)) ≡ show (partPieces (p ∷ [])) ++ show (partPieces ps)
 unfolding partPieces
 parts-cons p ps =
     show-append (lpar ∷ p .pieces ++ rpar ∷ []) (partPieces ps)
     ∙ ap (λ (us : List Piece). show us ++ show (partPieces ps)) (sym (append-nil (lpar ∷ p .pieces ++ rpar ∷ [])))
 
-floats-cons : (p : Part) (ps : List Part) → show (floatPieces (p ∷ ps)) ≡ show (floatPieces (p ∷ [])) ++ show (floatPieces ps)
+pub floats-cons : (p : Part) (ps : List Part) → show (floatPieces (p ∷ ps)) ≡ show (floatPieces (p ∷ [])) ++ show (floatPieces ps)
 unfolding floatPieces ascii
 floats-cons p ps =
     show-append (dot ∷ atom (ascii "*") [] ∷ p .pieces) (floatPieces ps)

@@ -1,11 +1,11 @@
 -- What arrays by carbon hold: the bonds of a chain, the geometry stated at each, and which carbons carry anything. Assumes nothing.
-use Prim.Native.Nat.{ℕ, _<_}
+use Prim.Native.Nat.{ℕ, suc, _<_, _≤_}
 use Prim.Native.Char.{code}
 use mathlib.Core.Path.{_≡_}
 use mathlib.Core.Bool.{Bool, cond, _||_, _&&_}
 use mathlib.Core.List.{List}
 use lib.Dec.{eqb}
-use lib.ListN.{length, getD}
+use lib.ListN.{length, getD, take}
 use Rattle.record.specs.declared.Geometry.{Geometry}
 use Rattle.record.specs.declared.Geometry.the-variants.{Unstated, Cis, Trans}
 use Rattle.record.specs.declared.DbPos.{DbPos}
@@ -13,7 +13,7 @@ use Rattle.record.specs.declared.Mod.{Mod}
 use Rattle.record.specs.declared.Ring.{Ring}
 use Rattle.chain.specs.Lists.{anyOf}
 use Rattle.chain.specs.Refusals.{isEpoxide}
-use Rattle.chain.specs.Bonds.{geometryAt, markFrom, plainBond}
+use Rattle.chain.specs.Bonds.{geometryAt, markFrom, plainBond, plainBonds}
 
 -- the byte of a stated geometry
 abbrev pub geometryByte : Geometry → ℕ
@@ -44,6 +44,15 @@ unfoldable pub ringOn : List Ring → ℕ → Bool
 unfolding anyOf
 ringOn rs k = anyOf (λ x. eqb (x .start) k || eqb (x .end) k) rs
 
+-- whether k is the C1 of an acyl chain
+unfoldable pub carbonylOn : Bool → ℕ → Bool
+carbonylOn acyl k = acyl && eqb 1 k
+
+-- whether C k carries a doubly bonded O, a group or a ring's end
+unfoldable pub busyAt : Bool → List Mod → List Ring → ℕ → Bool
+unfolding carbonylOn groupOn ringOn
+busyAt acyl gs rs k = carbonylOn acyl k || (groupOn gs k || ringOn rs k)
+
 -- an array by carbon with v where a test passes, elsewhere as it was
 pub record SetWhere (test : ℕ → Bool) (v : ℕ) (before after : List ℕ) : Type 0 where
   pub size : length after ≡ length before
@@ -60,4 +69,15 @@ pub record Marks (c : ℕ) (geoms before after : List ℕ) : Type 0 where
 
 -- the bonds before any mark
 pub record PlainBonds (bs : List DbPos) (rs : List Ring) (bonds : List ℕ) : Type 0 where
-  pub at : (k : ℕ) → k < length bonds → getD bonds k 0 ≡ plainBond bs rs k
+  pub size : length bonds ≡ 256
+  pub at : (k : ℕ) → k < 256 → getD bonds k 0 ≡ plainBond bs rs k
+
+-- bonds 0 to c, with their marks
+pub record BondsBy (bs : List DbPos) (rs : List Ring) (c : ℕ) (bonds : List ℕ) : Type 0 where
+  pub size : length bonds ≡ 256
+  pub are : c ≤ 255 → take (suc c) bonds ≡ markFrom c bs 1 c (plainBonds bs rs c)
+
+-- whether C k carries anything beside a bridge: 1 or 0
+pub record Busy (acyl : Bool) (gs : List Mod) (rs : List Ring) (busy : List ℕ) : Type 0 where
+  pub size : length busy ≡ 256
+  pub at : (k : ℕ) → k < 256 → getD busy k 0 ≡ cond (busyAt acyl gs rs k) 1 0

@@ -1,14 +1,19 @@
 -- The text of what stands on a carbon, said by `show` of its pieces: what the contracts of the leaf writers cite. Assumes nothing.
-use Prim.Native.Nat.{ℕ}
+use Prim.Native.Nat.{ℕ, _-_}
+use mathlib.Core.Bool.{Bool, cond}
 use mathlib.Core.List.{List, [], _∷_, _++_}
 use lib.Dec.{eqb}
+use lib.ListN.{getD}
+use Rattle.groups.specs.Groups.{keto}
 use Rattle.record.specs.declared.Mod.{Mod}
+use Rattle.record.specs.declared.Ring.{Ring as Closed}
 use Rattle.reading.specs.Ascii.{ascii}
 use Rattle.reading.specs.Piece.{atom, show, showLabels}
-use Rattle.reading.specs.Chain.{Ring, labelsAt, markPieces, partPieces, bridgePieces, floatPieces}
-use Rattle.chain.specs.Lists.{only}
+use Rattle.reading.specs.Part.{Part}
+use Rattle.reading.specs.Chain.{Ring, Carbon, labelsAt, markPieces, partPieces, bridgePieces, chainPieces, floatPieces}
+use Rattle.chain.specs.Lists.{only, valuesFrom}
 use Rattle.chain.specs.Bonds.{bridged, markOf}
-use Rattle.chain.specs.Drawing.{branchPart, branches}
+use Rattle.chain.specs.Drawing.{branchPart, branches, pairs, flexible, ringPairs}
 
 -- the branch of a row of the group table
 unfoldable pub branchText : ℕ → List ℕ
@@ -40,3 +45,36 @@ bridgeText b = show (bridgePieces (eqb b bridged))
 -- "Unlocated groups append `.*branch`"
 unfoldable pub floatText : ℕ → List ℕ
 floatText row = show (floatPieces (branchPart row ∷ []))
+
+unfoldable pub floatsText : List Mod → List ℕ
+floatsText gs = show (floatPieces (branches gs))
+
+-- "on acyl C1 a doubly bonded O"
+unfoldable pub carbonylOf : Bool → ℕ → List Part
+carbonylOf acyl k = cond acyl (cond (eqb k 1) (branchPart keto ∷ []) []) []
+
+unfoldable pub carbonylText : Bool → ℕ → List ℕ
+carbonylText acyl k = show (partPieces (carbonylOf acyl k))
+
+-- what follows the C of carbon k: labels, carbonyl, groups
+unfoldable pub featuresText : Bool → List Mod → List Closed → ℕ → ℕ → List ℕ
+featuresText acyl gs rs l k = labelsText k l (ringPairs rs) ++ (carbonylText acyl k ++ groupsText (sitting k gs))
+
+-- C k, where its bonds stand in a list by carbon
+unfoldable pub carbonOf : Bool → List ℕ → List Mod → ℕ → Carbon
+unfolding carbonylOf sitting
+carbonOf acyl ks gs k =
+    record { before = markOf (getD ks (k - 1) 0); parts = carbonylOf acyl k ++ branches (sitting k gs); bridge = eqb (getD ks k 0) bridged }
+
+-- so many carbons from C k on
+unfoldable pub carbonsText : Bool → List ℕ → List Mod → List Closed → ℕ → ℕ → ℕ → List ℕ
+unfolding carbonOf
+carbonsText acyl ks gs rs l k n = show (chainPieces (ringPairs rs) l k (valuesFrom (carbonOf acyl ks gs) k n))
+
+-- so many `C=C`
+unfoldable pub pairsText : ℕ → List ℕ
+pairsText n = show (chainPieces [] 0 0 (pairs n))
+
+-- the flexible tail after a bond: no ring ends there
+unfoldable pub flexibleText : ℕ → ℕ → List ℕ
+flexibleText b n = show (chainPieces [] 0 0 (flexible (markOf b) n))

@@ -1,16 +1,18 @@
 // The bonds of a chain in an array by carbon, with their marks, and which carbons carry anything. The groups and rings are gone through once;
 // after that each carbon is looked up.
 use drawable::Bonds;
+use drawable::Drawn;
 use drawable::Groups;
 use drawable::Rings;
 use record::Bridge;
 use record::Geometry;
 ghost use mathlib.Core.Path.{_≡_};
-ghost use Prim.Native.Nat.{_≤_, _<_};
+ghost use Prim.Native.Nat.{_≤_, _<_, min};
 ghost use lib.ListN.{length, set};
 ghost use Rattle.chain.specs.Bonds.{openMark, closeMark, markBond, closeByte, bridged, double};
 ghost use Rattle.drawable.specs.Drawn.{bondsIn, groupsIn, ringsIn};
-ghost use Rattle.fragment.specs.ByCarbon.{geometryByte, geometryOf, doubleAt, bridgeAt, groupOn, ringOn, SetWhere, Geometries, Marks, PlainBonds};
+ghost use Rattle.fragment.specs.ByCarbon.{geometryByte, geometryOf, doubleAt, bridgeAt, groupOn, ringOn, carbonylOn, SetWhere, Geometries, Marks, PlainBonds, BondsBy, Busy};
+ghost use Rattle.fragment.specs.Tokens.{TokensOf};
 
 // Carbons 0 to 255.
 pub const CARBON_ROOM: usize = 256;
@@ -180,4 +182,72 @@ fn set_rings(busy: &mut [u8], rings: Rings)
         set_at(busy, x.end as usize, 1);
         set_at(busy, x.start as usize, 1);
     }
+}
+
+// On an acyl chain C1 has a doubly bonded O.
+fn set_carbonyl(busy: &mut [u8], acyl: bool)
+    ensures { λ _. ⌜ SetWhere (carbonylOn acyl) 1 (now (busy .entry)) (now (busy .exit)) ⌝ }
+{
+    if acyl {
+        set_at(busy, 1, 1);
+        return;
+    }
+}
+
+// The bonds before any mark: a double bond stands before a bridge.
+fn plain_bonds(doubles: Bonds, rings: Rings) -> [u8; CARBON_ROOM]
+    ensures { λ r. ⌜ PlainBonds (bondsIn doubles) (ringsIn rings) r ⌝ }
+{
+    let mut bonds = [0u8; CARBON_ROOM];
+    set_bridges(&mut bonds, rings);
+    set_doubles(&mut bonds, doubles);
+    bonds
+}
+
+// A carbon's number, no higher than the arrays go.
+fn in_room(carbon: u16) -> usize
+    ensures { λ r. ⌜ r ≡ min carbon 255 ⌝ }
+{
+    if carbon < 255 {
+        return carbon as usize;
+    }
+    255
+}
+
+// The bonds with their marks.
+fn marked_bonds(doubles: Bonds, rings: Rings, carbon: u16) -> [u8; CARBON_ROOM]
+    ensures { λ r. ⌜ BondsBy (bondsIn doubles) (ringsIn rings) carbon r ⌝ }
+{
+    let mut bonds = plain_bonds(doubles, rings);
+    let geoms = geometries(doubles);
+    mark_bonds(&mut bonds, &geoms, in_room(carbon));
+    bonds
+}
+
+// The carbons that carry anything beside a bridge.
+fn busy_carbons(acyl: bool, groups: Groups, rings: Rings) -> [u8; CARBON_ROOM]
+    ensures { λ r. ⌜ Busy acyl (groupsIn groups) (ringsIn rings) r ⌝ }
+{
+    let mut busy = [0u8; CARBON_ROOM];
+    set_rings(&mut busy, rings);
+    set_groups(&mut busy, groups);
+    set_carbonyl(&mut busy, acyl);
+    busy
+}
+
+// What is known of each carbon: the bond after it, and whether it carries anything (1) or not (0).
+pub struct ChainTokens {
+    pub bonds: [u8; CARBON_ROOM],
+    pub busy: [u8; CARBON_ROOM],
+}
+
+pub fn chain_tokens(x: Drawn) -> ChainTokens
+    ensures { λ r. ⌜ TokensOf x r ⌝ }
+{
+    let doubles = x.bonds;
+    let groups = x.groups;
+    let rings = x.rings;
+    let bonds = marked_bonds(doubles, rings, x.carbon);
+    let busy = busy_carbons(x.acyl, groups, rings);
+    ChainTokens { bonds, busy }
 }

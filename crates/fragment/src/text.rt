@@ -1,15 +1,19 @@
-// The text of a chain, written at a place of a lent slice: leaf writers for what stands on a carbon.
+// The text of a chain, written at a place of a lent slice, carbon by carbon. The groups and rings are gone through only at carbons that carry
+// one. On an empty slice the same functions measure.
+use crate::bonds::ChainTokens;
+use drawable::Drawn;
 use drawable::Groups;
 use drawable::Rings;
 use record::Ring;
 ghost use mathlib.Core.Path.{_≡_};
-ghost use mathlib.Core.List.{[], _∷_};
-ghost use Prim.Native.Nat.{_+_, _≤_, _<_};
+ghost use mathlib.Core.List.{[], _∷_, _++_};
+ghost use Prim.Native.Nat.{suc, _+_, _-_, _≤_, _<_};
 ghost use Rattle.emit.specs.Text.{Written};
 ghost use Rattle.drawable.specs.Drawn.{groupsIn, ringsIn};
 ghost use Rattle.reading.specs.Piece.{showLabel};
 ghost use Rattle.chain.specs.Drawing.{ringPairs};
-ghost use Rattle.fragment.specs.Text.{branchText, groupText, sitting, groupsText, labelsText, carbonText, bridgeText, floatText};
+ghost use Rattle.fragment.specs.Text.{branchText, groupText, sitting, groupsText, labelsText, carbonText, bridgeText, floatText, floatsText, carbonylText, featuresText, carbonsText, pairsText, flexibleText};
+ghost use Rattle.fragment.specs.Tokens.{TokensOf};
 
 // The branch of a group, by its row of the table.
 fn put_branch(out: &mut [u8], at: usize, row: u8) -> usize
@@ -123,4 +127,122 @@ fn put_bridge(out: &mut [u8], at: usize, bond: u8) -> usize
         return emit::put_byte(out, at, b'O');
     }
     at
+}
+
+// The doubly bonded O of an acyl C1.
+fn put_carbonyl(out: &mut [u8], at: usize, acyl: bool, k: u16) -> usize
+    ensures { λ r. ⌜ Written (now (out .entry)) at (carbonylText acyl k) (now (out .exit)) r ⌝ }
+{
+    if acyl {
+        if k == 1 {
+            return put_group(out, at, groups::KETO);
+        }
+        return at;
+    }
+    at
+}
+
+// What follows the C of carbon k: its labels, its carbonyl and its groups.
+fn put_features(out: &mut [u8], at: usize, x: Drawn, k: u16, label: u8) -> usize
+    requires { ⌜ label + 8 ≤ 255 ⌝ }
+    ensures { λ r. ⌜ Written (now (out .entry)) at (featuresText (x .acyl) (groupsIn (x .groups)) (ringsIn (x .rings)) label k) (now (out .exit)) r ⌝ }
+{
+    let rings = x.rings;
+    let groups = x.groups;
+    let p = put_labels(out, at, rings, k, label);
+    let q = put_carbonyl(out, p, x.acyl, k);
+    put_groups(out, q, groups, k as u32)
+}
+
+// A carbon that carries nothing, between the bond before it and the bond after it.
+fn put_bare(out: &mut [u8], at: usize, before: u8, bond: u8) -> usize
+    ensures { λ r. ⌜ Written (now (out .entry)) at (carbonText before ++ bridgeText bond) (now (out .exit)) r ⌝ }
+{
+    let p = put_carbon(out, at, before);
+    put_bridge(out, p, bond)
+}
+
+// A carbon with what it carries.
+fn put_busy(out: &mut [u8], at: usize, x: Drawn, k: u16, label: u8, before: u8, bond: u8) -> usize
+    requires { ⌜ label + 8 ≤ 255 ⌝ }
+    ensures { λ r. ⌜ Written (now (out .entry)) at (carbonText before ++ (featuresText (x .acyl) (groupsIn (x .groups)) (ringsIn (x .rings)) label k ++ bridgeText bond)) (now (out .exit)) r ⌝ }
+{
+    let p = put_carbon(out, at, before);
+    let q = put_features(out, p, x, k, label);
+    put_bridge(out, q, bond)
+}
+
+// The carbons from the first drawn one to the last literal one.
+fn assemble_range(
+    out: &mut [u8],
+    at: usize,
+    x: Drawn,
+    t: ChainTokens,
+    last: u16,
+    label: u8,
+) -> usize
+    requires { ⌜ TokensOf x t × (1 ≤ x .first) × (last ≤ 255) × (label + 8 ≤ 255) ⌝ }
+    ensures { λ r. ⌜ Written (now (out .entry)) at (carbonsText (x .acyl) (t .bonds) (groupsIn (x .groups)) (ringsIn (x .rings)) label (x .first) (suc last - x .first)) (now (out .exit)) r ⌝ }
+{
+    let mut p = at;
+    let mut k = x.first;
+    while k <= last {
+        let i = k as usize;
+        let before = t.bonds[i - 1];
+        let bond = t.bonds[i];
+        if t.busy[i] == 0 {
+            p = put_bare(out, p, before, bond);
+            k += 1;
+            continue;
+        }
+        p = put_busy(out, p, x, k, label, before, bond);
+        k += 1;
+    }
+    p
+}
+
+fn put_pair(out: &mut [u8], at: usize) -> usize
+    ensures { λ r. ⌜ Written (now (out .entry)) at (67 ∷ 61 ∷ 67 ∷ []) (now (out .exit)) r ⌝ }
+{
+    emit::put_text(out, at, b"C=C")
+}
+
+// So many `C=C`.
+fn put_pairs(out: &mut [u8], at: usize, n: u16) -> usize
+    ensures { λ r. ⌜ Written (now (out .entry)) at (pairsText n) (now (out .exit)) r ⌝ }
+{
+    let mut p = at;
+    let mut left = n;
+    while 0 < left {
+        p = put_pair(out, p);
+        left -= 1;
+    }
+    p
+}
+
+// The flexible tail of n double bonds without a position: a carbon, n times `C=C`, a carbon.
+fn put_flexible(out: &mut [u8], at: usize, bond: u8, n: u16) -> usize
+    ensures { λ r. ⌜ Written (now (out .entry)) at (flexibleText bond n) (now (out .exit)) r ⌝ }
+{
+    if n == 0 {
+        return at;
+    }
+    let p = put_carbon(out, at, bond);
+    let q = put_pairs(out, p, n);
+    emit::put_byte(out, q, b'C')
+}
+
+// The groups without a position.
+fn put_floats(out: &mut [u8], at: usize, floats: Groups) -> usize
+    ensures { λ r. ⌜ Written (now (out .entry)) at (floatsText (groupsIn floats)) (now (out .exit)) r ⌝ }
+{
+    let n = floats.len();
+    let mut p = at;
+    let mut i = 0;
+    while i < n {
+        let g = floats.at(i);
+        p = put_float(out, p, g.row);
+        i += 1;
+    }
+    p
 }

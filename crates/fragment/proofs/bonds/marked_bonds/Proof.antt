@@ -1,0 +1,37 @@
+use Rattle.fragment.proofs.TokenLaws.{bonds-marked}
+use borrow.Author.Needs.{needs}
+use Rattle.fragment.proofs.bonds.marked_bonds.Statement.{statement}
+use Rattle.fragment.proofs.bonds.marked_bonds.Tie as tie
+
+plain-bonds-requires : tie.Need-plain-bonds-requires
+plain-bonds-requires c κs = search needs
+
+geometries-requires : tie.Need-geometries-requires
+geometries-requires c κs = search needs
+
+slice-aggregate-mark-bonds : tie.Need-slice-aggregate-mark-bonds
+slice-aggregate-mark-bonds c = search needs
+
+slice-aggregate-mark-bonds-2 : tie.Need-slice-aggregate-mark-bonds-2
+slice-aggregate-mark-bonds-2 c = search needs
+
+in-room-requires : tie.Need-in-room-requires
+in-room-requires c κs = search needs
+
+mark-bonds-requires : tie.Need-mark-bonds-requires
+mark-bonds-requires c κs = search needs
+
+returns : tie.Need-returns
+returns c = search bonds-marked
+
+pub marked-bonds-spec : {M : Type 1} → statement M
+marked-bonds-spec =
+    tie.close
+    (tie.spec
+    plain-bonds-requires
+    geometries-requires
+    slice-aggregate-mark-bonds
+    slice-aggregate-mark-bonds-2
+    in-room-requires
+    mark-bonds-requires
+    returns)
