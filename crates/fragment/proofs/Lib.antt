@@ -4,3 +4,4 @@ pub mod TextLaws
 pub mod BondLaws
 pub mod TokenLaws
 pub mod RangeLaws
+pub mod SegmentLaws

@@ -200,7 +200,7 @@ module _ {xs ys ts : List ℕ} {at p : ℕ} (n : ℕ) (v : Left xs at ts ys p (p
       let z : n ≡ 0 = omega arith in
       left-none v (ap pairsText z ∙ pairs-none)
 
-chain-append : (rs : List Ring) (l k : ℕ) (cs ds : List Carbon) → chainPieces rs l k (cs ++ ds) ≡ chainPieces rs l k cs ++ chainPieces rs l (k + length cs) ds
+pub chain-append : (rs : List Ring) (l k : ℕ) (cs ds : List Carbon) → chainPieces rs l k (cs ++ ds) ≡ chainPieces rs l k cs ++ chainPieces rs l (k + length cs) ds
 unfolding chainPieces
 chain-append rs l k [] ds =
     let z : k + 0 ≡ k = omega arith in

@@ -7,7 +7,7 @@ use drawable::Rings;
 use record::Bridge;
 use record::Geometry;
 ghost use mathlib.Core.Path.{_≡_};
-ghost use Prim.Native.Nat.{_≤_, _<_, min};
+ghost use Prim.Native.Nat.{_≤_, _<_, min, max};
 ghost use lib.ListN.{length, set};
 ghost use Rattle.chain.specs.Bonds.{openMark, closeMark, markBond, closeByte, bridged, double};
 ghost use Rattle.drawable.specs.Drawn.{bondsIn, groupsIn, ringsIn};
@@ -205,13 +205,23 @@ fn plain_bonds(doubles: Bonds, rings: Rings) -> [u8; CARBON_ROOM]
 }
 
 // A carbon's number, no higher than the arrays go.
-fn in_room(carbon: u16) -> usize
+fn in_room(carbon: u16) -> u16
     ensures { λ r. ⌜ r ≡ min carbon 255 ⌝ }
 {
     if carbon < 255 {
-        return carbon as usize;
+        return carbon;
     }
     255
+}
+
+// The first drawn carbon; there is no C0.
+fn from_one(first: u16) -> u16
+    ensures { λ r. ⌜ r ≡ max first 1 ⌝ }
+{
+    if first == 0 {
+        return 1;
+    }
+    first
 }
 
 // The bonds with their marks.
@@ -220,7 +230,7 @@ fn marked_bonds(doubles: Bonds, rings: Rings, carbon: u16) -> [u8; CARBON_ROOM]
 {
     let mut bonds = plain_bonds(doubles, rings);
     let geoms = geometries(doubles);
-    mark_bonds(&mut bonds, &geoms, in_room(carbon));
+    mark_bonds(&mut bonds, &geoms, in_room(carbon) as usize);
     bonds
 }
 
@@ -235,8 +245,11 @@ fn busy_carbons(acyl: bool, groups: Groups, rings: Rings) -> [u8; CARBON_ROOM]
     busy
 }
 
-// What is known of each carbon: the bond after it, and whether it carries anything (1) or not (0).
+// What is known of each carbon: the bond after it, and whether it carries anything (1) or not (0); with the first drawn carbon and the last
+// literal one.
 pub struct ChainTokens {
+    pub first: u16,
+    pub last: u16,
     pub bonds: [u8; CARBON_ROOM],
     pub busy: [u8; CARBON_ROOM],
 }
@@ -249,5 +262,12 @@ pub fn chain_tokens(x: Drawn) -> ChainTokens
     let rings = x.rings;
     let bonds = marked_bonds(doubles, rings, x.carbon);
     let busy = busy_carbons(x.acyl, groups, rings);
-    ChainTokens { bonds, busy }
+    let first = from_one(x.first);
+    let last = in_room(drawable::draw::literal_end(x));
+    ChainTokens {
+        first,
+        last,
+        bonds,
+        busy,
+    }
 }

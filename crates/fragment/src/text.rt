@@ -7,13 +7,13 @@ use drawable::Rings;
 use record::Ring;
 ghost use mathlib.Core.Path.{_≡_};
 ghost use mathlib.Core.List.{[], _∷_, _++_};
-ghost use Prim.Native.Nat.{suc, _+_, _-_, _≤_, _<_};
+ghost use Prim.Native.Nat.{suc, _+_, _-_, _≤_, _<_, min};
 ghost use Rattle.emit.specs.Text.{Written};
 ghost use Rattle.drawable.specs.Drawn.{groupsIn, ringsIn};
 ghost use Rattle.reading.specs.Piece.{showLabel};
 ghost use Rattle.chain.specs.Drawing.{ringPairs};
 ghost use Rattle.fragment.specs.Text.{branchText, groupText, sitting, groupsText, labelsText, carbonText, bridgeText, floatText, floatsText, carbonylText, featuresText, carbonsText, pairsText, flexibleText};
-ghost use Rattle.fragment.specs.Tokens.{TokensOf};
+ghost use Rattle.fragment.specs.Tokens.{TokensOf, segmentText, Segment};
 
 // The branch of a group, by its row of the table.
 fn put_branch(out: &mut [u8], at: usize, row: u8) -> usize
@@ -173,19 +173,13 @@ fn put_busy(out: &mut [u8], at: usize, x: Drawn, k: u16, label: u8, before: u8, 
 }
 
 // The carbons from the first drawn one to the last literal one.
-fn assemble_range(
-    out: &mut [u8],
-    at: usize,
-    x: Drawn,
-    t: ChainTokens,
-    last: u16,
-    label: u8,
-) -> usize
-    requires { ⌜ TokensOf x t × (1 ≤ x .first) × (last ≤ 255) × (label + 8 ≤ 255) ⌝ }
-    ensures { λ r. ⌜ Written (now (out .entry)) at (carbonsText (x .acyl) (t .bonds) (groupsIn (x .groups)) (ringsIn (x .rings)) label (x .first) (suc last - x .first)) (now (out .exit)) r ⌝ }
+fn assemble_range(out: &mut [u8], at: usize, x: Drawn, t: ChainTokens, label: u8) -> usize
+    requires { ⌜ TokensOf x t × (label + 8 ≤ 255) ⌝ }
+    ensures { λ r. ⌜ Written (now (out .entry)) at (carbonsText (x .acyl) (t .bonds) (groupsIn (x .groups)) (ringsIn (x .rings)) label (t .first) (suc (t .last) - t .first)) (now (out .exit)) r ⌝ }
 {
+    let last = t.last;
     let mut p = at;
-    let mut k = x.first;
+    let mut k = t.first;
     while k <= last {
         let i = k as usize;
         let before = t.bonds[i - 1];
@@ -245,4 +239,35 @@ fn put_floats(out: &mut [u8], at: usize, floats: Groups) -> usize
         i += 1;
     }
     p
+}
+
+// The literal carbons, the flexible tail and the groups without a position.
+fn put_segment(out: &mut [u8], at: usize, x: Drawn, t: ChainTokens, label: u8) -> usize
+    requires { ⌜ TokensOf x t × (label + 8 ≤ 255) ⌝ }
+    ensures { λ r. ⌜ Written (now (out .entry)) at (segmentText x t label) (now (out .exit)) r ⌝ }
+{
+    let last = t.last as usize;
+    let bond = t.bonds[last];
+    let floats = x.floats;
+    let p = assemble_range(out, at, x, t, label);
+    let q = put_flexible(out, p, bond, x.unlocated);
+    put_floats(out, q, floats)
+}
+
+// A label that leaves room for the labels of eight rings.
+fn in_labels(label: u8) -> u8
+    ensures { λ r. ⌜ r ≡ min label 247 ⌝ }
+{
+    if label < 247 {
+        return label;
+    }
+    247
+}
+
+// The text of a chain, with ring labels from the label given on: what each carbon has was looked up before.
+pub fn build_chain_segment(out: &mut [u8], at: usize, x: Drawn, t: ChainTokens, label: u8) -> usize
+    requires { ⌜ TokensOf x t ⌝ }
+    ensures { λ r. ⌜ Segment x label (now (out .entry)) at (now (out .exit)) r ⌝ }
+{
+    put_segment(out, at, x, t, in_labels(label))
 }

@@ -18,6 +18,9 @@ slice-aggregate-mark-bonds-2 c = search needs
 in-room-requires : tie.Need-in-room-requires
 in-room-requires c κs = search needs
 
+cast-mark-bonds : tie.Need-cast-mark-bonds
+cast-mark-bonds c = search needs
+
 mark-bonds-requires : tie.Need-mark-bonds-requires
 mark-bonds-requires c κs = search needs
 
@@ -33,5 +36,6 @@ marked-bonds-spec =
     slice-aggregate-mark-bonds
     slice-aggregate-mark-bonds-2
     in-room-requires
+    cast-mark-bonds
     mark-bonds-requires
     returns)

@@ -1,5 +1,6 @@
 use borrow.Author.Needs.{needs}
 use Prim.Native.Nat.{suc, _≤_, _-_}
+use mathlib.Core.Path.{_≡_}
 use native.Mathlib.Omega.{arith}
 use Rattle.drawable.specs.Drawn.{groupsIn, ringsIn}
 use Rattle.fragment.specs.Text.{carbonsText}
@@ -9,13 +10,13 @@ use Rattle.fragment.proofs.text.assemble_range.Statement.{statement}
 use Rattle.fragment.proofs.text.assemble_range.Tie as tie
 
 abbrev Inv-loop : tie.InvT-loop
-Inv-loop out₀ at x last label t p₀ k₀ out p k = (1 ≤ k) × Left out₀ at (carbonsText (x .acyl) (t .bonds) (groupsIn (x .groups)) (ringsIn (x .rings)) label (x .first) (suc last - x .first)) out p (carbonsText (x .acyl) (t .bonds) (groupsIn (x .groups)) (ringsIn (x .rings)) label k (suc last - k))
+Inv-loop out₀ at x label t last p₀ k₀ out p k = (last ≡ t .last) × (1 ≤ k) × Left out₀ at (carbonsText (x .acyl) (t .bonds) (groupsIn (x .groups)) (ringsIn (x .rings)) label (t .first) (suc (t .last) - t .first)) out p (carbonsText (x .acyl) (t .bonds) (groupsIn (x .groups)) (ringsIn (x .rings)) label k (suc (t .last) - k))
 
 abbrev μ-loop : tie.MeasureT-loop
-μ-loop out₀ at x last label t p₀ k₀ out p k = suc last - k
+μ-loop out₀ at x label t last p₀ k₀ out p k = suc last - k
 
 loop-holds : tie.Need-loop-holds Inv-loop μ-loop
-loop-holds c = (omega arith, left-all _ _ _ (omega arith))
+loop-holds c = (search needs, omega arith, left-all _ _ _ (omega arith))
 
 cast-i : tie.Need-cast-i Inv-loop μ-loop
 cast-i c = search needs
@@ -42,7 +43,7 @@ loop-less : tie.Need-loop-less Inv-loop μ-loop
 loop-less c = search needs
 
 loop-again : tie.Need-loop-again Inv-loop μ-loop
-loop-again c = (omega arith, search (carbon-bare, arith))
+loop-again c = (search needs, omega arith, search (carbon-bare, arith))
 
 put-busy-requires : tie.Need-put-busy-requires Inv-loop μ-loop
 put-busy-requires c κs = search needs
@@ -54,13 +55,13 @@ loop-less-2 : tie.Need-loop-less-2 Inv-loop μ-loop
 loop-less-2 c = search needs
 
 loop-again-2 : tie.Need-loop-again-2 Inv-loop μ-loop
-loop-again-2 c = (omega arith, search (carbon-busy, arith))
+loop-again-2 c = (search needs, omega arith, search (carbon-busy, arith))
 
 same-length : tie.Need-same-length Inv-loop μ-loop
 same-length c = search left-length
 
 returns : tie.Need-returns Inv-loop μ-loop
-returns c = search carbons-end
+returns c = search (carbons-end, arith)
 
 pub assemble-range-spec : {M : Type 1} → statement M
 assemble-range-spec =

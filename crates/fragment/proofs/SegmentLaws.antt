@@ -1,0 +1,211 @@
+-- The text that is written is that of the drawing.
+-- Assumes nothing.
+use Prim.Native.Nat.{ℕ, zero, suc, _+_, _-_, _^_, _≤_, _<_, min, max}
+use native.Mathlib.Numerals.{add-one}
+use native.Mathlib.Omega.{arith}
+use mathlib.Core.Path.{_≡_, refl, sym, ap, _∙_}
+use mathlib.Core.Bool.{Bool, true, false, cond, _||_}
+use mathlib.Core.List.{List, [], _∷_, _++_, append-nil, append-assoc, map}
+use lib.Dec.{eqb}
+use lib.ListN.{length, take, getD}
+use lib.Seq.{getD-take}
+use borrow.Author.Tests.{eq-eqb, ne-eqb}
+use Rattle.emit.specs.Text.{Written}
+use Rattle.emit.proofs.Laws.{written-length}
+use Rattle.record.specs.declared.DbPos.{DbPos}
+use Rattle.record.specs.declared.Mod.{Mod}
+use Rattle.record.specs.declared.Ring.{Ring as Closed}
+use Rattle.record.specs.Chain as read
+use Rattle.reading.specs.Piece.{Piece, show}
+use Rattle.reading.specs.Chain.{Ring, ring, Carbon, labelsAt, chainPieces, floatPieces}
+use Rattle.reading.specs.Template.{itemPieces, chain}
+use Rattle.reading.proofs.ShowLex.{show-append}
+use Rattle.chain.specs.declared.Role.{Role}
+use Rattle.chain.specs.declared.Role.the-variants.{Slot, Acyl, Base}
+use Rattle.chain.specs.Lists.{largest, valuesFrom}
+use Rattle.chain.specs.Features.{firstDrawn, isAcyl, doubles, groupsOn, floating, prefixEnd, literalEnd}
+use Rattle.chain.specs.Bonds.{bondsOf, bondAt, markOf}
+use Rattle.chain.specs.Drawing.{branches, carbonyl, groupsAt, carbonAt, literal, flexible, carbons, ringPairs, floats, chainDrawn}
+use Rattle.drawable.specs.declared.Drawn.{Drawn}
+use Rattle.drawable.specs.Drawn.{bondsIn, groupsIn, ringsIn, Draws, SaysUpTo}
+use Rattle.fragment.specs.declared.bonds.ChainTokens.{ChainTokens}
+use Rattle.fragment.specs.ByCarbon.{BondsBy, Busy}
+use Rattle.fragment.specs.Text.{sitting, floatsText, carbonylOf, carbonOf, carbonsText, flexibleText}
+use Rattle.fragment.specs.Tokens.{TokensOf, segmentText, RingsOn, Readable, Segment}
+use Rattle.fragment.proofs.Left.{written-three}
+use Rattle.fragment.proofs.TokenLaws.{length-values}
+use Rattle.fragment.proofs.RangeLaws.{chain-append, unlabelled}
+
+-- ---- what holds of every chain that x draws
+
+module _ (r : Role) (d : read.Chain) (x : Drawn) (t : ChainTokens) (w : Draws r d x) (k : TokensOf x t) (s : Readable d) where
+  first-one : (r : Role) → max (firstDrawn r) 1 ≡ firstDrawn r
+  first-one Slot = refl
+  first-one Acyl = refl
+  first-one Base = refl
+
+  pub first-is : t .first ≡ firstDrawn r
+  first-is = k .first ∙ (rw (w .first) (first-one r))
+
+  small : x .carbon ≤ 255
+  small = rw (w .carbon) (s .carbons)
+
+  pub last-is : t .last ≡ literalEnd r d
+  last-is = k .last small .is r d w
+
+  -- the bonds by carbon are those of the drawing
+  pub bonds-are : take (suc (d .carbon)) (t .bonds) ≡ bondsOf r d
+  unfolding bondsOf
+  bonds-are = rw (← w .carbon, ← w .bonds, ← w .rings) (k .bonds .are small)
+
+  pub bond-is : (i : ℕ) → i ≤ d .carbon → bondAt r d i ≡ getD (t .bonds) i 0
+  unfolding bondAt
+  bond-is i h = ap (λ (ks : List ℕ). getD ks i 0) (sym bonds-are) ∙ getD-take (suc (d .carbon)) (t .bonds) i 0 (omega arith)
+
+  -- C k is the carbon drawn
+  pub carbon-is : (i : ℕ) → i ≤ d .carbon → carbonOf (x .acyl) (t .bonds) (groupsIn (x .groups)) i ≡ carbonAt r d i
+  unfolding carbonOf carbonAt carbonylOf carbonyl sitting groupsAt
+  carbon-is i h = rw (bond-is (i - 1) (omega arith), bond-is i h, w .acyl, w .groups)
+
+-- ---- values of two functions that agree
+
+pub values-same : {A : Type 0} (f g : ℕ → A) (k n : ℕ) → ((i : ℕ) → k ≤ i → i < k + n → f i ≡ g i) → valuesFrom f k n ≡ valuesFrom g k n
+unfolding valuesFrom
+values-same f g k zero e = refl
+values-same f g k (suc n) e =
+    let a = e k (omega arith) (omega arith) in
+    let b = values-same f g (suc k) n (λ i h m. e i (omega arith) (omega arith)) in
+    rw (a, b)
+
+-- ---- no ring ends past the literal part
+
+-- every ring starts and ends no later than e
+abbrev pub RingsBy : ℕ → List Closed → Type 0
+RingsBy e [] = Unit {0}
+RingsBy e (x ∷ rs) = (x .start ≤ e) × (x .end ≤ e) × RingsBy e rs
+
+unlabelled-past : (e k l : ℕ) (rs : List Closed) → RingsBy e rs → e < k → labelsAt k l (ringPairs rs) ≡ []
+unfolding labelsAt ringPairs
+unlabelled-past e k l [] b h = refl
+unlabelled-past e k l (x ∷ rs) b h =
+    let y : x .start ≤ e = b .0 in
+    let z : x .end ≤ e = b .1 in
+    let p : x .start ≡ k → ⊥ = λ q. omega arith in
+    let o : x .end ≡ k → ⊥ = λ q. omega arith in
+    rw (ne-eqb (x .start) k p, ne-eqb (x .end) k o) (unlabelled-past e k (suc l) rs (b .2) h)
+
+pieces-past : (e k l : ℕ) (rs : List Closed) (cs : List Carbon) → RingsBy e rs → e < k → chainPieces (ringPairs rs) l k cs ≡ chainPieces [] l k cs
+unfolding chainPieces labelsAt
+pieces-past e k l rs [] b h = refl
+pieces-past e k l rs (c ∷ cs) b h = rw (unlabelled-past e k l rs b h, pieces-past e (suc k) l rs cs b (omega arith))
+
+largest-over : (m : ℕ) (xs : List ℕ) → m ≤ largest m xs
+unfolding largest
+largest-over m [] = omega arith
+largest-over m (y ∷ xs) = omega (arith, largest-over (max m y) xs)
+
+largest-append : (m : ℕ) (xs ys : List ℕ) → largest m (xs ++ ys) ≡ largest (largest m xs) ys
+unfolding largest
+largest-append m [] ys = refl
+largest-append m (y ∷ xs) ys = largest-append (max m y) xs ys
+
+rings-by : (m c : ℕ) (rs : List Closed) → RingsOn c rs → RingsBy (min (largest m (map (λ x. x .end) rs)) c) rs
+unfolding largest
+rings-by m c [] b = tt
+rings-by m c (x ∷ rs) b =
+    let o = largest-over (max m (x .end)) (map (λ (y : Closed). y .end) rs) in
+    let y : x .start ≤ x .end = b .0 in
+    let z : x .end ≤ c = b .1 in
+    (omega arith, omega arith, rings-by (max m (x .end)) c rs (b .2))
+
+pub rings-literal : (r : Role) (d : read.Chain) → RingsOn (d .carbon) (d .rings) → (d .unlocated ≡ 0 → ⊥) → RingsBy (literalEnd r d) (d .rings)
+unfolding literalEnd prefixEnd
+rings-literal r d b n =
+    rw (ne-eqb (d .unlocated) 0 n, largest-append, largest-append)
+    (rings-by (largest (largest (firstDrawn r) (map (λ (b : DbPos). b .pos + 1) (doubles r d))) (map (λ (g : Mod). g .pos) (groupsOn r d))) (d .carbon) (d .rings) b)
+
+pub literal-on : (r : Role) (d : read.Chain) → literalEnd r d ≤ d .carbon
+unfolding literalEnd prefixEnd
+literal-on r d = go (eqb (d .unlocated) 0)
+  where
+    go : (b : Bool) → cond b (d .carbon) (min (largest (firstDrawn r) (map (λ b. b .pos + 1) (doubles r d) ++ (map (λ g. g .pos) (groupsOn r d) ++ map (λ x. x .end) (d .rings)))) (d .carbon)) ≤ d .carbon
+    go true = omega arith
+    go false = omega arith
+
+flexible-shown : (n m e k l : ℕ) (rs : List Closed) → ((n ≡ 0 → ⊥) → RingsBy e rs) → e < k
+    → show (chainPieces (ringPairs rs) l k (flexible m n)) ≡ show (chainPieces [] 0 0 (flexible m n))
+unfolding flexible chainPieces
+flexible-shown zero m e k l rs b h = refl
+flexible-shown (suc n) m e k l rs b h =
+    ap show (pieces-past e k l rs (flexible m (suc n)) (b (λ q. omega arith)) h ∙ unlabelled l k 0 0 (flexible m (suc n)))
+
+-- ---- the whole segment
+
+module _ (r : Role) (d : read.Chain) (x : Drawn) (t : ChainTokens) (w : Draws r d x) (k : TokensOf x t) (s : Readable d) (l : ℕ) where
+  on : literalEnd r d ≤ d .carbon
+  on = literal-on r d
+
+  literal-is : valuesFrom (carbonOf (x .acyl) (t .bonds) (groupsIn (x .groups))) (t .first) (suc (t .last) - t .first) ≡ literal r d
+  unfolding literal
+  literal-is =
+      rw (first-is r d x t w k s, last-is r d x t w k s)
+      (values-same (carbonOf (x .acyl) (t .bonds) (groupsIn (x .groups))) (carbonAt r d) (firstDrawn r) (suc (literalEnd r d) - firstDrawn r)
+      (λ i g h. carbon-is r d x t w k s i (omega (arith, on))))
+
+  literal-shown : show (chainPieces (ringPairs (d .rings)) l (firstDrawn r) (literal r d))
+      ≡ carbonsText (x .acyl) (t .bonds) (groupsIn (x .groups)) (ringsIn (x .rings)) l (t .first) (suc (t .last) - t .first)
+  unfolding carbonsText
+  literal-shown = rw (literal-is, w .rings, first-is r d x t w k s)
+
+  literal-length : length (literal r d) ≡ suc (literalEnd r d) - firstDrawn r
+  unfolding literal
+  literal-length = length-values (carbonAt r d) (firstDrawn r) (suc (literalEnd r d) - firstDrawn r)
+
+  tail-shown : show (chainPieces (ringPairs (d .rings)) l (firstDrawn r + length (literal r d)) (flexible (markOf (bondAt r d (literalEnd r d))) (d .unlocated)))
+      ≡ flexibleText (getD (t .bonds) (t .last) 0) (x .unlocated)
+  unfolding flexibleText
+  tail-shown =
+      flexible-shown (d .unlocated) (markOf (bondAt r d (literalEnd r d))) (literalEnd r d) (firstDrawn r + length (literal r d)) l (d .rings)
+      (λ n. rings-literal r d (s .rings) n) (omega (arith, literal-length))
+      ∙ (rw (bond-is r d x t w k s (literalEnd r d) on, last-is r d x t w k s, w .unlocated))
+
+  floats-shown : show (floatPieces (floats d)) ≡ floatsText (groupsIn (x .floats))
+  unfolding floats floatsText
+  floats-shown = rw (w .floats)
+
+  pub segment-is : show (itemPieces l (chain (chainDrawn r d))) ≡ segmentText x t l
+  unfolding itemPieces chainDrawn carbons segmentText
+  segment-is =
+      show-append (chainPieces (ringPairs (d .rings)) l (firstDrawn r) (literal r d ++ flexible (markOf (bondAt r d (literalEnd r d))) (d .unlocated))) (floatPieces (floats d))
+      ∙ (rw (chain-append (ringPairs (d .rings)) l (firstDrawn r) (literal r d) (flexible (markOf (bondAt r d (literalEnd r d))) (d .unlocated)), show-append (chainPieces (ringPairs (d .rings)) l (firstDrawn r) (literal r d)) (chainPieces (ringPairs (d .rings)) l (firstDrawn r + length (literal r d)) (flexible (markOf (bondAt r d (literalEnd r d))) (d .unlocated))), literal-shown, tail-shown, floats-shown)
+      (append-assoc (carbonsText (x .acyl) (t .bonds) (groupsIn (x .groups)) (ringsIn (x .rings)) l (t .first) (suc (t .last) - t .first)) (flexibleText (getD (t .bonds) (t .last) 0) (x .unlocated)) (floatsText (groupsIn (x .floats)))))
+
+-- ---- what the functions need
+
+pub tokens-are : {x : Drawn} {bs us : List ℕ} {f e l : ℕ} → BondsBy (bondsIn (x .bonds)) (ringsIn (x .rings)) (x .carbon) bs
+    → Busy (x .acyl) (groupsIn (x .groups)) (ringsIn (x .rings)) us → f ≡ max (x .first) 1 → SaysUpTo x e literalEnd → l ≡ min e 255
+    → TokensOf x (record { first = f; last = l; bonds = bs; busy = us })
+tokens-are {x} {e = e} {l} b u f s m =
+    record {
+      first = f;
+      room = omega arith;
+      last = λ h. record { is = λ r d w. let z : l ≡ e = omega (arith, s .fits) in z ∙ s .says .is r d w };
+      bonds = b;
+      busy = u;
+    }
+
+pub segment-written : {xs ys zs ws : List ℕ} {at p q o : ℕ} (x : Drawn) (t : ChainTokens) (l : ℕ) → length xs < 2 ^ 64
+    → Written xs at (carbonsText (x .acyl) (t .bonds) (groupsIn (x .groups)) (ringsIn (x .rings)) l (t .first) (suc (t .last) - t .first)) ys p
+    → Written ys p (flexibleText (getD (t .bonds) (t .last) 0) (x .unlocated)) zs q → Written zs q (floatsText (groupsIn (x .floats))) ws o
+    → Written xs at (segmentText x t l) ws o
+unfolding segmentText
+segment-written x t l h u v w = written-three h u v w
+
+pub segment-drawn : {xs ys : List ℕ} {at q m : ℕ} (x : Drawn) (t : ChainTokens) (l : ℕ) → TokensOf x t → m ≡ min l 247 → Written xs at (segmentText x t m) ys q → Segment x l xs at ys q
+segment-drawn {xs} {ys} {at} {q} {m} x t l k e w =
+    record {
+      size = written-length w;
+      text = λ r d g s h.
+          let z : m ≡ l = omega arith in
+          rw (segment-is r d x t g k s l) (rw z at w);
+    }
