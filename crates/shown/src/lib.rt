@@ -139,10 +139,10 @@ fn put_site_list(out: &mut [u8], at: usize, sites: &[u16]) -> usize
     ensures { λ r. ⌜ Written (now (out .entry)) at (joined 46 (map decimal (now (sites .entry)))) (now (out .exit)) r ⌝ }
 {
     let mut p = at;
-    let mut i = 0;
-    while i < sites.len() {
-        p = put_site(out, p, 0 < i, sites[i]);
-        i += 1;
+    let mut place = 0;
+    while place < sites.len() {
+        p = put_site(out, p, 0 < place, sites[place]);
+        place += 1;
     }
     p
 }

@@ -1,13 +1,10 @@
 use borrow.Author.Needs.{needs}
 use native.Mathlib.Omega.{arith}
 use Rattle.record.proofs.Laws.{length-mapped}
-use Rattle.shown.proofs.Laws.{end-more, end-all}
+use Rattle.shown.proofs.Labels.{end-more, end-all}
 use Prim.Native.Nat.{_-_, _≤_}
 use mathlib.Core.Path.{_≡_, refl}
-use mathlib.Core.List.{[]}
-use lib.ListN.{length, take, drop}
-use Rattle.emit.specs.Text.{Written}
-use Rattle.reading.specs.Molecule.{look}
+use lib.ListN.{length, take}
 use Rattle.reading.specs.Show.{upToLast}
 use Rattle.shown.specs.Notes.{labelsOf}
 use Rattle.shown.proofs.label_end.Statement.{statement}

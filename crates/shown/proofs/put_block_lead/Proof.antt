@@ -1,5 +1,5 @@
 use Rattle.reading.specs.Ascii.{ascii}
-use Rattle.shown.proofs.Laws.{block-first, block-later}
+use Rattle.shown.proofs.Laws.{lead-first, lead-later}
 use borrow.Author.Needs.{needs}
 use Rattle.shown.proofs.put_block_lead.Statement.{statement}
 use Rattle.shown.proofs.put_block_lead.Tie as tie
@@ -15,7 +15,7 @@ same-length c = search needs
 
 returns : tie.Need-returns
 unfolding ascii
-returns c = search block-first
+returns c = search lead-first
 
 slice-aggregate-put-text-2 : tie.Need-slice-aggregate-put-text-2
 slice-aggregate-put-text-2 c = search needs
@@ -28,7 +28,7 @@ same-length-2 c = search needs
 
 returns-2 : tie.Need-returns-2
 unfolding ascii
-returns-2 c = search block-later
+returns-2 c = search lead-later
 
 pub put-block-lead-spec : {M : Type 1} → statement M
 put-block-lead-spec =

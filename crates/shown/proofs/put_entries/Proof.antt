@@ -1,15 +1,14 @@
 use borrow.Author.Needs.{needs}
 use native.Mathlib.Omega.{arith}
 use Prim.Native.Nat.{_-_, _≤_}
-use mathlib.Core.Path.{_≡_, refl}
 use mathlib.Core.List.{map}
-use lib.ListN.{length, take}
+use lib.ListN.{take}
 use Rattle.emit.specs.Text.{Written}
 use Rattle.emit.proofs.Laws.{written-nil, written-length}
 use Rattle.reading.specs.Parting.{joined}
 use Rattle.reading.specs.Show.{showEntry, entries}
 use Rattle.shown.specs.Notes.{labelsOf}
-use Rattle.shown.proofs.Laws.{entries-more, entries-all}
+use Rattle.shown.proofs.Labels.{entries-more, entries-all}
 use Rattle.shown.proofs.put_entries.Statement.{statement}
 use Rattle.shown.proofs.put_entries.Tie as tie
 

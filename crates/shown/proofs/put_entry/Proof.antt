@@ -1,15 +1,14 @@
 use borrow.Author.Needs.{needs}
 use native.Mathlib.Omega.{arith}
 use Rattle.record.proofs.Laws.{length-mapped}
-use Rattle.emit.proofs.Laws.{written-nil, written-length}
-use Rattle.shown.proofs.Laws.{entry-here, entry-next, entry-none, site-digit}
+use Rattle.emit.proofs.Laws.{written-nil}
+use Rattle.shown.proofs.Labels.{entry-here, entry-next, entry-none, site-digit}
 use Prim.Native.Nat.{_-_, _≤_}
 use mathlib.Core.Path.{_≡_, refl}
 use mathlib.Core.List.{[]}
 use lib.ListN.{length, take, drop}
 use Rattle.emit.specs.Text.{Written}
 use Rattle.reading.specs.Molecule.{look}
-use Rattle.reading.specs.Show.{upToLast}
 use Rattle.shown.specs.Notes.{labelsOf}
 use Rattle.shown.proofs.put_entry.Statement.{statement}
 use Rattle.shown.proofs.put_entry.Tie as tie

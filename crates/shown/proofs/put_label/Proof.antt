@@ -1,6 +1,6 @@
 use Rattle.reading.specs.Ascii.{ascii}
 use native.Mathlib.Omega.{arith}
-use Rattle.shown.proofs.Laws.{label-text}
+use Rattle.shown.proofs.Labels.{label-text}
 use borrow.Author.Needs.{needs}
 use Rattle.shown.proofs.put_label.Statement.{statement}
 use Rattle.shown.proofs.put_label.Tie as tie

@@ -1,5 +1,5 @@
 use native.Mathlib.Omega.{arith}
-use Rattle.shown.proofs.Laws.{digits-counted, block-none, block-some}
+use Rattle.shown.proofs.Labels.{digits-counted, block-none, block-some}
 use borrow.Author.Needs.{needs}
 use Rattle.shown.proofs.put_label_block.Statement.{statement}
 use Rattle.shown.proofs.put_label_block.Tie as tie

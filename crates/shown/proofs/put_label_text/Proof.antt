@@ -1,6 +1,6 @@
 use Rattle.reading.specs.Ascii.{ascii}
 use native.Mathlib.Omega.{arith}
-use Rattle.shown.proofs.Laws.{block-text}
+use Rattle.shown.proofs.Labels.{block-text}
 use borrow.Author.Needs.{needs}
 use Rattle.shown.proofs.put_label_text.Statement.{statement}
 use Rattle.shown.proofs.put_label_text.Tie as tie

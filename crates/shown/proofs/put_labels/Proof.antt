@@ -1,7 +1,7 @@
 use borrow.Author.Needs.{needs}
 use native.Mathlib.Omega.{arith}
 use Prim.Native.Nat.{_-_, _≤_}
-use mathlib.Core.Path.{_≡_, refl}
+use mathlib.Core.Path.{_≡_}
 use mathlib.Core.List.{map}
 use lib.ListN.{length, take}
 use Rattle.emit.specs.Text.{Written}
@@ -11,7 +11,7 @@ use Rattle.record.proofs.Laws.{length-mapped}
 use Rattle.reading.specs.Molecule.{notesOf}
 use Rattle.reading.specs.Show.{showLabel}
 use Rattle.shown.specs.Notes.{labelsOf}
-use Rattle.shown.proofs.Laws.{labels-more, labels-all, site-digit}
+use Rattle.shown.proofs.Labels.{labels-more, labels-all, site-digit}
 use Rattle.shown.proofs.put_labels.Statement.{statement}
 use Rattle.shown.proofs.put_labels.Tie as tie
 

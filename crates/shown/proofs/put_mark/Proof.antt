@@ -1,5 +1,5 @@
 use native.Mathlib.Omega.{arith}
-use Rattle.shown.proofs.Laws.{one-block}
+use Rattle.shown.proofs.Chained.{one-shown}
 use borrow.Author.Needs.{needs}
 use Rattle.shown.proofs.put_mark.Statement.{statement}
 use Rattle.shown.proofs.put_mark.Tie as tie
@@ -14,7 +14,7 @@ same-length : tie.Need-same-length
 same-length c = search needs
 
 returns : tie.Need-returns
-returns c = search (one-block, arith)
+returns c = search (one-shown, arith)
 
 pub put-mark-spec : {M : Type 1} → statement M
 put-mark-spec =

@@ -6,7 +6,7 @@ use mathlib.Core.List.{map}
 use Rattle.emit.specs.Text.{Written}
 use Rattle.emit.proofs.Laws.{written-nil, written-length}
 use Rattle.reading.specs.Show.{showMark}
-use Rattle.shown.specs.Chained.{chained, shownBlocks, stillFirst}
+use Rattle.shown.specs.Chained.{chained, shown, shownBlocks, stillFirst}
 use Rattle.shown.specs.Notes.{marksBelow}
 use Rattle.shown.proofs.Laws.{marks-more, marks-lead, marks-all}
 use Rattle.shown.proofs.put_marks_below.Statement.{statement}
@@ -20,7 +20,7 @@ abbrev μ-loop : tie.MeasureT-loop
 μ-loop out₀ at first p v n next₀ lead₀ i₀ out next lead i = n - i
 
 loop-holds : tie.Need-loop-holds Inv-loop μ-loop
-unfolding stillFirst marksBelow shownBlocks chained
+unfolding stillFirst marksBelow shown chained
 loop-holds c = (omega arith, refl, written-nil _ _ (omega arith))
 
 mul-put-mark : tie.Need-mul-put-mark Inv-loop μ-loop

@@ -1,5 +1,5 @@
 use borrow.Author.Needs.{needs}
-use Prim.Native.Nat.{_+_, _*_, _-_, _≤_, _<_}
+use Prim.Native.Nat.{_-_, _≤_}
 use native.Mathlib.Omega.{arith}
 use mathlib.Core.List.{map}
 use lib.ListN.{length, take}
@@ -11,11 +11,11 @@ use Rattle.shown.proofs.put_site_list.Statement.{statement}
 use Rattle.shown.proofs.put_site_list.Tie as tie
 
 abbrev Inv-loop : tie.InvT-loop
-Inv-loop out₀ at sites p₀ i₀ out p i =
-    (i ≤ length sites) × Written out₀ at (joined 46 (map decimal (take i sites))) out p
+Inv-loop out₀ at sites p₀ place₀ out p place =
+    (place ≤ length sites) × Written out₀ at (joined 46 (map decimal (take place sites))) out p
 
 abbrev μ-loop : tie.MeasureT-loop
-μ-loop out₀ at sites p₀ i₀ out p i = length sites - i
+μ-loop out₀ at sites p₀ place₀ out p place = length sites - place
 
 loop-holds : tie.Need-loop-holds Inv-loop μ-loop
 unfolding joined
@@ -30,8 +30,8 @@ shared-slice-read-put-site c = search needs
 put-site-requires : tie.Need-put-site-requires Inv-loop μ-loop
 put-site-requires c κs = search needs
 
-add-i : tie.Need-add-i Inv-loop μ-loop
-add-i c = search needs
+add-place : tie.Need-add-place Inv-loop μ-loop
+add-place c = search needs
 
 loop-less : tie.Need-loop-less Inv-loop μ-loop
 loop-less c = search needs
@@ -55,7 +55,7 @@ put-site-list-spec =
     mul-put-site
     shared-slice-read-put-site
     put-site-requires
-    add-i
+    add-place
     loop-less
     loop-again
     same-length

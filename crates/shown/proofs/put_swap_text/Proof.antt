@@ -1,6 +1,6 @@
 use Rattle.reading.specs.Ascii.{ascii}
 use native.Mathlib.Omega.{arith}
-use Rattle.shown.proofs.Laws.{swap-text}
+use Rattle.shown.proofs.Labels.{swap-text}
 use borrow.Author.Needs.{needs}
 use Rattle.shown.proofs.put_swap_text.Statement.{statement}
 use Rattle.shown.proofs.put_swap_text.Tie as tie

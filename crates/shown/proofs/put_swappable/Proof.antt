@@ -1,5 +1,5 @@
 use native.Mathlib.Omega.{arith}
-use Rattle.shown.proofs.Laws.{digits-counted, swap-none, swap-some}
+use Rattle.shown.proofs.Labels.{digits-counted, swap-none, swap-some}
 use borrow.Author.Needs.{needs}
 use Rattle.shown.proofs.put_swappable.Statement.{statement}
 use Rattle.shown.proofs.put_swappable.Tie as tie

@@ -1,8 +1,8 @@
 use borrow.Author.Needs.{needs}
-use Prim.Native.Nat.{_+_, _*_, _-_, _≤_, _<_}
+use Prim.Native.Nat.{_-_, _≤_}
 use native.Mathlib.Omega.{arith}
 use mathlib.Core.List.{map}
-use Rattle.emit.specs.Text.{Written, decimal}
+use Rattle.emit.specs.Text.{Written}
 use Rattle.emit.proofs.Laws.{written-nil, written-length}
 use Rattle.reading.specs.Parting.{joined}
 use Rattle.reading.specs.Names.{nameOf}
