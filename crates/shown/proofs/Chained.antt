@@ -19,7 +19,7 @@ use Rattle.chain.specs.Lists.{valuesFrom}
 use Rattle.chain.specs.Features.{remaining}
 use Rattle.chain.specs.Drawing.{markList, variables, sums}
 use Rattle.shown.specs.Chained.{chained, lead, shown, shownBlocks, shownParts, stillFirst, blocksEnd}
-use Rattle.shown.specs.Notes.{variablesFrom, sumList}
+use Rattle.shown.specs.Notes.{numbersFrom, sumList}
 
 -- ---- texts of a and then of b
 
@@ -159,7 +159,7 @@ still-sums first v (suc n) total = rw (not-zero n)
 
 -- the sum of a chain, by its numbers
 pub sums-are : (r : Role) (d : Chain) (v : ℕ) → sums r d v ≡ sumList v (d .unlocated) (remaining r d - d .unlocated - 1)
-unfolding sums variables sumList variablesFrom
+unfolding sums variables sumList numbersFrom
 sums-are r d v = go (d .unlocated) (remaining r d - d .unlocated - 1)
   where
     go : (n total : ℕ) → cond (eqb n 0) [] (sum (valuesFrom (λ i. v + i) 0 (cond (eqb n 0) 0 (suc n))) total ∷ []) ≡ sumList v n total

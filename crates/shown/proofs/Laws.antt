@@ -20,7 +20,7 @@ use Rattle.reading.specs.Show.{showMark, showSites, showSum}
 use Rattle.chain.specs.Lists.{valuesFrom}
 use Rattle.chain.specs.Drawing.{markList}
 use Rattle.shown.specs.Chained.{lead, shownBlocks, partLead, shownParts, stillFirst, blocksEnd, parting, listed, numbered}
-use Rattle.shown.specs.Notes.{marksBelow, variablesFrom, sumList}
+use Rattle.shown.specs.Notes.{marksBelow, numbersFrom, sumList}
 use Rattle.shown.proofs.Chained.{shown-append, still-some, one-shown, none-shown}
 
 -- ---- the texts that are chosen by a test
@@ -117,13 +117,13 @@ unfolding valuesFrom
 values-length f k zero = refl
 values-length f k (suc n) = ap suc (values-length f (suc k) n)
 
-variables-snoc : (v i : ℕ) → variablesFrom v (suc i) ≡ variablesFrom v i ++ ((v + i) ∷ [])
-unfolding variablesFrom
-variables-snoc v i = values-more (λ j. v + j) 0 i ∙ ap (λ (k : ℕ). variablesFrom v i ++ ((v + k) ∷ [])) (zero-add i)
+numbers-snoc : (v i : ℕ) → numbersFrom v (suc i) ≡ numbersFrom v i ++ ((v + i) ∷ [])
+unfolding numbersFrom
+numbers-snoc v i = values-more (λ j. v + j) 0 i ∙ ap (λ (k : ℕ). numbersFrom v i ++ ((v + k) ∷ [])) (zero-add i)
 
-variables-length : (v i : ℕ) → length (variablesFrom v i) ≡ i
-unfolding variablesFrom
-variables-length v i = values-length (λ j. v + j) 0 i
+numbers-length : (v i : ℕ) → length (numbersFrom v i) ≡ i
+unfolding numbersFrom
+numbers-length v i = values-length (λ j. v + j) 0 i
 
 module _ {xs ys zs : List ℕ} {a p q : ℕ} (i : ℕ) (g : length xs < 2 ^ 64) where
   pub sites-more : (js : List ℕ) → i < length js → Written xs a (joined 46 (map decimal (take i js))) ys p
@@ -132,18 +132,18 @@ module _ {xs ys zs : List ℕ} {a p q : ℕ} (i : ℕ) (g : length xs < 2 ^ 64) 
       rw (add-one, take-suc js i 0 h, map-append)
       (part-more 46 (map decimal (take i js)) (decimal (getD js i 0)) i (length-map (take i js) decimal ∙ length-take-le i js (omega arith)) g w u)
 
-  pub variables-more : (v : ℕ) → Written xs a (joined 43 (map nameOf (variablesFrom v i))) ys p → Written ys p (listed (ltb 0 i) 43 (nameOf (v + i))) zs q
-      → Written xs a (joined 43 (map nameOf (variablesFrom v (i + 1)))) zs q
+  pub variables-more : (v : ℕ) → Written xs a (joined 43 (map nameOf (numbersFrom v i))) ys p → Written ys p (listed (ltb 0 i) 43 (nameOf (v + i))) zs q
+      → Written xs a (joined 43 (map nameOf (numbersFrom v (i + 1)))) zs q
   variables-more v w u =
-      rw (add-one, variables-snoc v i, map-append)
-      (part-more 43 (map nameOf (variablesFrom v i)) (nameOf (v + i)) i (length-map (variablesFrom v i) nameOf ∙ variables-length v i) g w u)
+      rw (add-one, numbers-snoc v i, map-append)
+      (part-more 43 (map nameOf (numbersFrom v i)) (nameOf (v + i)) i (length-map (numbersFrom v i) nameOf ∙ numbers-length v i) g w u)
 
 pub sites-all : {xs ys : List ℕ} {a p : ℕ} (js : List ℕ) (i : ℕ) → length js ≤ i → Written xs a (joined 46 (map decimal (take i js))) ys p
     → Written xs a (joined 46 (map decimal js)) ys p
 sites-all js i h w = rw (take-all i js h) at w
 
-pub variables-all : {xs ys : List ℕ} {a p : ℕ} (v i count : ℕ) → i ≤ count → count ≤ i → Written xs a (joined 43 (map nameOf (variablesFrom v i))) ys p
-    → Written xs a (joined 43 (map nameOf (variablesFrom v count))) ys p
+pub variables-all : {xs ys : List ℕ} {a p : ℕ} (v i count : ℕ) → i ≤ count → count ≤ i → Written xs a (joined 43 (map nameOf (numbersFrom v i))) ys p
+    → Written xs a (joined 43 (map nameOf (numbersFrom v count))) ys p
 variables-all v i count h k w = let e : i ≡ count = omega arith in rw e at w
 
 -- ---- the marks of a chain
@@ -198,7 +198,7 @@ unfolding sumList
 sums-none first v n total xs a e h = rw e (none-shown _ _ first xs a h)
 
 pub sums-one : {xs ys zs : List ℕ} {a p q : ℕ} (first : Bool) (v n total : ℕ) → (n ≡ 0 → ⊥) → length xs < 2 ^ 64 → Written xs a (partLead first) ys p
-    → Written ys p (showSum (sum (variablesFrom v (n + 1)) total)) zs q → Written xs a (shownParts first (map showSum (sumList v n total))) zs q
+    → Written ys p (showSum (sum (numbersFrom v (n + 1)) total)) zs q → Written xs a (shownParts first (map showSum (sumList v n total))) zs q
 unfolding sumList
 sums-one first v zero total h g w u = absurd (h refl)
 sums-one first v (suc n) total h g w u = one-shown _ _ first g w (rw add-one at u)

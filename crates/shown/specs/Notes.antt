@@ -13,21 +13,25 @@ unfoldable pub marksBelow : ℕ → ℕ → ℕ → List (At ℕ)
 unfolding valuesFrom
 marksBelow p v n = valuesFrom (λ i. at (p + 2 * i) (v + i)) 0 n
 
--- the variables v, v + 1, .., so many
-unfoldable pub variablesFrom : ℕ → ℕ → List ℕ
+-- v, v + 1, .., so many
+unfoldable pub numbersFrom : ℕ → ℕ → List ℕ
 unfolding valuesFrom
-variablesFrom v count = valuesFrom (λ i. v + i) 0 count
+numbersFrom v count = valuesFrom (λ i. v + i) 0 count
 
 -- the sum of a chain with n unlocated bonds whose first variable is v: it has n + 1 variables
 unfoldable pub sumList : ℕ → ℕ → ℕ → List Sum
-unfolding variablesFrom
+unfolding numbersFrom
 sumList v zero total = []
-sumList v (suc n) total = sum (variablesFrom v (suc (suc n))) total ∷ []
+sumList v (suc n) total = sum (numbersFrom v (suc (suc n))) total ∷ []
+
+-- the most sites that a line has: one for each sn
+abbrev pub maxSites : ℕ
+maxSites = 4
 
 -- the labels at some sites
 unfoldable pub labelsOf : List Site → List (At ℕ)
 labelsOf ss = map (λ s. at (s .atom) (s .sn)) ss
 
--- the sn of each site is one digit
+-- a label has room for one digit: the sn of each site is below 10
 abbrev pub Digits : List Site → Type 0
 Digits ss = below 10 (notesOf (labelsOf ss)) ≡ true

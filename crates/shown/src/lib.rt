@@ -4,7 +4,7 @@
 ghost use mathlib.Core.Path.{_≡_};
 ghost use mathlib.Core.Bool.{true};
 ghost use mathlib.Core.List.{[], _∷_, map};
-ghost use Prim.Native.Nat.{_+_, _*_, _<_, _≤_, min, max};
+ghost use Prim.Native.Nat.{_+_, _*_, _^_, _<_, _≤_, min, max};
 ghost use lib.Dec.{ltb};
 ghost use lib.ListN.{take};
 ghost use Rattle.emit.specs.Text.{Written, decimal};
@@ -15,7 +15,7 @@ ghost use Rattle.reading.specs.Line.{below};
 ghost use Rattle.reading.specs.Show.{showLabel, showEntry, entries, upToLast, labelBlock, labelBlocks, showMark, showSites, showSwap, swapTexts, showSum};
 ghost use Rattle.chain.specs.Drawing.{markList};
 ghost use Rattle.shown.specs.Chained.{blockLead, partLead, shownBlocks, shownParts, blocksEnd, parting, listed, numbered};
-ghost use Rattle.shown.specs.Notes.{marksBelow, variablesFrom, sumList, labelsOf, Digits};
+ghost use Rattle.shown.specs.Notes.{marksBelow, numbersFrom, sumList, maxSites, labelsOf, Digits};
 use emit::put_byte;
 use emit::put_number;
 use emit::put_text;
@@ -99,8 +99,8 @@ pub fn put_mark(out: &mut [u8], at: usize, first: bool, atom: u32, v: u32) -> us
 
 // The marks before the last: on atoms p, p + 2, .., so many.
 fn put_marks_below(out: &mut [u8], at: usize, first: bool, p: u32, v: u32, n: u32) -> usize
-    requires { ⌜ p + 2 * n < 4294967296 ⌝ }
-    requires { ⌜ v + n < 4294967296 ⌝ }
+    requires { ⌜ p + 2 * n < 2 ^ 32 ⌝ }
+    requires { ⌜ v + n < 2 ^ 32 ⌝ }
     ensures { λ r. ⌜ Written (now (out .entry)) at (shownBlocks first (map showMark (marksBelow p v n))) (now (out .exit)) r ⌝ }
 {
     let mut next = at;
@@ -114,10 +114,10 @@ fn put_marks_below(out: &mut [u8], at: usize, first: bool, p: u32, v: u32, n: u3
     next
 }
 
-// All marks of a chain with n unlocated bonds whose first flexible carbon is atom p and whose first variable is v.
+// All marks of a chain with n unlocated bonds whose first flexible carbon is atom p and whose first variable is v. None where n is 0.
 pub fn put_marks(out: &mut [u8], at: usize, first: bool, p: u32, v: u32, n: u32) -> usize
-    requires { ⌜ p + 2 * n + 1 < 4294967296 ⌝ }
-    requires { ⌜ v + n < 4294967296 ⌝ }
+    requires { ⌜ p + 2 * n + 1 < 2 ^ 32 ⌝ }
+    requires { ⌜ v + n < 2 ^ 32 ⌝ }
     ensures { λ r. ⌜ Written (now (out .entry)) at (shownBlocks first (map showMark (markList p v n))) (now (out .exit)) r ⌝ }
 {
     if n == 0 {
@@ -172,8 +172,8 @@ fn put_variable(out: &mut [u8], at: usize, more: bool, v: u32) -> usize
 
 // The variables v, v + 1, .., so many.
 fn put_variables(out: &mut [u8], at: usize, v: u32, count: u32) -> usize
-    requires { ⌜ v + count < 4294967296 ⌝ }
-    ensures { λ r. ⌜ Written (now (out .entry)) at (joined 43 (map nameOf (variablesFrom v count))) (now (out .exit)) r ⌝ }
+    requires { ⌜ v + count < 2 ^ 32 ⌝ }
+    ensures { λ r. ⌜ Written (now (out .entry)) at (joined 43 (map nameOf (numbersFrom v count))) (now (out .exit)) r ⌝ }
 {
     let mut p = at;
     let mut i = 0;
@@ -185,17 +185,17 @@ fn put_variables(out: &mut [u8], at: usize, v: u32, count: u32) -> usize
 }
 
 fn put_sum_text(out: &mut [u8], at: usize, v: u32, count: u32, total: u32) -> usize
-    requires { ⌜ v + count < 4294967296 ⌝ }
-    ensures { λ r. ⌜ Written (now (out .entry)) at (showSum (sum (variablesFrom v count) total)) (now (out .exit)) r ⌝ }
+    requires { ⌜ v + count < 2 ^ 32 ⌝ }
+    ensures { λ r. ⌜ Written (now (out .entry)) at (showSum (sum (numbersFrom v count) total)) (now (out .exit)) r ⌝ }
 {
     let p = put_text(out, at, b"constrain(");
     let q = put_variables(out, p, v, count);
     put_numbered(out, q, b"=", total, b')')
 }
 
-// The sum of a chain with n unlocated bonds whose first variable is v.
+// The sum of a chain with n unlocated bonds whose first variable is v: its n + 1 variables and their total. None where n is 0.
 pub fn put_sum(out: &mut [u8], at: usize, first: bool, v: u32, n: u32, total: u32) -> usize
-    requires { ⌜ v + n + 1 < 4294967296 ⌝ }
+    requires { ⌜ v + n + 1 < 2 ^ 32 ⌝ }
     ensures { λ r. ⌜ Written (now (out .entry)) at (shownParts first (map showSum (sumList v n total))) (now (out .exit)) r ⌝ }
 {
     if n == 0 {
@@ -205,7 +205,7 @@ pub fn put_sum(out: &mut [u8], at: usize, first: bool, v: u32, n: u32, total: u3
     put_sum_text(out, p, v, n + 1, total)
 }
 
-// The most sites that a line has.
+// The most sites that a line has: one for each sn.
 pub const MAX_SITES: usize = 4;
 
 // A site: the sn of its chain, and its atom.
@@ -223,13 +223,14 @@ fn put_label(out: &mut [u8], at: usize, sn: u8) -> usize
     put_byte(out, p, 48 + sn)
 }
 
-// How many of the sites count: there are no more than MAX_SITES.
+// How many of the sites count: a larger number stands for all of them.
 fn counted(count: usize) -> usize
-    ensures { λ r. ⌜ r ≡ min count 4 ⌝ }
+    ensures { λ r. ⌜ r ≡ min count maxSites ⌝ }
 {
     if count < MAX_SITES { count } else { MAX_SITES }
 }
 
+// How many atoms there are up to this one.
 fn past(atom: u32) -> usize
     ensures { λ r. ⌜ r ≡ atom + 1 ⌝ }
 {
@@ -243,8 +244,8 @@ fn larger(a: usize, b: usize) -> usize
 }
 
 // How many atoms there are up to the last with a label.
-fn label_end(sites: [Site; 4], count: usize) -> usize
-    requires { ⌜ count ≤ 4 ⌝ }
+fn label_end(sites: [Site; MAX_SITES], count: usize) -> usize
+    requires { ⌜ count ≤ maxSites ⌝ }
     ensures { λ r. ⌜ r ≡ upToLast (labelsOf (take count sites)) ⌝ }
 {
     let mut end = 0;
@@ -258,8 +259,14 @@ fn label_end(sites: [Site; 4], count: usize) -> usize
 }
 
 // The label of an atom, if it has one.
-fn put_entry(out: &mut [u8], at: usize, sites: [Site; 4], count: usize, atom: usize) -> usize
-    requires { ⌜ count ≤ 4 ⌝ }
+fn put_entry(
+    out: &mut [u8],
+    at: usize,
+    sites: [Site; MAX_SITES],
+    count: usize,
+    atom: usize,
+) -> usize
+    requires { ⌜ count ≤ maxSites ⌝ }
     requires { ⌜ Digits (take count sites) ⌝ }
     ensures { λ r. ⌜ Written (now (out .entry)) at (showEntry (look atom (labelsOf (take count sites)))) (now (out .exit)) r ⌝ }
 {
@@ -275,8 +282,14 @@ fn put_entry(out: &mut [u8], at: usize, sites: [Site; 4], count: usize, atom: us
 }
 
 // An entry of the list of labels.
-fn put_next_entry(out: &mut [u8], at: usize, sites: [Site; 4], count: usize, atom: usize) -> usize
-    requires { ⌜ count ≤ 4 ⌝ }
+fn put_next_entry(
+    out: &mut [u8],
+    at: usize,
+    sites: [Site; MAX_SITES],
+    count: usize,
+    atom: usize,
+) -> usize
+    requires { ⌜ count ≤ maxSites ⌝ }
     requires { ⌜ Digits (take count sites) ⌝ }
     ensures { λ r. ⌜ Written (now (out .entry)) at (listed (ltb 0 atom) 59 (showEntry (look atom (labelsOf (take count sites))))) (now (out .exit)) r ⌝ }
 {
@@ -285,8 +298,8 @@ fn put_next_entry(out: &mut [u8], at: usize, sites: [Site; 4], count: usize, ato
 }
 
 // The entries of the atoms below n.
-fn put_entries(out: &mut [u8], at: usize, sites: [Site; 4], count: usize, n: usize) -> usize
-    requires { ⌜ count ≤ 4 ⌝ }
+fn put_entries(out: &mut [u8], at: usize, sites: [Site; MAX_SITES], count: usize, n: usize) -> usize
+    requires { ⌜ count ≤ maxSites ⌝ }
     requires { ⌜ Digits (take count sites) ⌝ }
     ensures { λ r. ⌜ Written (now (out .entry)) at (joined 59 (map showEntry (entries n 0 (labelsOf (take count sites))))) (now (out .exit)) r ⌝ }
 {
@@ -299,8 +312,8 @@ fn put_entries(out: &mut [u8], at: usize, sites: [Site; 4], count: usize, n: usi
     p
 }
 
-fn put_label_text(out: &mut [u8], at: usize, sites: [Site; 4], count: usize) -> usize
-    requires { ⌜ count ≤ 4 ⌝ }
+fn put_label_text(out: &mut [u8], at: usize, sites: [Site; MAX_SITES], count: usize) -> usize
+    requires { ⌜ count ≤ maxSites ⌝ }
     requires { ⌜ Digits (take count sites) ⌝ }
     ensures { λ r. ⌜ Written (now (out .entry)) at (labelBlock (labelsOf (take count sites))) (now (out .exit)) r ⌝ }
 {
@@ -310,12 +323,12 @@ fn put_label_text(out: &mut [u8], at: usize, sites: [Site; 4], count: usize) -> 
     put_byte(out, q, b'$')
 }
 
-// The labels of the first `count` sites, where there are some.
+// The labels of the first `count` sites at their atoms, where there are some. One pass over the atoms up to the last with a label.
 pub fn put_label_block(
     out: &mut [u8],
     at: usize,
     first: bool,
-    sites: [Site; 4],
+    sites: [Site; MAX_SITES],
     count: usize,
 ) -> usize
     requires { ⌜ Digits (take count sites) ⌝ }
@@ -338,8 +351,8 @@ fn put_next_label(out: &mut [u8], at: usize, more: bool, sn: u8) -> usize
     put_label(out, p, sn)
 }
 
-fn put_labels(out: &mut [u8], at: usize, sites: [Site; 4], count: usize) -> usize
-    requires { ⌜ count ≤ 4 ⌝ }
+fn put_labels(out: &mut [u8], at: usize, sites: [Site; MAX_SITES], count: usize) -> usize
+    requires { ⌜ count ≤ maxSites ⌝ }
     requires { ⌜ Digits (take count sites) ⌝ }
     ensures { λ r. ⌜ Written (now (out .entry)) at (joined 44 (map showLabel (notesOf (labelsOf (take count sites))))) (now (out .exit)) r ⌝ }
 {
@@ -353,8 +366,8 @@ fn put_labels(out: &mut [u8], at: usize, sites: [Site; 4], count: usize) -> usiz
     p
 }
 
-fn put_swap_text(out: &mut [u8], at: usize, sites: [Site; 4], count: usize) -> usize
-    requires { ⌜ count ≤ 4 ⌝ }
+fn put_swap_text(out: &mut [u8], at: usize, sites: [Site; MAX_SITES], count: usize) -> usize
+    requires { ⌜ count ≤ maxSites ⌝ }
     requires { ⌜ Digits (take count sites) ⌝ }
     ensures { λ r. ⌜ Written (now (out .entry)) at (showSwap (notesOf (labelsOf (take count sites)))) (now (out .exit)) r ⌝ }
 {
@@ -368,7 +381,7 @@ pub fn put_swappable(
     out: &mut [u8],
     at: usize,
     first: bool,
-    sites: [Site; 4],
+    sites: [Site; MAX_SITES],
     count: usize,
 ) -> usize
     requires { ⌜ Digits (take count sites) ⌝ }

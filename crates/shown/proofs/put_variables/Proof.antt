@@ -6,20 +6,20 @@ use Rattle.emit.specs.Text.{Written}
 use Rattle.emit.proofs.Laws.{written-nil, written-length}
 use Rattle.reading.specs.Parting.{joined}
 use Rattle.reading.specs.Names.{nameOf}
-use Rattle.shown.specs.Notes.{variablesFrom}
+use Rattle.shown.specs.Notes.{numbersFrom}
 use Rattle.shown.proofs.Laws.{variables-more, variables-all}
 use Rattle.shown.proofs.put_variables.Statement.{statement}
 use Rattle.shown.proofs.put_variables.Tie as tie
 
 abbrev Inv-loop : tie.InvT-loop
 Inv-loop out₀ at v count p₀ i₀ out p i =
-    (i ≤ count) × Written out₀ at (joined 43 (map nameOf (variablesFrom v i))) out p
+    (i ≤ count) × Written out₀ at (joined 43 (map nameOf (numbersFrom v i))) out p
 
 abbrev μ-loop : tie.MeasureT-loop
 μ-loop out₀ at v count p₀ i₀ out p i = count - i
 
 loop-holds : tie.Need-loop-holds Inv-loop μ-loop
-unfolding joined variablesFrom
+unfolding joined numbersFrom
 loop-holds c = (omega arith, written-nil _ _ (omega arith))
 
 add-put-variable : tie.Need-add-put-variable Inv-loop μ-loop
