@@ -5,22 +5,22 @@ use native.Mathlib.Omega.{arith}
 use native.Mathlib.Decide.{decLt, ℕ-discrete}
 use mathlib.Core.Path.{_≡_, refl, sym, ap, _∙_}
 use mathlib.Core.Logic.{_≢_}
-use mathlib.Core.Bool.{Bool, true, false, cond, _||_, _&&_, false≢true}
+use mathlib.Core.Bool.{Bool, true, false, cond, _||_, false≢true}
 use mathlib.Core.Option.{Option, none, some}
 use mathlib.Core.List.{List, [], _∷_, _++_, map}
 use lib.ListN.{length}
 use lib.Dec.{eqb, leb}
-use borrow.Author.Tests.{eqb-true, eqb-false, eq-eqb, ne-eqb}
+use borrow.Author.Tests.{eqb-true, eq-eqb, ne-eqb}
 use Rattle.record.specs.Chain.{Chain}
 use Rattle.reading.specs.Lexer.{memb}
 use Rattle.reading.proofs.Part.{none≢some}
-use Rattle.reading.proofs.PartingLaws.{All, all-map, and-left, and-right}
+use Rattle.reading.proofs.PartingLaws.{All, and-left, and-right}
 use Rattle.chain.specs.declared.Role.{Role}
 use Rattle.chain.specs.declared.Role.the-variants as role
 use Rattle.chain.specs.Lists.{allOf, valuesFrom}
-use Rattle.chain.proofs.Lists.{Rises, rises-from, rises-le}
+use Rattle.chain.proofs.Lists.{Rises, rises-from}
 use Rattle.builder.specs.Template.{Element, fixed, tail, slot, chain}
-use Rattle.builder.specs.Request.{chainAt, unlessEmpty, nonempty, fixedPieces, tailPart, Placed, atomsOfPieces, siteOf, place, atomsAfter, variablesAfter, placedFrom, insertBySn, bySn}
+use Rattle.builder.specs.Request.{chainAt, nonempty, fixedPieces, tailPart, Placed, atomsOfPieces, siteOf, place, atomsAfter, variablesAfter, placedFrom, insertBySn, bySn}
 use Rattle.builder.specs.Promise.{chainsFrom, namesOf}
 use Rattle.builder.proofs.Templates.{snsOf}
 use Rattle.builder.proofs.Sorted.{Apart, all-sorted, snOf}

@@ -1,16 +1,15 @@
 -- What a molecule of rows says of an atom, and the set of its sums.
 -- Assumes nothing.
-use Prim.Native.Nat.{ℕ, zero, suc, _+_, _≤_, _<_}
+use Prim.Native.Nat.{ℕ, zero, suc, _+_, _≤_}
 use native.Mathlib.Omega.{arith}
 use mathlib.Core.Path.{_≡_, refl, sym, ap, _∙_, subst}
-use mathlib.Core.Bool.{Bool, true, false, cond, _||_, _&&_, false≢true}
-use mathlib.Core.Option.{Option, none, some}
-use mathlib.Core.List.{List, [], _∷_, _++_}
-use lib.ListN.{length}
+use mathlib.Core.Bool.{Bool, true, false, cond, _&&_, false≢true}
+use mathlib.Core.Option.{some}
+use mathlib.Core.List.{List, [], _∷_}
 use lib.Dec.{eqb, ltb}
 use borrow.Author.Tests.{ltb-false, eq-eqb}
 use Rattle.reading.specs.Row.{Row, row}
-use Rattle.reading.specs.Molecule.{At, at, look, Sum, sum, Molecule, molecule, before, insert, insertAll, sumKey, sumSet, atomsFrom, bondsFrom, moleculeOf}
+use Rattle.reading.specs.Molecule.{At, look, Sum, sum, before, insert, insertAll, sumKey, sumSet, atomsFrom, moleculeOf}
 use Rattle.reading.proofs.PartingLaws.{All}
 use Rattle.reading.proofs.Part.{none≢some}
 use Rattle.chain.proofs.Lists.{or-left, or-right}

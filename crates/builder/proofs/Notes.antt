@@ -1,17 +1,17 @@
 -- What is said of the atoms of chains that stand one after the other: marks, sums, site lists and sn sites keep the rules of a line.
 -- Assumes nothing.
-use Prim.Native.Nat.{ℕ, zero, suc, _+_, _-_, _*_, _≤_, _<_}
+use Prim.Native.Nat.{ℕ, suc, _+_, _*_, _≤_, _<_}
 use native.Mathlib.Omega.{arith}
 use mathlib.Core.Path.{_≡_, refl, sym, ap, ap₂, _∙_}
 use mathlib.Core.Logic.{_≢_}
-use mathlib.Core.Bool.{Bool, true, false, cond, not, _||_, _&&_}
+use mathlib.Core.Bool.{Bool, true, false, cond}
 use mathlib.Core.Option.{Option, none, some}
-use mathlib.Core.List.{List, [], _∷_, _++_, map, append-assoc}
+use mathlib.Core.List.{List, [], _∷_, _++_, append-assoc}
 use lib.ListN.{length}
 use lib.Dec.{eqb, ltb}
-use borrow.Author.Tests.{eqb-true, eqb-false, eq-eqb, ne-eqb, lt-ltb, le-ltb, ltb-true, ltb-false}
+use borrow.Author.Tests.{ne-eqb, lt-ltb, le-ltb}
 use Rattle.record.specs.Chain.{Chain}
-use Rattle.reading.specs.Molecule.{At, at, atomsOf, notesOf, look, Sum, sum, variablesOf, numberOf}
+use Rattle.reading.specs.Molecule.{At, at, atomsOf, notesOf, look, Sum, sum, variablesOf}
 use Rattle.reading.specs.Line.{flat, summed}
 use Rattle.reading.specs.Chain.{chainEnd}
 use Rattle.reading.proofs.PartingLaws.{All, all-map, NonEmpty}
@@ -19,14 +19,13 @@ use Rattle.chain.specs.declared.Role.{Role}
 use Rattle.chain.specs.Lists.{valuesFrom}
 use Rattle.chain.specs.Drawing as draw
 use Rattle.chain.specs.Drawing.{carbons, carbonAtoms, atomsEnd, variables}
-use Rattle.chain.specs.Features.{drawnCount}
-use Rattle.chain.specs.Counts.{total, copies, Counts, Meets}
+use Rattle.chain.specs.Counts.{total, Counts, Meets}
 use Rattle.chain.proofs.Lists.{Rises, rises-le, rises-from, rises-to, rises-append, rises-within, all-append, all-left, all-right}
 use Rattle.chain.proofs.Accepted.{Drawable, drawn-some, unlocated-most}
 use Rattle.chain.proofs.Atoms.{chainEnd-le, atomsEnd-le, carbon-atoms-rise, carbon-atoms-count, marks-rise, marks-notes, sums-notes, variables-rise, sites-rise, sites-carbons, sites-some, atomsOf-append, notesOf-append}
 use Rattle.chain.proofs.Counts.{SumStands, sums-stand, Chosen, sums-chosen}
 use Rattle.builder.specs.Request.{Placed, allMarks, allSites, allSums, siteNote, snSites}
-use Rattle.builder.proofs.Placing.{SiteFrom, Standing, Placing}
+use Rattle.builder.proofs.Placing.{SiteFrom, Placing}
 
 -- the atom after a chain's last
 abbrev pub endOf : Placed → ℕ

@@ -1,25 +1,25 @@
 -- A template with its chains is drawn without failing: each chain stands where it is said to, with its carbons at its indices.
 -- Assumes nothing.
-use Prim.Native.Nat.{ℕ, zero, suc, _+_, _-_, _*_, _≤_, _<_}
+use Prim.Native.Nat.{ℕ, suc, _+_, _≤_, _<_}
 use native.Mathlib.Omega.{arith}
 use mathlib.Core.Path.{_≡_, refl, sym, ap, _∙_, subst}
-use mathlib.Core.Bool.{Bool, true, false, cond, not, _||_, _&&_, false≢true}
+use mathlib.Core.Bool.{Bool, true, false, cond, false≢true}
 use mathlib.Core.Option.{Option, none, some}
 use mathlib.Core.List.{List, [], _∷_, _++_, map}
 use mathlib.Core.List.{append-nil}
 use mathlib.Core.Path.{fun-ext}
 use mathlib.Core.Logic.{_≢_}
 use lib.ListN.{length, length-append}
-use lib.Dec.{eqb, ltb, leb}
+use lib.Dec.{eqb}
 use borrow.Author.Tests.{eqb-false}
 use Rattle.record.specs.Chain.{Chain}
 use Rattle.record.proofs.Sound.{Sound}
 use Rattle.reading.specs.Ascii.{ascii}
-use Rattle.reading.specs.Row.{Link, link, Row, row}
+use Rattle.reading.specs.Row.{Row, row}
 use Rattle.reading.specs.Piece.{Piece, atom, mark, dot, lpar, rpar}
-use Rattle.reading.specs.Machine.{Phase, fresh, opened, after, marked, State, st, Out, fail, ok, labels, joins, placed as put, step, prepend, andThen}
-use Rattle.reading.specs.Part.{Part, hung, partOf, place as at}
-use Rattle.reading.specs.Chain.{chainRows, chainEnd, chainLast, floatRows, floatEnd, floatLast}
+use Rattle.reading.specs.Machine.{Phase, fresh, opened, after, marked, State, st, ok, labels, joins, placed as put, step, prepend, andThen}
+use Rattle.reading.specs.Part.{Part, hung, place as at}
+use Rattle.reading.specs.Chain.{chainEnd, chainLast, floatLast}
 use Rattle.reading.specs.Template as template
 use Rattle.reading.specs.Template.{Item, piece, part, drawPart, drawChain, draw, drawAll}
 use Rattle.reading.proofs.Reading.{andThen-assoc, prepend-nil, then-ok}
@@ -31,10 +31,10 @@ use Rattle.chain.specs.declared.Role.{Role}
 use Rattle.chain.specs.declared.Role.the-variants as role
 use Rattle.chain.specs.Lists.{anyOf, allOf}
 use Rattle.chain.specs.Refusals.{wrongKind, placeRefusal, drawRefusal}
-use Rattle.chain.specs.Drawing.{chainDrawn, carbons, floats, carbonAtoms, atomsEnd, variables, orNone}
+use Rattle.chain.specs.Drawing.{chainDrawn, carbons, floats, carbonAtoms, atomsEnd, variables}
 use Rattle.chain.proofs.Lists.{all-append}
 use Rattle.chain.proofs.Accepted.{Drawable}
-use Rattle.chain.proofs.Atoms.{atoms-most, atomsEnd-le, chainEnd-le}
+use Rattle.chain.proofs.Few.{atoms-most}
 use Rattle.builder.specs.Template.{Element, fixed, tail, slot, chain}
 use Rattle.builder.specs.Request.{chainAt, unlessEmpty, nonempty, fixedPieces, tailPart, chainItem, slotOxygen, itemsOf, allItems, Placed, atomsOfPiece, atomsOfPieces, siteOf, place, atomsAfter, variablesAfter, placedFrom}
 use Rattle.builder.proofs.Templates.{Turn, no, to, turnPiece, andTurn, turnPieces, turnTail, turnChain, turnElement, turnAll, mostAtoms, sameRole, inRole, isTailed}
@@ -253,7 +253,7 @@ abbrev placedAt : ℕ → Role → Option ℕ → ℕ → ℕ → Chain → Plac
 placedAt sn r s n v d = record { sn = sn; role = r; chain = d; first = n; site = s; variable = v }
 
 made-chain : (sn : ℕ) (r : Role) (s : Option ℕ) (d : Chain) → Drawable r d → (n v cur : ℕ) (stk : List ℕ) → SiteFrom n n s
-    → Made (template.chain (chainDrawn r d) ∷ []) (placedAt sn r s n v d ∷ []) n v cur stk after (atomsEnd r d n) (v + variables d) 25000 (length stk) after
+    → Made (template.chain (chainDrawn r d) ∷ []) (placedAt sn r s n v d ∷ []) n v cur stk after (atomsEnd r d n) (v + variables d) 701 (length stk) after
 unfolding chain-drawn
 made-chain sn r s d a n v cur stk h =
     record {
@@ -272,7 +272,7 @@ made-oxygen n v cur stk ph =
 -- a slot with a chain: the chain's site is the O before it
 made-slot : (sn : ℕ) (d : Chain) → Drawable role.Slot d → (n v cur : ℕ) (stk : List ℕ) (ph : Phase)
     → Made (slotOxygen ∷ template.chain (chainDrawn role.Slot d) ∷ []) (placedAt sn role.Slot (some n) (suc n) v d ∷ []) n v cur stk ph (atomsEnd role.Slot d (suc n))
-    (v + variables d) 25001 (length stk) after
+    (v + variables d) 702 (length stk) after
 unfolding drawn-append
 made-slot sn d a n v cur stk ph =
     go (made-oxygen n v cur stk ph .drawn) (λ cur′ stk′. made-chain sn role.Slot none d a (suc n) v cur′ stk′ tt)
@@ -280,15 +280,15 @@ made-slot sn d a n v cur stk ph =
     go : (x : Drawn (slotOxygen ∷ []) n cur stk ph (suc n) (length stk) after)
         → ((cur′ : ℕ) (stk′ : List ℕ)
         → Made (template.chain (chainDrawn role.Slot d) ∷ []) (placedAt sn role.Slot none (suc n) v d ∷ []) (suc n) v cur′ stk′ after (atomsEnd role.Slot d (suc n))
-        (v + variables d) 25000 (length stk′) after)
+        (v + variables d) 701 (length stk′) after)
         → Made (slotOxygen ∷ template.chain (chainDrawn role.Slot d) ∷ []) (placedAt sn role.Slot (some n) (suc n) v d ∷ []) n v cur stk ph (atomsEnd role.Slot d (suc n))
-        (v + variables d) 25001 (length stk) after
+        (v + variables d) 702 (length stk) after
     go x f = both (rw (x .deep) at (f (x .current) (x .stack)))
       where
         both : Made (template.chain (chainDrawn role.Slot d) ∷ []) (placedAt sn role.Slot none (suc n) v d ∷ []) (suc n) v (x .current) (x .stack) after
-            (atomsEnd role.Slot d (suc n)) (v + variables d) 25000 (length stk) after
+            (atomsEnd role.Slot d (suc n)) (v + variables d) 701 (length stk) after
             → Made (slotOxygen ∷ template.chain (chainDrawn role.Slot d) ∷ []) (placedAt sn role.Slot (some n) (suc n) v d ∷ []) n v cur stk ph
-            (atomsEnd role.Slot d (suc n)) (v + variables d) 25001 (length stk) after
+            (atomsEnd role.Slot d (suc n)) (v + variables d) 702 (length stk) after
         both y =
             record {
               drawn = drawn-append x (y .drawn);
@@ -351,8 +351,8 @@ made-tail t f n v cur stk after = made-plain v 255 (omega (arith, f .few)) (part
 made-tail t f n v cur stk (marked m) = tt
 
 made-slot-or : (sn : ℕ) (o : Option Chain) → ((d : Chain) → o ≡ some d → Drawable role.Slot d) → (n v cur : ℕ) (stk : List ℕ) (ph : Phase)
-    → Made (slotOxygen ∷ chainItem role.Slot o) (place sn role.Slot (some n) (suc n) v o) n v cur stk ph (atomsAfter role.Slot (suc n) o) (variablesAfter v o) 25001 (length stk) after
-made-slot-or sn none h n v cur stk ph = made-more 25001 (omega arith) (made-oxygen n v cur stk ph)
+    → Made (slotOxygen ∷ chainItem role.Slot o) (place sn role.Slot (some n) (suc n) v o) n v cur stk ph (atomsAfter role.Slot (suc n) o) (variablesAfter v o) 702 (length stk) after
+made-slot-or sn none h n v cur stk ph = made-more 702 (omega arith) (made-oxygen n v cur stk ph)
 made-slot-or sn (some d) h n v cur stk ph = made-slot sn d (h d refl) n v cur stk ph
 
 site-here : (r : Role) (n : ℕ) → SiteFrom n n (siteOf r n)
@@ -361,11 +361,11 @@ site-here role.Acyl n = (omega arith, omega arith)
 site-here role.Base n = tt
 
 made-chain-or : (sn : ℕ) (r : Role) (o : Option Chain) → ((d : Chain) → o ≡ some d → Drawable r d) → (n v cur : ℕ) (stk : List ℕ) (ph : Phase)
-    → MadeTo (chainItem r o) (place sn r (siteOf r n) n v o) n v cur stk ph (atomsAfter r n o) (variablesAfter v o) 25000 (turnChain (length stk) ph)
+    → MadeTo (chainItem r o) (place sn r (siteOf r n) n v o) n v cur stk ph (atomsAfter r n o) (variablesAfter v o) 701 (turnChain (length stk) ph)
 unfolding turnChain
 made-chain-or sn r o h n v cur stk fresh = tt
 made-chain-or sn r o h n v cur stk opened = tt
-made-chain-or sn r none h n v cur stk after = made-more 25000 (omega arith) (made-nothing n v cur stk after)
+made-chain-or sn r none h n v cur stk after = made-more 701 (omega arith) (made-nothing n v cur stk after)
 made-chain-or sn r (some d) h n v cur stk after = made-chain sn r (siteOf r n) d (h d refl) n v cur stk (site-here r n)
 made-chain-or sn r o h n v cur stk (marked m) = tt
 
@@ -420,7 +420,7 @@ module _ (t : List ℕ) (ds : List Chain) (ρ : ℕ → Role) (accepts : (sn : �
       let o : Option Chain = nonempty sn ds in
       let m : ℕ = atomsAfter role.Slot (suc n) o in
       let w : ℕ = variablesAfter v o in
-      made-then (slotOxygen ∷ chainItem role.Slot o) (allItems t ds es) (place sn role.Slot (some n) (suc n) v o) (placedFrom t ds m w es) n v cur stk ph m w 25001
+      made-then (slotOxygen ∷ chainItem role.Slot o) (allItems t ds es) (place sn role.Slot (some n) (suc n) v o) (placedFrom t ds m w es) n v cur stk ph m w 702
       (atomsTo t ds m es) (variablesTo ds w es) (mostAtoms es) (to (length stk) after) (λ k′ ph′. turnAll es k′ ph′)
       (made-slot-or sn o (drawable-at sn role.Slot (and-left (sameRole (ρ sn) role.Slot) (allOf (inRole ρ) es) e)) n v cur stk ph)
       (λ cur′ stk′ ph′. made-all es (and-right (sameRole (ρ sn) role.Slot) (allOf (inRole ρ) es) e) h m w cur′ stk′ ph′)
@@ -428,7 +428,7 @@ module _ (t : List ℕ) (ds : List Chain) (ρ : ℕ → Role) (accepts : (sn : �
       let o : Option Chain = nonempty sn ds in
       let m : ℕ = atomsAfter r n o in
       let w : ℕ = variablesAfter v o in
-      made-then (chainItem r o) (allItems t ds es) (place sn r (siteOf r n) n v o) (placedFrom t ds m w es) n v cur stk ph m w 25000
+      made-then (chainItem r o) (allItems t ds es) (place sn r (siteOf r n) n v o) (placedFrom t ds m w es) n v cur stk ph m w 701
       (atomsTo t ds m es) (variablesTo ds w es) (mostAtoms es) (turnChain (length stk) ph) (λ k′ ph′. turnAll es k′ ph′)
       (made-chain-or sn r o (drawable-at sn r (and-left (sameRole (ρ sn) r) (allOf (inRole ρ) es) e)) n v cur stk ph)
       (λ cur′ stk′ ph′. made-all es (and-right (sameRole (ρ sn) r) (allOf (inRole ρ) es) e) h m w cur′ stk′ ph′)

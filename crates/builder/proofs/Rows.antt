@@ -1,24 +1,22 @@
 -- The rows of a drawn chain: as many as its atoms, with a C at the atom of each of its carbons.
 -- Assumes nothing.
-use Prim.Native.Nat.{ℕ, zero, suc, _+_, _-_, _*_, _≤_, _<_}
+use Prim.Native.Nat.{ℕ, zero, suc, _+_, _-_, _≤_, _<_}
 use native.Mathlib.Omega.{arith}
-use mathlib.Core.Path.{_≡_, refl, sym, ap, _∙_}
+use mathlib.Core.Path.{_≡_, ap, _∙_}
 use mathlib.Core.Bool.{Bool, true, false}
 use mathlib.Core.Option.{Option, none, some}
-use mathlib.Core.List.{List, [], _∷_, _++_, map, append-assoc}
+use mathlib.Core.List.{List, [], _∷_, _++_, append-assoc}
 use lib.ListN.{length, length-append, length-map}
 use Rattle.record.specs.Chain.{Chain}
 use Rattle.reading.specs.Ascii.{ascii}
-use Rattle.reading.specs.Row.{Link, link, Row, row}
+use Rattle.reading.specs.Row.{link, Row, row}
 use Rattle.reading.specs.Machine.{plainly}
 use Rattle.reading.specs.Part.{Part, place, moveRow, hung}
 use Rattle.reading.specs.Chain.{Ring, Carbon, partsEnd, bridgeEnd, carbonEnd, carbonLast, chainEnd, atomFrom, atomOf, partRows, bridgeRows, ringLinks, carbonRows, chainRows, floatRows, floatEnd}
-use Rattle.reading.proofs.PartingLaws.{All, all-map}
+use Rattle.reading.proofs.PartingLaws.{All}
 use Rattle.reading.proofs.Part.{part-size}
 use Rattle.reading.proofs.Frame.{Hangs}
-use Rattle.reading.proofs.Chain.{partsEnd-le, carbonEnd-lt}
 use Rattle.chain.specs.declared.Role.{Role}
-use Rattle.chain.specs.Lists.{valuesFrom}
 use Rattle.chain.specs.Features.{firstDrawn}
 use Rattle.chain.specs.Drawing.{carbons, floats, ringPairs, carbonAtoms, atomsEnd}
 use Rattle.chain.proofs.Lists.{all-values}

@@ -1,28 +1,28 @@
 -- The chains of a template by rising sn, and what holds of every chain that a template places.
 -- Assumes nothing.
-use Prim.Native.Nat.{ℕ, zero, suc, _+_, _≤_, _<_}
+use Prim.Native.Nat.{ℕ, suc, _+_, _≤_, _<_}
 use native.Mathlib.Omega.{arith}
-use mathlib.Core.Path.{_≡_, refl, sym, ap, ap₂, _∙_}
+use mathlib.Core.Path.{_≡_, refl, sym, ap, _∙_}
 use mathlib.Core.Logic.{_≢_}
-use mathlib.Core.Bool.{Bool, true, false, cond, not, _||_, _&&_, false≢true}
+use mathlib.Core.Bool.{Bool, true, false, cond, not, _||_, false≢true}
 use mathlib.Core.Option.{Option, none, some}
 use mathlib.Core.List.{List, [], _∷_, _++_, map}
 use lib.ListN.{length, length-append}
-use lib.Dec.{eqb, ltb, leb}
-use borrow.Author.Tests.{eqb-true, eqb-false, eq-eqb, ne-eqb, leb-true, leb-false, not-true}
+use lib.Dec.{eqb, leb}
+use borrow.Author.Tests.{eqb-false, eq-eqb, leb-true, leb-false, not-true}
 use Rattle.record.specs.Chain.{Chain}
 use Rattle.reading.specs.Lexer.{memb}
 use Rattle.reading.specs.Piece.{Piece}
-use Rattle.reading.specs.Molecule.{At, at, atomsOf, notesOf}
+use Rattle.reading.specs.Molecule.{atomsOf, notesOf}
 use Rattle.reading.specs.Line.{distinct, times}
 use Rattle.reading.proofs.PartingLaws.{All, all-map, all-any, and-left, and-right, and-both}
 use Rattle.reading.proofs.ListLaws.{times-all, all-times, distinct-times}
 use Rattle.chain.specs.declared.Role.{Role}
 use Rattle.chain.specs.declared.Role.the-variants as role
 use Rattle.chain.specs.Lists.{anyOf}
-use Rattle.chain.specs.Drawing.{carbons, atomsEnd}
-use Rattle.chain.proofs.Lists.{or-left, or-right, Rises, rises-from, rises-to, rises-le, all-append}
-use Rattle.chain.proofs.Atoms.{chainEnd-le, atomsEnd-le, atomsOf-append, notesOf-append}
+use Rattle.chain.specs.Drawing.{carbons}
+use Rattle.chain.proofs.Lists.{or-left, or-right, Rises, rises-from, all-append}
+use Rattle.chain.proofs.Atoms.{chainEnd-le, atomsEnd-le, atomsOf-append}
 use Rattle.builder.specs.Template.{Element, fixed, tail, slot, chain}
 use Rattle.builder.specs.Request.{nonempty, fixedPieces, tailPart, Placed, atomsOfPiece, atomsOfPieces, siteOf, place, atomsAfter, variablesAfter, placedFrom, insertBySn, bySn, siteNote, snSites}
 use Rattle.builder.proofs.Templates.{snsOf, isBase, hasBase, headed, Begins, begins}

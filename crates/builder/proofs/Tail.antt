@@ -1,17 +1,16 @@
 -- A tail that reads by itself has no more atoms than bytes.
 -- Assumes nothing.
-use Prim.Native.Nat.{ℕ, zero, suc, _+_, _≤_, _<_}
+use Prim.Native.Nat.{ℕ, _≤_}
 use native.Mathlib.Omega.{arith}
-use mathlib.Core.Path.{_≡_, refl, sym, ap, _∙_, subst}
-use mathlib.Core.Option.{Option, none, some}
+use mathlib.Core.Path.{_≡_, ap, subst}
+use mathlib.Core.Option.{some}
 use mathlib.Core.List.{List, [], _∷_, _++_}
 use lib.ListN.{length, length-append}
 use Rattle.reading.specs.Row.{Row}
 use Rattle.reading.specs.Piece.{Piece, atom, mark, dot, lpar, rpar, showLabels, showPiece, show}
 use Rattle.reading.specs.Machine.{fresh, opened, after, marked, State, st, Out, fail, ok, Labelled, stop, links, labels, joins, placed, step}
 use Rattle.reading.specs.Part.{Part, partOf}
-use Rattle.reading.proofs.Reading.{Reads, Steps, Split, reads-split, reads-nil-only}
-use Rattle.reading.proofs.Frame.{Hangs}
+use Rattle.reading.proofs.Reading.{Reads, Split, reads-split, reads-nil-only}
 use Rattle.reading.proofs.WellFormed.{AtomBytes, letter, chlorine, bromine, bracket, AllWell}
 use Rattle.reading.proofs.Part.{PartFrom, part-from, part-size}
 use Rattle.chain.specs.Drawing.{orNone}

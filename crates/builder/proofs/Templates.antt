@@ -1,30 +1,29 @@
 -- What is asked of a template, as tests that compute, so that one theorem serves every template: the eight of 01 pass them.
 -- Assumes nothing.
-use Prim.Native.Nat.{ℕ, zero, suc, _+_, _^_, _≤_, _<_}
-use mathlib.Core.Path.{_≡_, refl, sym, ap, _∙_}
-use mathlib.Core.Bool.{Bool, true, false, cond, not, _||_, _&&_, false≢true}
+use Prim.Native.Nat.{ℕ, zero, suc, _+_}
+use mathlib.Core.Path.{_≡_, refl}
+use mathlib.Core.Bool.{Bool, true, false, cond, not, _||_, false≢true}
 use mathlib.Core.Option.{Option, none, some}
-use mathlib.Core.List.{List, [], _∷_, _++_}
+use mathlib.Core.List.{List, [], _∷_}
 use lib.ListN.{length}
-use lib.Dec.{eqb, ltb, leb}
+use lib.Dec.{ltb, leb}
 use Rattle.scan.specs.Part.{sameBytes}
 use Rattle.scan.proofs.Laws.{same-equal}
 use Rattle.reading.specs.Ascii.{ascii}
 use Rattle.reading.specs.Piece.{Piece, atom, mark, dot, lpar, rpar}
-use Rattle.reading.specs.Lexer.{piecesOf, memb}
+use Rattle.reading.specs.Lexer.{memb}
 use Rattle.reading.specs.Parting.{_>>=_}
 use Rattle.reading.proofs.Part.{none≢some}
 use Rattle.reading.specs.Machine.{Phase, fresh, opened, after, marked, plainly}
 use Rattle.reading.specs.Line.{below, distinct}
-use Rattle.reading.proofs.PartingLaws.{and-left, and-right}
 use Rattle.chain.specs.declared.Role.{Role}
 use Rattle.chain.specs.declared.Role.the-variants as role
 use Rattle.chain.specs.Lists.{anyOf, allOf, valuesFrom}
 use Rattle.chain.proofs.Branches.{unlabelled}
 use Rattle.builder.specs.declared.Class.{Class}
 use Rattle.builder.specs.declared.Class.the-variants.{Fa, Gl1, Gl2, Gl3, Gp, Cl, Sb, Sa}
-use Rattle.builder.specs.Template.{Element, fixed, tail, slot, chain, elements, glycerol, most, roleOf, hasTail}
-use Rattle.builder.specs.Request.{fixedPieces, atomsOfPiece, atomsOfPieces}
+use Rattle.builder.specs.Template.{Element, fixed, tail, slot, chain, elements, most, roleOf, hasTail}
+use Rattle.builder.specs.Request.{fixedPieces, atomsOfPieces}
 
 -- ---- a template's own pieces are a run
 
@@ -235,8 +234,8 @@ unfolding atomsOfPieces fixedPieces
 mostAtoms [] = 0
 mostAtoms (fixed b ∷ es) = atomsOfPieces (fixedPieces b) + mostAtoms es
 mostAtoms (tail ∷ es) = 255 + mostAtoms es
-mostAtoms (slot sn ∷ es) = 25001 + mostAtoms es
-mostAtoms (chain sn r ∷ es) = 25000 + mostAtoms es
+mostAtoms (slot sn ∷ es) = 702 + mostAtoms es
+mostAtoms (chain sn r ∷ es) = 701 + mostAtoms es
 
 -- ---- all tests
 
@@ -251,7 +250,7 @@ pub record Fitting (m : ℕ) (ρ : ℕ → Role) (tailed : Bool) (es : List Elem
   pub few : leb (length (snsOf es)) 4 ≡ true
   pub base : (not (anyOf hasBase es) || headed es) ≡ true
   pub tails : anyOf isTailed es ≡ tailed
-  pub small : leb (mostAtoms es) 200000 ≡ true
+  pub small : leb (mostAtoms es) 4000 ≡ true
   pub places : allOf (λ sn. memb sn (snsOf es)) (valuesFrom (λ k. k) 1 m) ≡ true
 
 -- THE EIGHT TEMPLATES

@@ -1,27 +1,24 @@
 -- The text of a template with its chains reads as its drawing.
 -- Assumes nothing.
-use Prim.Native.Nat.{ℕ, zero, suc, _+_, _*_, _≤_, _<_}
+use Prim.Native.Nat.{ℕ, _+_, _*_, _≤_}
 use native.Mathlib.Omega.{arith}
-use mathlib.Core.Path.{_≡_, refl, sym, ap, _∙_, subst}
-use mathlib.Core.Bool.{Bool, true, false, cond, _&&_, false≢true}
+use mathlib.Core.Path.{_≡_, refl, sym, _∙_}
+use mathlib.Core.Bool.{Bool, true, false≢true}
 use mathlib.Core.Option.{Option, none, some}
 use mathlib.Core.List.{List, [], _∷_, _++_, map}
 use lib.ListN.{length, length-map}
-use lib.Dec.{leb}
 use borrow.Author.Tests.{leb-true}
 use Rattle.record.specs.Chain.{Chain}
 use Rattle.reading.specs.Ascii.{ascii}
-use Rattle.reading.specs.Row.{Row}
 use Rattle.reading.specs.Piece.{Piece, atom, mark, dot, lpar, rpar, show}
 use Rattle.reading.specs.Lexer.{memb, organic, between, lex, piecesOf}
 use Rattle.reading.specs.Text.{readText}
 use Rattle.reading.specs.Chain.{ring}
-use Rattle.reading.specs.Template as template
 use Rattle.reading.specs.Template.{Item, piece, part, nextLabel, templatePieces}
 use Rattle.reading.proofs.WellFormed.{AllWell, letter}
 use Rattle.reading.proofs.ShowLex.{show-lex}
 use Rattle.reading.proofs.PartingLaws.{and-left, and-right}
-use Rattle.reading.proofs.Template.{Bare, ChainFits, ItemFits, ItemsFit}
+use Rattle.reading.proofs.Template.{ItemFits, ItemsFit}
 use Rattle.reading.proofs.TemplateText.{ItemWell, ItemsWell, labelEnd, template-text}
 use Rattle.chain.specs.declared.Role.{Role}
 use Rattle.chain.specs.declared.Role.the-variants as role

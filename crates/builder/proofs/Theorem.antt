@@ -1,45 +1,43 @@
 -- DEMAND 3 for every request that is accepted: one proof for all templates that pass the tests, of which the eight classes are instances.
 -- Assumes nothing.
-use Prim.Native.Nat.{ℕ, zero, suc, _+_, _-_, _*_, _^_, _≤_, _<_}
+use Prim.Native.Nat.{ℕ, _+_, _-_, _≤_, _<_}
 use native.Mathlib.Omega.{arith}
-use mathlib.Core.Path.{_≡_, refl, sym, ap, _∙_, subst}
-use mathlib.Core.Logic.{_≢_}
+use mathlib.Core.Path.{_≡_, refl, sym, ap, _∙_}
 use mathlib.Core.Bool.{Bool, true, false, cond, not, _||_, _&&_, false≢true}
-use mathlib.Core.Option.{Option, none, some}
+use mathlib.Core.Option.{none, some}
 use mathlib.Core.List.{List, [], _∷_, _++_, map}
 use lib.ListN.{length}
-use lib.Dec.{eqb, ltb, leb}
-use borrow.Author.Tests.{leb-true, ltb-true, ne-eqb}
+use lib.Dec.{ltb}
+use borrow.Author.Tests.{leb-true, ltb-true}
 use Rattle.record.specs.Chain.{Chain}
 use Rattle.reading.specs.Ascii.{ascii}
 use Rattle.reading.specs.Lexer.{memb}
 use Rattle.reading.specs.Row.{Row}
-use Rattle.reading.specs.Molecule.{At, at, atomsOf, notesOf, look, Sum, variablesOf, numberOf, sumSet, Molecule, moleculeOf}
-use Rattle.reading.specs.Line.{flat, summed, below, distinct, rising, once, readLine}
+use Rattle.reading.specs.Molecule.{At, at, atomsOf, notesOf, look, variablesOf, sumSet, Molecule, moleculeOf}
+use Rattle.reading.specs.Line.{flat, below, distinct, rising, once}
 use Rattle.reading.specs.Chain.{chainEnd}
-use Rattle.reading.specs.Template.{drawn}
-use Rattle.reading.proofs.PartingLaws.{All, all-map, NonEmpty, and-left, and-right, and-both}
+use Rattle.reading.proofs.PartingLaws.{All, all-map, NonEmpty, and-left, and-right}
 use Rattle.reading.proofs.ListLaws.{below-all, all-below, once-self}
 use Rattle.reading.proofs.BlockLaws.{LabelFits}
 use Rattle.reading.proofs.LineLaws.{WellFormed, line-reads-back}
 use Rattle.chain.specs.declared.Role.{Role}
 use Rattle.chain.specs.declared.Role.the-variants as role
 use Rattle.chain.specs.Lists.{anyOf, allOf}
-use Rattle.chain.specs.Features.{firstDrawn, drawnCount}
+use Rattle.chain.specs.Features.{firstDrawn}
 use Rattle.chain.specs.Drawing as draw
 use Rattle.chain.specs.Drawing.{carbons, carbonAtoms}
-use Rattle.chain.specs.Counts.{total, copies, Counts, Meets, methyls}
-use Rattle.chain.proofs.Lists.{Rises, rises-from, rises-to, rises-within, rises-distinct, rises-rising, rises-none, all-both}
+use Rattle.chain.specs.Counts.{total, copies, Meets}
+use Rattle.chain.proofs.Lists.{Rises, rises-within, rises-distinct, rises-rising, rises-none, all-both}
 use Rattle.chain.proofs.Accepted.{Drawable}
-use Rattle.chain.proofs.Atoms.{carbon-atoms-rise, carbon-atoms-count, carbon-atoms-distinct, atomsEnd-le}
+use Rattle.chain.proofs.Atoms.{carbon-atoms-rise, carbon-atoms-count, atomsEnd-le}
 use Rattle.chain.proofs.Counts.{SumStands, Chosen, written-add-up}
 use Rattle.builder.specs.declared.Class.{Class}
 use Rattle.builder.specs.Template.{Element, elements, fewest, most as mostTokens, roleOf, hasTail}
-use Rattle.builder.specs.Request.{chainAt, Placed, placedFrom, placed, allMarks, allSites, allSums, bySn, headCarbons, indicesOf, snSites, labels, orNoRows, allItems, rowsDrawn, moleculeDrawn, textOf, lineOf}
-use Rattle.builder.specs.Promise.{Each, bytesAt, variableAt, sumsIn, chainsFrom, namesOf, Listed, Choice, AddsUp, Promise}
+use Rattle.builder.specs.Request.{chainAt, Placed, placedFrom, placed, allMarks, allSites, allSums, bySn, headCarbons, indicesOf, snSites, labels, orNoRows, rowsDrawn, moleculeDrawn, textOf, lineOf}
+use Rattle.builder.specs.Promise.{Each, bytesAt, variableAt, Listed, Choice, AddsUp, Promise}
 use Rattle.builder.proofs.Templates.{snsOf, isBase, hasBase, headed, Fitting, fitting}
-use Rattle.builder.proofs.Rows.{rowBytes, Carbonic}
-use Rattle.builder.proofs.Placing.{Accepts, TailFits, Placing, InRows, variablesTo}
+use Rattle.builder.proofs.Rows.{Carbonic}
+use Rattle.builder.proofs.Placing.{Accepts, InRows, variablesTo}
 use Rattle.builder.proofs.Whole.{Stands, stands}
 use Rattle.builder.proofs.Text.{text-reads}
 use Rattle.builder.proofs.Notes.{endOf, placing-within, placing-drawable, all-marks-rise, all-variables-rise, all-summed, all-sums-stand, variables-most, all-sites-rise, all-sites-within, all-sites-flat, all-sites-some, sn-sites-rise, own-marks, look-outside, marks-after, total-agrees, all-chosen, own-sums}

@@ -1,28 +1,27 @@
 -- The drawing of a whole template: its rows, and where its chains stand among them.
 -- Assumes nothing.
-use Prim.Native.Nat.{ℕ, zero, suc, _+_, _≤_, _<_}
+use Prim.Native.Nat.{ℕ, zero, suc, _≤_}
 use native.Mathlib.Omega.{arith}
 use mathlib.Core.Path.{_≡_, refl, sym, ap, _∙_}
-use mathlib.Core.Bool.{Bool, true, false, cond, _&&_, false≢true}
-use mathlib.Core.Option.{Option, none, some}
+use mathlib.Core.Bool.{Bool, true, false≢true}
+use mathlib.Core.Option.{some}
 use mathlib.Core.List.{List, [], _∷_, _++_, map}
 use lib.ListN.{length}
-use lib.Dec.{leb}
 use borrow.Author.Tests.{leb-true}
 use Rattle.record.specs.Chain.{Chain}
 use Rattle.reading.specs.Ascii.{ascii}
 use Rattle.reading.specs.Row.{Link, link, Row, row}
-use Rattle.reading.specs.Piece.{Piece, atom, mark, dot, lpar, rpar}
-use Rattle.reading.specs.Machine.{Phase, fresh, opened, after, marked, State, st, Out, fail, ok, labels, joins, placed, step, prepend, andThen, whole}
+use Rattle.reading.specs.Piece.{Piece}
+use Rattle.reading.specs.Machine.{fresh, opened, after, marked, State, st, Out, fail, ok, labels, joins, placed, step, prepend, andThen, whole}
 use Rattle.reading.specs.Template.{Item, piece, draw, drawAll, drawn}
 use Rattle.reading.proofs.Reading.{fail≢ok}
 use Rattle.reading.proofs.PartingLaws.{All}
 use Rattle.chain.specs.declared.Role.{Role}
 use Rattle.builder.specs.Template.{Element, fixed, tail, slot, chain}
-use Rattle.builder.specs.Request.{chainAt, fixedPieces, itemsOf, allItems, Placed, placedFrom}
+use Rattle.builder.specs.Request.{chainAt, fixedPieces, itemsOf, allItems, placedFrom}
 use Rattle.builder.proofs.Templates.{Turn, no, to, turnAll, ends, Begins, begins, headed, mostAtoms, Fitting}
 use Rattle.builder.proofs.Rows.{rowBytes, Carbonic}
-use Rattle.builder.proofs.Placing.{Accepts, TailFits, Placing, InRows, Made, MadeTo, Drawn, made-all, atomsTo, variablesTo}
+use Rattle.builder.proofs.Placing.{Accepts, TailFits, Placing, InRows, Made, MadeTo, made-all, atomsTo, variablesTo}
 
 -- ---- the first two atoms
 
@@ -62,7 +61,7 @@ pub record Stands (t : List ℕ) (ds : List Chain) (es : List Element) : Type 0 
   pub is : drawn (allItems t ds es) ≡ some rows
   pub placing : Placing 0 (length rows) 0 (variablesTo ds 0 es) (placedFrom t ds 0 0 es)
   pub carbons : All (InRows 0 rows) (placedFrom t ds 0 0 es)
-  pub few : length rows ≤ 200000
+  pub few : length rows ≤ 4000
   pub heads : headed es ≡ true → Carbonic 0 rows 0 × Carbonic 0 rows 1
 
 whole-is : (rs : List Row) (n cur : ℕ) (stk : List ℕ) → length stk ≡ 0 → whole (ok rs (st n cur stk [] after)) ≡ some rs
@@ -84,7 +83,7 @@ stands t ds most ρ tailed es f accepts h =
           is = ap whole (m .drawn .does) ∙ whole-is (m .drawn .rows) (atomsTo t ds 0 es) (m .drawn .current) (m .drawn .stack) (m .drawn .deep);
           placing = rw n (m .placing);
           carbons = m .carbons;
-          few = omega (arith, m .few, leb-true (mostAtoms es) 200000 (f .small));
+          few = omega (arith, m .few, leb-true (mostAtoms es) 4000 (f .small));
           heads = λ q. carbonic (headed-carbons t ds es (m .drawn .rows) _ q (m .drawn .does));
         }
       where

@@ -1,20 +1,19 @@
 -- A chain with no refusal for its place, and what that says of its features.
 -- Assumes nothing.
-use Prim.Native.Nat.{ℕ, zero, suc, _+_, _-_, _*_, _≤_, _<_, max, min}
+use Prim.Native.Nat.{ℕ, suc, _+_, _-_, _*_, _≤_, _<_, min}
 use native.Mathlib.Omega.{arith}
-use mathlib.Core.Path.{_≡_, refl, sym, ap, _∙_}
+use mathlib.Core.Path.{_≡_, refl, sym, ap}
 use mathlib.Core.Logic.{_≢_}
 use mathlib.Core.Bool.{Bool, true, false, cond, not, _||_, _&&_, false≢true}
 use mathlib.Core.List.{List, [], _∷_, _++_, map}
-use lib.ListN.{length}
 use lib.Dec.{eqb, ltb, leb}
-use borrow.Author.Tests.{eqb-true, eqb-false, eq-eqb, ne-eqb, lt-ltb, le-ltb, ltb-true, ltb-false, leb-true, leb-false, not-false}
+use borrow.Author.Tests.{eqb-true, eqb-false, ne-eqb, ltb-true, ltb-false, leb-true, leb-false, not-false}
 use Rattle.record.specs.declared.Bridge.{Bridge}
 use Rattle.record.specs.declared.Bridge.the-variants.{Epoxide, Carbocycle}
 use Rattle.record.specs.declared.DbPos.{DbPos}
 use Rattle.record.specs.declared.Mod.{Mod}
 use Rattle.record.specs.declared.Ring.{Ring}
-use Rattle.record.specs.Chain.{Chain, Within}
+use Rattle.record.specs.Chain.{Chain}
 use Rattle.record.proofs.Sound.{Sound, RingSound, Spans, Every, Reduced}
 use Rattle.reading.proofs.PartingLaws.{All, all-map, and-left, and-right, NonEmpty}
 use Rattle.chain.specs.declared.Role.{Role}
@@ -22,7 +21,7 @@ use Rattle.chain.specs.declared.Role.the-variants.{Slot, Acyl, Base}
 use Rattle.chain.specs.Lists.{anyOf, isEmpty, anyTwo, largest}
 use Rattle.chain.specs.Features.{firstDrawn, isAcyl, doubles, groupsOn, floating, prefixEnd, literalEnd, remaining, flexibleCount, drawnCount, siteSkip}
 use Rattle.chain.specs.Refusals.{wrongKind, doubleOff, groupOff, ringOff, groupOnCarbonyl, pinTooFar, offChain, isEpoxide, epoxideOn, smallRing, sameRing, sameBond, etherBase, clashes, tailTooShort, noSite, placeRefusal, drawRefusal}
-use Rattle.chain.proofs.Lists.{or-left, or-right, none-of, all-both, all-left, all-right, all-of-mapped, largest-from, largest-all}
+use Rattle.chain.proofs.Lists.{or-left, none-of, all-both, all-right, all-of-mapped, largest-from, largest-all}
 
 -- a chain that is drawn in its place: it has carbons, and none of 22, 32, 33 and 12 to 15 is met
 pub record Drawable (r : Role) (d : Chain) : Type 0 where
@@ -109,6 +108,12 @@ rings-stand : (f c : ℕ) (acyl : Bool) (xs : List Ring) → All (λ x. ringOff 
 rings-stand f c acyl [] off small s = tt
 rings-stand f c acyl (x ∷ xs) off small s = (ring-stands f c acyl x (off .0) (small .0) (s .0), rings-stand f c acyl xs (off .1) (small .1) (s .1))
 
+-- carbons are counted from 1
+pub first-one : (r : Role) → 1 ≤ firstDrawn r
+first-one Slot = omega arith
+first-one Acyl = omega arith
+first-one Base = omega arith
+
 -- ---- what holds of a chain that is drawn
 
 module _ (r : Role) (d : Chain) (a : Drawable r d) where
@@ -134,14 +139,6 @@ module _ (r : Role) (d : Chain) (a : Drawable r d) where
       go Slot h = omega (arith, a .carbons)
       go Acyl h = omega (arith, a .carbons)
       go Base h = omega (arith, ltb-false (d .carbon) 4 h)
-
-  first-three : firstDrawn r ≤ 3
-  first-three = go r
-    where
-      go : (r : Role) → firstDrawn r ≤ 3
-      go Slot = omega arith
-      go Acyl = omega arith
-      go Base = omega arith
 
   -- "double bond p unless f ≤ p < c"
   pub doubles-on : All (λ b. (firstDrawn r ≤ b .pos) × (b .pos < d .carbon)) (doubles r d)

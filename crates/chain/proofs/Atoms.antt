@@ -3,33 +3,31 @@
 -- Assumes nothing.
 use Prim.Native.Nat.{ℕ, zero, suc, _+_, _-_, _*_, _≤_, _<_}
 use native.Mathlib.Omega.{arith}
-use mathlib.Core.Path.{_≡_, refl, sym, ap, _∙_}
+use mathlib.Core.Path.{_≡_, refl, ap, _∙_}
 use mathlib.Core.Logic.{_≢_}
-use mathlib.Core.Bool.{Bool, true, false, cond, not}
-use mathlib.Core.List.{List, [], _∷_, _++_, map, append-nil}
-use lib.ListN.{length, length-append, length-drop, drop}
+use mathlib.Core.Bool.{Bool, true, false, cond}
+use mathlib.Core.List.{List, [], _∷_, _++_, append-nil}
+use lib.ListN.{length, length-append, length-drop}
 use lib.Dec.{eqb}
-use borrow.Author.Tests.{eqb-true, eqb-false, eq-eqb, ne-eqb}
+use borrow.Author.Tests.{ne-eqb}
 use Rattle.record.specs.declared.Mod.{Mod}
 use Rattle.record.specs.Chain.{Chain}
-use Rattle.record.proofs.Sound.{Sound}
 use Rattle.reading.specs.Part.{Part}
 use Rattle.reading.specs.Chain as reading
 use Rattle.reading.specs.Chain.{partsEnd, bridgeEnd, carbonEnd, chainEnd, atomFrom, atomOf, floatEnd}
-use Rattle.reading.specs.Molecule.{At, at, atomsOf, notesOf, Sum, sum, variablesOf, numberOf}
-use Rattle.reading.specs.Line.{distinct, times, flat, summed}
-use Rattle.reading.proofs.PartingLaws.{All, all-map, NonEmpty}
+use Rattle.reading.specs.Molecule.{At, at, atomsOf, notesOf, sum}
+use Rattle.reading.specs.Line.{distinct, times, summed}
+use Rattle.reading.proofs.PartingLaws.{All, NonEmpty}
 use Rattle.reading.proofs.ListLaws.{distinct-times}
-use Rattle.reading.proofs.Chain.{partsEnd-le, carbonEnd-lt, atomFrom-le, atomOf-rises}
+use Rattle.reading.proofs.Chain.{carbonEnd-lt, atomFrom-le, atomOf-rises}
 use Rattle.chain.specs.declared.Role.{Role}
 use Rattle.chain.specs.Lists.{valuesFrom}
 use Rattle.chain.specs.Features.{firstDrawn, floating, literalEnd, remaining, flexibleCount, drawnCount, siteSkip}
 use Rattle.chain.specs.Bonds.{bondAt, markOf}
 use Rattle.chain.specs.Drawing.{branches, literal, bare, pairs, flexible, carbons, floats, carbonAtoms, flexibleAtom, markList, marks, variables, sums, siteAtoms, siteLists, sites, atomsEnd}
-use Rattle.chain.proofs.Lists.{Rises, rises-le, rises-from, rises-to, rises-append, rises-within, rises-drop, rises-distinct, rises-values, all-append, all-values, length-values, times-value}
-use Rattle.chain.proofs.Accepted.{Drawable, drawn-most, carbon-most, site-left}
-use Rattle.chain.proofs.Branches.{Branch}
-use Rattle.chain.proofs.Fits.{CarbonFine, carbons-fine, floats-read, length-carbons, length-literal}
+use Rattle.chain.proofs.Lists.{Rises, rises-from, rises-to, rises-append, rises-drop, rises-distinct, rises-values, all-append, all-values, length-values, times-value}
+use Rattle.chain.proofs.Accepted.{Drawable, site-left}
+use Rattle.chain.proofs.Fits.{length-carbons, length-literal}
 
 -- ---- along a chain
 
@@ -313,46 +311,3 @@ module _ (r : Role) (d : Chain) (n : ℕ) where
       unmapped : (gs : List Mod) → NonEmpty (branches gs) → NonEmpty gs
       unmapped [] z = z
       unmapped (g ∷ gs) z = tt
-
--- ---- how many atoms
-
-partsEnd-most : (n : ℕ) (ps : List Part) → All Branch ps → partsEnd n ps ≤ n + 5 * length ps
-unfolding partsEnd
-partsEnd-most n [] h = omega arith
-partsEnd-most n (p ∷ ps) h = omega (arith, h .0 .few, partsEnd-most (n + p .size) ps (h .1))
-
-bridgeEnd-most : (b : Bool) (n : ℕ) → bridgeEnd b n ≤ suc n
-unfolding bridgeEnd
-bridgeEnd-most true n = omega arith
-bridgeEnd-most false n = omega arith
-
-chainEnd-most : (n : ℕ) (cs : List reading.Carbon) → All CarbonFine cs → chainEnd n cs ≤ n + 97 * length cs
-unfolding chainEnd carbonEnd
-chainEnd-most n [] h = omega arith
-chainEnd-most n (c ∷ cs) h =
-    omega (
-      arith,
-      h .0 .few,
-      partsEnd-most (suc n) (c .parts) (h .0 .parts),
-      bridgeEnd-most (c .bridge) (partsEnd (suc n) (c .parts)),
-      chainEnd-most (bridgeEnd (c .bridge) (partsEnd (suc n) (c .parts))) cs (h .1),
-    )
-
-floatEnd-most : (n : ℕ) (ps : List Part) → All Branch ps → floatEnd n ps ≤ n + 6 * length ps
-unfolding floatEnd
-floatEnd-most n [] h = omega arith
-floatEnd-most n (p ∷ ps) h = omega (arith, h .0 .few, floatEnd-most (suc n + p .size) ps (h .1))
-
--- a chain has at most 25,000 atoms: no more than this is needed
-pub atoms-most : (r : Role) (d : Chain) (n : ℕ) → Drawable r d → atomsEnd r d n ≤ n + 25000
-unfolding atomsEnd
-atoms-most r d n a =
-    omega (
-      arith,
-      floatEnd-most (chainEnd n (carbons r d)) (floats d) (floats-read d (a .sound) .0),
-      floats-read d (a .sound) .1,
-      chainEnd-most n (carbons r d) (carbons-fine r d (a .sound)),
-      length-carbons r d,
-      drawn-most r d a,
-      carbon-most r d a,
-    )

@@ -1,16 +1,16 @@
 -- The bonds of a chain: each is written by a mark of 01 or by none, and a bridge stays where an epoxide starts.
 -- Assumes nothing.
-use Prim.Native.Nat.{ℕ, zero, suc, _+_, _-_, _≤_, _<_}
+use Prim.Native.Nat.{ℕ, zero, suc, _+_, _-_, _≤_}
 use native.Mathlib.Omega.{arith}
 use native.Mathlib.Decide.{ℕ-discrete}
-use mathlib.Core.Path.{_≡_, refl, sym, ap, _∙_}
+use mathlib.Core.Path.{_≡_, refl, ap, _∙_}
 use mathlib.Core.Logic.{_≢_}
-use mathlib.Core.Bool.{Bool, true, false, cond, not, _||_, _&&_, false≢true}
-use mathlib.Core.List.{List, [], _∷_, _++_, map}
-use lib.ListN.{length, getD, set}
+use mathlib.Core.Bool.{Bool, true, false, cond, _||_, _&&_, false≢true}
+use mathlib.Core.List.{List, [], _∷_}
+use lib.ListN.{getD, set}
 use lib.Seq.{getD-set-other}
-use lib.Dec.{eqb, ltb, leb}
-use borrow.Author.Tests.{eqb-true, eqb-false, eq-eqb, ne-eqb}
+use lib.Dec.{eqb, ltb}
+use borrow.Author.Tests.{eqb-true, ne-eqb}
 use Rattle.record.specs.declared.Geometry.{Geometry}
 use Rattle.record.specs.declared.Geometry.the-variants.{Unstated, Cis, Trans}
 use Rattle.record.specs.declared.DbPos.{DbPos}
@@ -18,15 +18,15 @@ use Rattle.record.specs.declared.Ring.{Ring}
 use Rattle.record.specs.Chain.{Chain}
 use Rattle.reading.specs.Ascii.{ascii}
 use Rattle.reading.specs.Lexer.{memb, marks}
-use Rattle.reading.proofs.PartingLaws.{All, all-map, and-right}
+use Rattle.reading.proofs.PartingLaws.{All}
 use Rattle.reading.proofs.TemplateText.{MarkWell}
 use Rattle.chain.specs.declared.Role.{Role}
-use Rattle.chain.specs.Lists.{anyOf, valuesFrom}
-use Rattle.chain.specs.Features.{firstDrawn, doubles}
+use Rattle.chain.specs.Lists.{anyOf}
+use Rattle.chain.specs.Features.{doubles}
 use Rattle.chain.specs.Refusals.{isEpoxide, epoxideOn}
 use Rattle.chain.specs.Bonds.{empty, double, bridged, up, down, plainBond, plainBonds, geometryAt, openMark, opensDown, closeByte, closeMark, markBond, markFrom, bondsOf, bondAt, markOf}
 use Rattle.chain.proofs.Lists.{all-set, all-getD, all-values, getD-values}
-use Rattle.chain.proofs.Accepted.{Drawable, RingStands, rings-on, epoxides-free}
+use Rattle.chain.proofs.Accepted.{Drawable, epoxides-free}
 
 -- ---- every bond is written by a mark of 01 or by none
 

@@ -1,25 +1,23 @@
 -- The branch of every row of the group table is a part that reads by itself, with as many atoms as the table says and no label.
 -- Assumes nothing.
-use Prim.Native.Nat.{ℕ, zero, suc, _+_, _≤_, _<_}
+use Prim.Native.Nat.{ℕ, zero, suc, _≤_, _<_}
 use native.Mathlib.Omega.{arith}
-use mathlib.Core.Path.{_≡_, refl, sym, ap, _∙_}
-use mathlib.Core.Bool.{Bool, true, false, cond, _&&_, false≢true}
+use mathlib.Core.Path.{_≡_, refl}
+use mathlib.Core.Bool.{Bool, true, false, _&&_, false≢true}
 use mathlib.Core.Option.{Option, none, some}
-use mathlib.Core.List.{List, [], _∷_, _++_, map}
+use mathlib.Core.List.{List, [], _∷_}
 use lib.ListN.{length, getD}
 use lib.Dec.{eqb, leb}
 use borrow.Author.Tests.{eqb-true, leb-true}
 use Rattle.groups.specs.Groups.{Entry, entries, entryAt, blank}
 use Rattle.reading.specs.Piece.{Piece, atom, mark, dot, lpar, rpar}
-use Rattle.reading.specs.Machine.{Entry as Open}
 use Rattle.reading.specs.Part.{Part, partOf}
-use Rattle.reading.proofs.Frame.{Hangs, EachOf, EachLabel}
+use Rattle.reading.proofs.Frame.{Hangs, EachLabel}
 use Rattle.reading.proofs.WellFormed.{AllWell}
 use Rattle.reading.proofs.Part.{PartFrom, part-from}
-use Rattle.reading.proofs.PartingLaws.{All, and-left, and-right}
+use Rattle.reading.proofs.PartingLaws.{and-left, and-right}
 use Rattle.chain.specs.Lists.{allOf}
-use Rattle.chain.specs.Drawing.{noPart, orNone, branchPart}
-use Rattle.chain.proofs.Lists.{all-getD}
+use Rattle.chain.specs.Drawing.{orNone, branchPart}
 
 -- no atom has a label
 abbrev plain : List ℕ → Bool

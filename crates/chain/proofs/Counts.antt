@@ -4,8 +4,8 @@ use Prim.Native.Nat.{ℕ, zero, suc, _+_, _-_, _*_, _≤_, _<_}
 use native.Mathlib.Omega.{arith}
 use mathlib.Core.Path.{_≡_, refl, sym, ap, _∙_}
 use mathlib.Core.Bool.{Bool, true, false, cond, not, false≢true}
-use mathlib.Core.Option.{Option, none, some}
-use mathlib.Core.List.{List, [], _∷_, _++_, append-nil}
+use mathlib.Core.Option.{none, some}
+use mathlib.Core.List.{List, [], _∷_}
 use lib.ListN.{length}
 use lib.Dec.{eqb}
 use borrow.Author.Tests.{eqb-true, eqb-false, eq-eqb, ne-eqb, not-true}
@@ -14,15 +14,14 @@ use Rattle.record.proofs.Sound.{Reduced}
 use Rattle.reading.specs.Lexer.{memb}
 use Rattle.reading.specs.Molecule.{At, at, atomsOf, notesOf, look, Sum, sum, variablesOf, numberOf}
 use Rattle.reading.specs.Line.{distinct, times}
-use Rattle.reading.proofs.PartingLaws.{All, all-map, and-left, and-right}
+use Rattle.reading.proofs.PartingLaws.{All, and-left, and-right}
 use Rattle.chain.specs.declared.Role.{Role}
-use Rattle.chain.specs.declared.Role.the-variants.{Slot, Acyl, Base}
 use Rattle.chain.specs.Lists.{valuesFrom}
 use Rattle.chain.specs.Features.{firstDrawn, prefixEnd, literalEnd, remaining, flexibleCount, drawnCount}
 use Rattle.chain.specs.Drawing.{carbonAtoms, marks, variables, sums}
 use Rattle.chain.specs.Counts.{total, copies, Counts, Meets, methyls}
-use Rattle.chain.proofs.Lists.{Rises, rises-distinct, length-values}
-use Rattle.chain.proofs.Accepted.{Drawable, first-on, prefix-on, tail-long, carbon-most}
+use Rattle.chain.proofs.Lists.{rises-distinct, length-values}
+use Rattle.chain.proofs.Accepted.{Drawable, first-one, first-on, prefix-on, tail-long, carbon-most}
 use Rattle.chain.proofs.Atoms.{carbon-atoms-count, marks-rise, marks-carbons, marks-notes}
 
 -- ---- marked atoms among others
@@ -129,15 +128,10 @@ module _ (r : Role) (d : Chain) (a : Drawable r d) where
   unfolding methyls
   written-add-up n v count h = go (d .branched) (a .sound .reduced)
     where
-      one : (r : Role) → 1 ≤ firstDrawn r
-      one Slot = omega arith
-      one Acyl = omega arith
-      one Base = omega arith
-
       go : (b : Bool) → Reduced b (d .written) (d .carbon)
           → firstDrawn r - 1 + total (λ i. copies count (look i (marks r d n v))) (carbonAtoms r d n) + cond b 1 0 ≡ d .written
-      go true e = omega (arith, carbons-add-up n v count h, one r)
-      go false e = omega (arith, carbons-add-up n v count h, one r)
+      go true e = omega (arith, carbons-add-up n v count h, first-one r)
+      go false e = omega (arith, carbons-add-up n v count h, first-one r)
 
   -- ---- there are such counts
 

@@ -3,11 +3,11 @@
 use Prim.Native.Nat.{ℕ, zero, suc, _+_, _-_, _*_, _≤_, _<_}
 use native.Mathlib.Omega.{arith}
 use mathlib.Core.Path.{_≡_, refl, sym, ap, _∙_}
-use mathlib.Core.Bool.{Bool, true, false, cond, not, _||_, _&&_, false≢true}
-use mathlib.Core.List.{List, [], _∷_, _++_, map}
+use mathlib.Core.Bool.{Bool, true, false, cond, not, _&&_, false≢true}
+use mathlib.Core.List.{List, [], _∷_, _++_}
 use lib.ListN.{length, length-append, length-map}
 use lib.Dec.{eqb}
-use borrow.Author.Tests.{eqb-true, eqb-false, eq-eqb, ne-eqb}
+use borrow.Author.Tests.{eqb-false, eq-eqb, ne-eqb}
 use Rattle.record.specs.declared.ChainPrefix.{ChainPrefix}
 use Rattle.record.specs.declared.ChainPrefix.the-variants as prefix
 use Rattle.record.specs.declared.Mod.{Mod}
@@ -17,25 +17,22 @@ use Rattle.record.proofs.Sound.{Sound, Every}
 use Rattle.groups.specs.Groups.{keto, hydroxy}
 use Rattle.reading.specs.Ascii.{ascii}
 use Rattle.reading.specs.Lexer.{memb, marks}
-use Rattle.reading.specs.Machine.{Entry, lookup}
 use Rattle.reading.specs.Part.{Part}
 use Rattle.reading.specs.Chain as reading
-use Rattle.reading.specs.Chain.{ring}
 use Rattle.reading.specs.Template as template
-use Rattle.reading.proofs.Frame.{EachLabel}
 use Rattle.reading.proofs.PartingLaws.{All, all-map}
-use Rattle.reading.proofs.Chain.{Differs, Rings, Fits, PartsFit, CarbonsFit, NoShort, Bridged, past, EndsBy, RingsFit}
+use Rattle.reading.proofs.Chain.{Differs, Rings, PartsFit, CarbonsFit, NoShort, Bridged, past, EndsBy, RingsFit}
 use Rattle.reading.proofs.Template.{ChainFits}
 use Rattle.reading.proofs.TemplateText.{MarkWell, PartsWell, CarbonsWell, ItemWell}
 use Rattle.chain.specs.declared.Role.{Role}
 use Rattle.chain.specs.declared.Role.the-variants.{Slot, Acyl, Base}
-use Rattle.chain.specs.Lists.{anyOf, only, anyTwo, valuesFrom}
+use Rattle.chain.specs.Lists.{anyOf, anyTwo, valuesFrom}
 use Rattle.chain.specs.Features.{firstDrawn, isAcyl, located, unlocated, oxygenAt, triolOxygen, baseOxygens, groupsOn, floating, literalEnd, flexibleCount, drawnCount}
 use Rattle.chain.specs.Refusals.{isEpoxide, sameRing}
 use Rattle.chain.specs.Bonds.{bridged, bondAt, markOf}
 use Rattle.chain.specs.Drawing.{branchPart, carbonyl, groupsAt, branches, carbonAt, literal, bare, pairs, flexible, carbons, ringPairs, floats, chainDrawn}
 use Rattle.chain.proofs.Lists.{or-left, or-right, all-append, all-mapped, all-only, length-only, length-values, all-values}
-use Rattle.chain.proofs.Accepted.{Drawable, RingStands, first-on, rings-on, rings-apart, rings-literal, literal-on}
+use Rattle.chain.proofs.Accepted.{Drawable, RingStands, rings-on, rings-apart, rings-literal, literal-on}
 use Rattle.chain.proofs.Bonds.{mark-well, startsEpoxide, bridge-stands}
 use Rattle.chain.proofs.Branches.{Branch, each-unlabelled, branch-reads}
 
@@ -96,20 +93,19 @@ floats-read d s = (
 
 -- ---- the carbons
 
--- a carbon with a mark of 01 or none before it, and with at most 19 branches, each of which reads by itself
+-- a carbon with a mark of 01 or none before it, and with branches of which each reads by itself
 pub record CarbonFine (c : reading.Carbon) : Type 0 where
   pub mark : MarkWell (c .before)
   pub parts : All Branch (c .parts)
-  pub few : length (c .parts) ≤ 19
 
-carbonyl-reads : (r : Role) (p : ChainPrefix) (k : ℕ) → All Branch (carbonyl r p k) × (length (carbonyl r p k) ≤ 1)
+carbonyl-reads : (r : Role) (p : ChainPrefix) (k : ℕ) → All Branch (carbonyl r p k)
 unfolding carbonyl
 carbonyl-reads r p k = go (isAcyl r p) (eqb k 1)
   where
-    go : (a b : Bool) → All Branch (cond a (cond b (branchPart keto ∷ []) []) []) × (length (cond a (cond b (branchPart keto ∷ []) []) []) ≤ 1)
-    go true true = ((branch-reads keto (omega arith), tt), omega arith)
-    go true false = (tt, omega arith)
-    go false b = (tt, omega arith)
+    go : (a b : Bool) → All Branch (cond a (cond b (branchPart keto ∷ []) []) [])
+    go true true = (branch-reads keto (omega arith), tt)
+    go true false = tt
+    go false b = tt
 
 carbon-fine : (r : Role) (d : Chain) → Sound d → (k : ℕ) → CarbonFine (carbonAt r d k)
 unfolding carbonAt groupsAt branches
@@ -117,21 +113,12 @@ carbon-fine r d s k =
     let gs : List Mod = groupsAt r d k in
     record {
       mark = mark-well r d (k - 1);
-      parts = all-append Branch (carbonyl r (d .prefix) k) (branches gs) (carbonyl-reads r (d .prefix) k .0)
+      parts = all-append Branch (carbonyl r (d .prefix) k) (branches gs) (carbonyl-reads r (d .prefix) k)
           (branches-read gs (all-only InTable (λ g. eqb (g .pos) k) (groupsOn r d) (groups-table r d s .0)));
-      few =
-          omega (
-            arith,
-            length-append (carbonyl r (d .prefix) k) (branches gs),
-            carbonyl-reads r (d .prefix) k .1,
-            length-map gs (λ g. branchPart (g .row)),
-            length-only (λ g. eqb (g .pos) k) (groupsOn r d),
-            groups-table r d s .1,
-          );
     }
 
 bare-fine : (m : ℕ) → MarkWell m → CarbonFine (bare m)
-bare-fine m w = record { mark = w; parts = tt; few = omega arith }
+bare-fine m w = record { mark = w; parts = tt }
 
 pairs-fine : (n : ℕ) → All CarbonFine (pairs n)
 unfolding pairs MarkWell memb marks ascii

@@ -5,3 +5,4 @@ pub mod Branches
 pub mod Fits
 pub mod Atoms
 pub mod Counts
+pub mod Few

@@ -1,17 +1,17 @@
 -- Laws of tests over lists, of values at numbers that follow one another, and of numbers that rise.
 -- Assumes nothing.
-use Prim.Native.Nat.{ℕ, zero, suc, _+_, _-_, _*_, _≤_, _<_, max}
+use Prim.Native.Nat.{ℕ, zero, suc, _+_, _≤_, _<_, max}
 use native.Mathlib.Omega.{arith}
 use mathlib.Core.Path.{_≡_, refl, sym, ap, _∙_}
 use mathlib.Core.Logic.{_≢_}
-use mathlib.Core.Bool.{Bool, true, false, cond, not, _||_, _&&_, false≢true}
+use mathlib.Core.Bool.{Bool, true, false, cond, not, _||_, false≢true}
 use mathlib.Core.List.{List, [], _∷_, _++_, map}
 use lib.ListN.{length, getD, set, drop}
-use lib.Dec.{eqb, ltb, leb}
-use borrow.Author.Tests.{eqb-true, eqb-false, eq-eqb, ne-eqb, lt-ltb, le-ltb}
-use Rattle.chain.specs.Lists.{anyOf, allOf, only, isEmpty, anyTwo, valuesFrom, largest}
+use lib.Dec.{eqb, ltb}
+use borrow.Author.Tests.{eqb-true, eqb-false, eq-eqb, ne-eqb, lt-ltb}
+use Rattle.chain.specs.Lists.{anyOf, only, valuesFrom, largest}
 use Rattle.reading.specs.Lexer.{memb}
-use Rattle.reading.specs.Line.{below, distinct, times, rising}
+use Rattle.reading.specs.Line.{distinct, times, rising}
 use Rattle.reading.proofs.PartingLaws.{All, all-map, and-both}
 
 -- ---- tests
