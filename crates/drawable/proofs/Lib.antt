@@ -2,5 +2,4 @@ pub mod Held
 pub mod Through
 pub mod Lists
 pub mod Drawing
-pub mod Features
 pub mod Reach

@@ -14,13 +14,12 @@ use borrow.Author.Tests.{lt-ltb, le-ltb}
 use Rattle.chain.specs.Lists.{anyOf, allOf, anyTwo, only, largest}
 use Rattle.drawable.specs.Drawn.{Length}
 
-module _ {A : Type 0} (room : ℕ) (l : List A) (n i : ℕ) (d a : A) (w : Length room l n) where
-  -- the element at i stands first in what is left
-  pub left-here : i < n → a ≡ getD l i d → drop i l ≡ a ∷ drop (i + 1) l
-  left-here h e = rw (add-one i, e) (drop-cons l i d (omega (arith, w .is)))
+-- the element at i stands first in what is left
+left-here : {A : Type 0} (room : ℕ) (l : List A) (n i : ℕ) (d a : A) → Length room l n → i < n → a ≡ getD l i d → drop i l ≡ a ∷ drop (i + 1) l
+left-here room l n i d a w h e = rw (add-one i, e) (drop-cons l i d (omega (arith, w .is)))
 
-  pub left-none : n ≤ i → drop i l ≡ []
-  left-none h = drop-of-length-le l {i = i} (omega (arith, w .is))
+left-none : {A : Type 0} (room : ℕ) (l : List A) (n i : ℕ) → Length room l n → n ≤ i → drop i l ≡ []
+left-none room l n i w h = drop-of-length-le l {i = i} (omega (arith, w .is))
 
 -- ---- whether some element passes a test; what was asked is v
 
@@ -37,7 +36,7 @@ module _ {A : Type 0} (v : Bool) (test : A → Bool) (room : ℕ) (l : List A) (
 module _ {A : Type 0} (v : Bool) (test : A → Bool) (room : ℕ) (l : List A) (n i : ℕ) (w : Length room l n) (same : v ≡ anyOf test (drop i l)) where
   pub any-none : n ≤ i → false ≡ v
   unfolding anyOf
-  any-none h = sym (same ∙ rw (drop-of-length-le l {i = i} (omega (arith, w .is))))
+  any-none h = sym (same ∙ rw (left-none room l n i w h))
 
 -- ---- whether two elements stand in a relation
 
@@ -54,7 +53,7 @@ module _ {A : Type 0} (v : Bool) (rel : A → A → Bool) (room : ℕ) (l : List
 module _ {A : Type 0} (v : Bool) (rel : A → A → Bool) (room : ℕ) (l : List A) (n i : ℕ) (w : Length room l n) (same : v ≡ anyTwo rel (drop i l)) where
   pub two-none : n ≤ i → false ≡ v
   unfolding anyTwo
-  two-none h = sym (same ∙ rw (drop-of-length-le l {i = i} (omega (arith, w .is))))
+  two-none h = sym (same ∙ rw (left-none room l n i w h))
 
 -- ---- the elements that pass a test, those found so far being k
 
@@ -74,7 +73,7 @@ module _ {A : Type 0} (test : A → Bool) (room : ℕ) (l : List A) (n i : ℕ) 
 pub only-all : {A : Type 0} (test : A → Bool) (room : ℕ) (l : List A) (n i : ℕ) (k : List A) → Length room l n → k ++ only test (drop i l) ≡ only test l → n ≤ i
     → k ≡ only test l
 unfolding only
-only-all test room l n i k w v h = sym (append-nil k) ∙ rw (drop-of-length-le l {i = i} (omega (arith, w .is))) at v
+only-all test room l n i k w v h = sym (append-nil k) ∙ rw (left-none room l n i w h) at v
 
 -- ---- whether every element's number passes a test
 
@@ -91,7 +90,7 @@ module _ {A : Type 0} (v : Bool) (bound : ℕ) (f : A → ℕ) (room : ℕ) (l :
 module _ {A : Type 0} (v : Bool) (bound : ℕ) (f : A → ℕ) (room : ℕ) (l : List A) (n i : ℕ) (w : Length room l n) (same : v ≡ allOf (ltb bound) (map f (drop i l))) where
   pub past-all : n ≤ i → true ≡ v
   unfolding allOf
-  past-all h = sym (same ∙ rw (drop-of-length-le l {i = i} (omega (arith, w .is))))
+  past-all h = sym (same ∙ rw (left-none room l n i w h))
 
 -- ---- the largest of the elements' numbers and m
 
@@ -102,4 +101,4 @@ module _ {A : Type 0} (v : ℕ) (f : A → ℕ) (room : ℕ) (l : List A) (n i m
 
   pub reach-all : n ≤ i → m ≡ v
   unfolding largest
-  reach-all h = sym (same ∙ rw (drop-of-length-le l {i = i} (omega (arith, w .is))))
+  reach-all h = sym (same ∙ rw (left-none room l n i w h))

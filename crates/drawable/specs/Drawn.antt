@@ -56,10 +56,6 @@ pub record Length {A : Type 0} (room : ℕ) (l : List A) (n : ℕ) : Type 0 wher
   pub is : n ≡ length l
   pub fits : n ≤ room
 
--- whether a double bond stands at p
-abbrev pub bondAt : ℕ → DbPos → Bool
-bondAt p b = eqb (b .pos) p
-
 -- whether a group sits at p
 abbrev pub groupAt : ℕ → Mod → Bool
 groupAt p g = eqb (g .pos) p
@@ -72,15 +68,9 @@ bondReach b = b .pos + 1
 abbrev pub groupPin : Mod → ℕ
 groupPin g = g .pos
 
--- what a ring pins, and where it ends
-abbrev pub ringPin : Ring → ℕ
-ringPin x = x .start
-
+-- the carbon at which a ring ends
 abbrev pub ringReach : Ring → ℕ
 ringReach x = x .end
-
-abbrev pub pinsIn : Groups → Rings → List ℕ
-pinsIn gs rs = map groupPin (groupsIn gs) ++ map ringPin (ringsIn rs)
 
 -- m is the number of carbons that n double bonds without a position take
 pub record Flexible (n m : ℕ) : Type 0 where

@@ -1,7 +1,6 @@
 // A chain as it is drawn in its place: the record of a token with the double bond that `P-` adds, the O's that a base adds, and its groups
-// parted into those with a position and those that float. Then what cannot be drawn: the tests for 22, 32, 33 and 12 to 15. Every function is
-// defined for every record: a count past its array counts as the array's length. What each answer is, is said by the definitions of the
-// crate `chain`; which lists a drawn chain holds, by specs/Drawn.antt.
+// parted into those with a position and those that float. Every function is defined for every record: a count past its array counts as the
+// array's length. Which lists a drawn chain holds is said by specs/Drawn.antt, from the definitions of the crate `chain`.
 use chain::Role;
 use record::Bridge;
 use record::ChainPrefix;
@@ -21,12 +20,10 @@ ghost use lib.ListN.{take, getD};
 ghost use Rattle.chain.specs.declared.Role.the-variants.{Slot, Base};
 ghost use Rattle.chain.specs.Lists.{anyOf};
 ghost use Rattle.chain.specs.Features.{firstDrawn, isAcyl, alkenylBond, doubles, located, unlocated, oxygenAt, baseOxygens};
-ghost use Rattle.chain.specs.Refusals.{isEther, etherBase, isSphingoid, wrongKind};
+ghost use Rattle.chain.specs.Refusals.{isEther, etherBase};
 ghost use Rattle.drawable.specs.Drawn.{bondsIn, groupsIn, ringsIn, noBond, noGroup, noRing, bondRoom, groupRoom, ringRoom, Length, chainOf, groupAt, Draws};
 
-// place.rt: what does not fit on the chain, 32 and 33
-pub mod place;
-// draw.rt: what cannot be drawn, 12 to 15, and how far the chain is drawn as it is written
+// draw.rt: how far the chain is drawn as it is written
 pub mod draw;
 
 // Room for the double bonds read and for the one that `P-` adds.
@@ -75,7 +72,7 @@ fn at_most(n: usize, most: usize) -> usize
 }
 
 impl Bonds {
-    pub fn new() -> Bonds
+    fn new() -> Bonds
         ensures { λ r. ⌜ bondsIn r ≡ [] ⌝ }
     {
         let bond = DbPos {
@@ -107,7 +104,7 @@ impl Bonds {
     }
 
     // One more, where there is room.
-    pub fn push(mut self, bond: DbPos) -> Bonds
+    fn push(mut self, bond: DbPos) -> Bonds
         ensures { λ r. ⌜ bondsIn r ≡ take bondRoom (bondsIn self ++ (bond ∷ [])) ⌝ }
     {
         let at = self.count;
@@ -121,7 +118,7 @@ impl Bonds {
 }
 
 impl Groups {
-    pub fn new() -> Groups
+    fn new() -> Groups
         ensures { λ r. ⌜ groupsIn r ≡ [] ⌝ }
     {
         let group = Mod { pos: 0, row: 0 };
@@ -147,7 +144,7 @@ impl Groups {
     }
 
     // One more, where there is room.
-    pub fn push(mut self, group: Mod) -> Groups
+    fn push(mut self, group: Mod) -> Groups
         ensures { λ r. ⌜ groupsIn r ≡ take groupRoom (groupsIn self ++ (group ∷ [])) ⌝ }
     {
         let at = self.count;
@@ -194,7 +191,7 @@ fn first_drawn(role: Role) -> u16
     }
 }
 
-// Whether a chain without a base's place has no prefix.
+// Whether a chain that is no base has no prefix.
 fn is_unprefixed(prefix: ChainPrefix) -> bool
     ensures { λ r. ⌜ r ≡ isAcyl Slot prefix ⌝ }
 {
@@ -208,7 +205,7 @@ fn is_unprefixed(prefix: ChainPrefix) -> bool
 }
 
 // Whether C1 carries a doubly bonded O.
-fn is_acyl(role: Role, prefix: ChainPrefix) -> bool
+pub fn is_acyl(role: Role, prefix: ChainPrefix) -> bool
     ensures { λ r. ⌜ r ≡ isAcyl role prefix ⌝ }
 {
     match role {
@@ -338,14 +335,15 @@ fn floating_groups(groups: Groups) -> Groups
     kept
 }
 
+// Whether a group sits on the carbon p.
 fn sits_at(group: Mod, p: u32) -> bool
     ensures { λ r. ⌜ r ≡ groupAt p group ⌝ }
 {
     group.pos == p
 }
 
-// Whether a group sits at p.
-fn group_at(groups: Groups, p: u32) -> bool
+// Whether some group sits at p.
+pub fn group_at(groups: Groups, p: u32) -> bool
     ensures { λ r. ⌜ r ≡ anyOf (groupAt p) (groupsIn groups) ⌝ }
 {
     let n = groups.len();
@@ -421,42 +419,5 @@ pub fn drawn_as(role: Role, chain: ParsedChain) -> Drawn
         groups,
         floats,
         rings,
-    }
-}
-
-// d or t.
-fn is_sphingoid(prefix: ChainPrefix) -> bool
-    ensures { λ r. ⌜ r ≡ isSphingoid prefix ⌝ }
-{
-    match prefix {
-        ChainPrefix::Acyl => false,
-        ChainPrefix::EtherAlkyl => false,
-        ChainPrefix::EtherAlkenyl => false,
-        ChainPrefix::SphingoidD => true,
-        ChainPrefix::SphingoidT => true,
-    }
-}
-
-// 22: whether a chain is of the wrong kind for its place. A slot takes any chain but d and t with carbons, an acyl place an acyl chain with
-// carbons, and a base's place any chain of 4 carbons or more.
-pub fn wrong_kind(role: Role, chain: ParsedChain) -> bool
-    ensures { λ r. ⌜ r ≡ wrongKind role (chainOf chain) ⌝ }
-{
-    let prefix = chain.prefix;
-    let carbon = chain.carbon;
-    match role {
-        Role::Slot => {
-            if is_sphingoid(prefix) {
-                return carbon > 0;
-            }
-            false
-        }
-        Role::Acyl => {
-            if is_unprefixed(prefix) {
-                return carbon == 0;
-            }
-            true
-        }
-        Role::Base => carbon < 4,
     }
 }
