@@ -10,3 +10,4 @@ pub mod Tail
 pub mod Molecules
 pub mod Listing
 pub mod Theorem
+pub mod Examples

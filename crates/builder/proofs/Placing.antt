@@ -1,6 +1,6 @@
 -- A template with its chains is drawn without failing: each chain stands where it is said to, with its carbons at its indices.
 -- Assumes nothing.
-use Prim.Native.Nat.{ℕ, suc, _+_, _≤_, _<_}
+use Prim.Native.Nat.{ℕ, zero, suc, _+_, _≤_, _<_}
 use native.Mathlib.Omega.{arith}
 use mathlib.Core.Path.{_≡_, refl, sym, ap, _∙_, subst}
 use mathlib.Core.Bool.{Bool, true, false, cond, false≢true}
@@ -432,3 +432,28 @@ module _ (t : List ℕ) (ds : List Chain) (ρ : ℕ → Role) (accepts : (sn : �
       (atomsTo t ds m es) (variablesTo ds w es) (mostAtoms es) (turnChain (length stk) ph) (λ k′ ph′. turnAll es k′ ph′)
       (made-chain-or sn r o (drawable-at sn r (and-left (sameRole (ρ sn) r) (allOf (inRole ρ) es) e)) n v cur stk ph)
       (λ cur′ stk′ ph′. made-all es (and-right (sameRole (ρ sn) r) (allOf (inRole ρ) es) e) h m w cur′ stk′ ph′)
+
+-- ---- chains one by one
+
+-- every chain from some sn on is accepted in its place
+abbrev pub AcceptsFrom : (ℕ → Role) → ℕ → List Chain → Type 0
+AcceptsFrom ρ sn [] = Unit {0}
+AcceptsFrom ρ sn (d ∷ ds) = Accepts (ρ sn) d × AcceptsFrom ρ (suc sn) ds
+
+accepts-from : (ρ : ℕ → Role) (m : ℕ) (ds : List Chain) → AcceptsFrom ρ m ds → (k : ℕ) (d : Chain) → chainAt (suc k) ds ≡ some d → Accepts (ρ (m + k)) d
+unfolding chainAt
+accepts-from ρ m [] h k d e = absurd (none≢some e)
+accepts-from ρ m (x ∷ ds) h zero d e =
+    let q : x ≡ d = cc in
+    let z : m + 0 ≡ m = omega arith in
+    rw (z, ← q) (h .0)
+accepts-from ρ m (x ∷ ds) h (suc k) d e = let z : m + suc k ≡ suc m + k = omega arith in rw z (accepts-from ρ (suc m) ds (h .1) k d e)
+
+nowhere : (ds : List Chain) → chainAt 0 ds ≡ none
+unfolding chainAt
+nowhere [] = refl
+nowhere (d ∷ ds) = refl
+
+pub accepts-at : (ρ : ℕ → Role) (ds : List Chain) → AcceptsFrom ρ 1 ds → (sn : ℕ) (d : Chain) → chainAt sn ds ≡ some d → Accepts (ρ sn) d
+accepts-at ρ ds h zero d e = absurd (none≢some (sym (nowhere ds) ∙ e))
+accepts-at ρ ds h (suc k) d e = let z : 1 + k ≡ suc k = omega arith in rw z at (accepts-from ρ 1 ds h k d e)

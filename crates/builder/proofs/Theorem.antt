@@ -28,16 +28,16 @@ use Rattle.chain.specs.Drawing as draw
 use Rattle.chain.specs.Drawing.{carbons, carbonAtoms}
 use Rattle.chain.specs.Counts.{total, copies, Meets}
 use Rattle.chain.proofs.Lists.{Rises, rises-within, rises-distinct, rises-rising, rises-none, all-both}
-use Rattle.chain.proofs.Accepted.{Drawable}
+use Rattle.chain.proofs.Accepted.{Drawable, first-one, drawn-most, carbon-most}
 use Rattle.chain.proofs.Atoms.{carbon-atoms-rise, carbon-atoms-count, atomsEnd-le}
 use Rattle.chain.proofs.Counts.{SumStands, Chosen, written-add-up}
 use Rattle.builder.specs.declared.Class.{Class}
 use Rattle.builder.specs.Template.{Element, elements, fewest, most as mostTokens, roleOf, hasTail}
-use Rattle.builder.specs.Request.{chainAt, Placed, placedFrom, placed, allMarks, allSites, allSums, bySn, headCarbons, indicesOf, snSites, labels, orNoRows, rowsDrawn, moleculeDrawn, textOf, lineOf}
+use Rattle.builder.specs.Request.{Placed, placedFrom, placed, allMarks, allSites, allSums, bySn, headCarbons, indicesOf, snSites, labels, orNoRows, rowsDrawn, moleculeDrawn, textOf, lineOf}
 use Rattle.builder.specs.Promise.{Each, bytesAt, variableAt, Listed, Choice, AddsUp, Promise}
 use Rattle.builder.proofs.Templates.{snsOf, isBase, hasBase, headed, Fitting, fitting}
 use Rattle.builder.proofs.Rows.{Carbonic}
-use Rattle.builder.proofs.Placing.{Accepts, InRows, variablesTo}
+use Rattle.builder.proofs.Placing.{InRows, variablesTo, AcceptsFrom, accepts-at}
 use Rattle.builder.proofs.Whole.{Stands, stands}
 use Rattle.builder.proofs.Text.{text-reads}
 use Rattle.builder.proofs.Notes.{endOf, placing-within, placing-drawable, all-marks-rise, all-variables-rise, all-summed, all-sums-stand, variables-most, all-sites-rise, all-sites-within, all-sites-flat, all-sites-some, sn-sites-rise, own-marks, look-outside, marks-after, total-agrees, all-chosen, own-sums}
@@ -52,7 +52,7 @@ use Rattle.builder.proofs.Molecules.{bytes-at, variable-at, sums-in, se
 pub record Accepted (c : Class) (t : List ℕ) (ds : List Chain) : Type 0 where
   pub few : fewest c ≤ length ds
   pub many : length ds ≤ mostTokens c
-  pub chains : (sn : ℕ) (d : Chain) → chainAt sn ds ≡ some d → Accepts (roleOf c sn) d
+  pub chains : AcceptsFrom (roleOf c) 1 ds
   pub tail : hasTail c ≡ true → TailReads t
 
 all-each : {A : Type 0} (P : A → Type 0) (l : List A) → All P l → Each P l
@@ -314,6 +314,13 @@ module _ (t : List ℕ) (ds : List Chain) (most : ℕ) (ρ : ℕ → Role) (tail
   sns-rise : Rises 1 5 (map snOf (bySn ps))
   sns-rise = sorted-rise 1 5 ps (omega arith) sns-within (placed-apart t ds 0 0 es (f .apart))
 
+-- ---- an accepted request
+
+-- its template is drawn
+pub drawn-request : (c : Class) (t : List ℕ) (ds : List Chain) → Accepted c t ds → Stands t ds (elements c)
+drawn-request c t ds a =
+    stands t ds (mostTokens c) (roleOf c) (hasTail c) (elements c) (fitting c) (accepts-at (roleOf c) ds (a .chains)) (λ e. tail-fits t (a .tail e))
+
 -- ---- DEMAND 3
 
 pub promise : (c : Class) (swap : Bool) (t : List ℕ) (ds : List Chain) → Accepted c t ds → Promise c swap t ds
@@ -322,7 +329,7 @@ promise c swap t ds a =
     record {
       reads =
           line-reads-back (textOf c t ds) (s .rows) (labels swap (snSites (bySn ps))) (allMarks ps) (allSites ps) (allSums ps)
-          (text-reads t ds (roleOf c) (a .chains) (mostTokens c) (hasTail c) es f (λ e. tail-fits t (a .tail e)) s)
+          (text-reads t ds (roleOf c) (accepts-at (roleOf c) ds (a .chains)) (mostTokens c) (hasTail c) es f (λ e. tail-fits t (a .tail e)) s)
           (well-formed t ds (mostTokens c) (roleOf c) (hasTail c) es f s swap)
           ∙ ap (λ (m : Molecule). some m) (sym same);
       chains = chains-listed t ds (mostTokens c) es (f .places) (a .many) (placed-apart t ds 0 0 es (f .apart)) 5 (sns-rise t ds (mostTokens c) (roleOf c) (hasTail c) es f s);
@@ -338,10 +345,39 @@ promise c swap t ds a =
     f = fitting c
 
     s : Stands t ds (elements c)
-    s = stands t ds (mostTokens c) (roleOf c) (hasTail c) (elements c) f (a .chains) (λ e. tail-fits t (a .tail e))
+    s = drawn-request c t ds a
 
     ps : List Placed
     ps = placedFrom t ds 0 0 (elements c)
 
     same : moleculeDrawn c swap t ds ≡ moleculeOf (s .rows) (labels swap (snSites (bySn ps))) (allMarks ps) (allSites ps) (allSums ps)
     same = ap (λ (z : List Row). moleculeOf z (labels swap (snSites (bySn ps))) (allMarks ps) (allSites ps) (allSums ps)) (ap orNoRows (s .is))
+
+-- ---- how large its numbers are
+
+-- a chain lists at most 255 carbons
+pub indices-few : (p : Placed) → Drawable (p .role) (p .chain) → length (indicesOf p) ≤ 255
+unfolding indicesOf
+indices-few p a =
+    omega (
+      arith,
+      heads-number (p .role) (carbonAtoms (p .role) (p .chain) (p .first)),
+      carbon-atoms-count (p .role) (p .chain) (p .first),
+      first-one (p .role),
+      drawn-most (p .role) (p .chain) a,
+      carbon-most (p .role) (p .chain) a,
+    )
+
+-- every index is below 4000, so that it has 16 bits to spare
+pub indices-small : (c : Class) (t : List ℕ) (ds : List Chain) → Accepted c t ds → All (λ p. All (λ i. i < 4000) (indicesOf p)) (placed c t ds)
+unfolding placed indicesOf
+indices-small c t ds a =
+    all-map {P = Known t ds (mostTokens c) (roleOf c) (hasTail c) (elements c) (fitting c) (drawn-request c t ds a)} (λ p k. small p k) (placedFrom t ds 0 0 (elements c)) (known t ds (mostTokens c) (roleOf c) (hasTail c) (elements c) (fitting c) (drawn-request c t ds a))
+  where
+    small : (p : Placed) → Known t ds (mostTokens c) (roleOf c) (hasTail c) (elements c) (fitting c) (drawn-request c t ds a) p → All (λ i. i < 4000) (headCarbons (p .role) ++ carbonAtoms (p .role) (p .chain) (p .first))
+    small p k =
+        let m : ℕ = chainEnd (p .first) (carbons (p .role) (p .chain)) in
+        let is : List ℕ = carbonAtoms (p .role) (p .chain) (p .first) in
+        heads-each (λ i. i < 4000) (p .role) is (λ e. (omega arith, omega arith))
+        (all-map {P = λ (i : ℕ). (p .first ≤ i) × (i < m)} (λ i h. omega (arith, h .1, atomsEnd-le (p .role) (p .chain) (p .first), k .ends, drawn-request c t ds a .few)) is
+        (rises-within (p .first) m is (carbon-atoms-rise (p .role) (p .chain) (p .first))))
