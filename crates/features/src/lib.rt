@@ -69,13 +69,13 @@ pub fn ring_at(start: u32, bridge: Bridge, carbon: u16) -> Segment
     if start == 0 {
         return Segment::Unreadable;
     }
-    let end = (start as u64) + span_of(bridge) - 1;
-    if (carbon as u64) < end {
+    let last = (start as u64) + span_of(bridge) - 1;
+    if (carbon as u64) < last {
         return Segment::Unreadable;
     }
     Segment::Cycle(Ring {
         start: start as u16,
-        end: end as u16,
+        end: last as u16,
         bridge,
     })
 }

@@ -9,11 +9,11 @@ returns c = search ring-at-zero
 span-of-requires : tie.Need-span-of-requires
 span-of-requires c κs = search needs
 
-add-end : tie.Need-add-end
-add-end c = search needs
+add-last : tie.Need-add-last
+add-last c = search needs
 
-sub-end : tie.Need-sub-end
-sub-end c = search needs
+sub-last : tie.Need-sub-last
+sub-last c = search needs
 
 returns-2 : tie.Need-returns-2
 returns-2 c = search ring-at-off
@@ -30,4 +30,4 @@ returns-3 c = search ring-at-is
 pub ring-at-spec : {M : Type 1} → statement M
 ring-at-spec =
     tie.close
-    (tie.spec returns span-of-requires add-end sub-end returns-2 cast-t9 cast-t10 returns-3)
+    (tie.spec returns span-of-requires add-last sub-last returns-2 cast-t9 cast-t10 returns-3)
