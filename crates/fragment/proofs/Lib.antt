@@ -5,3 +5,4 @@ pub mod BondLaws
 pub mod TokenLaws
 pub mod RangeLaws
 pub mod SegmentLaws
+pub mod AtomLaws

@@ -52,15 +52,15 @@ features-written acyl gs rs l k h u v w = written-three h u v w
 
 -- ---- a carbon that is not busy
 
-or-left : (a b : Bool) → (a || b) ≡ false → a ≡ false
+pub or-left : (a b : Bool) → (a || b) ≡ false → a ≡ false
 or-left true b e = e
 or-left false b e = refl
 
-or-right : (a b : Bool) → (a || b) ≡ false → b ≡ false
+pub or-right : (a b : Bool) → (a || b) ≡ false → b ≡ false
 or-right true b e = let z : _≡_ {A = ℕ} 0 1 = cc in absurd (omega arith)
 or-right false b e = e
 
-no-groups : (k : ℕ) (gs : List Mod) → groupOn gs k ≡ false → sitting k gs ≡ []
+pub no-groups : (k : ℕ) (gs : List Mod) → groupOn gs k ≡ false → sitting k gs ≡ []
 unfolding groupOn sitting only
 no-groups k [] e = refl
 no-groups k (g ∷ gs) e =
@@ -83,7 +83,7 @@ eqb-swap a b e = go (eqb b a) refl
         let z : eqb a b ≡ true = eq-eqb a b (sym (eqb-true b a f)) in
         let y : _≡_ {A = ℕ} 0 1 = cc in absurd (omega arith)
 
-no-carbonyl : (acyl : Bool) (k : ℕ) → carbonylOn acyl k ≡ false → carbonylOf acyl k ≡ []
+pub no-carbonyl : (acyl : Bool) (k : ℕ) → carbonylOn acyl k ≡ false → carbonylOf acyl k ≡ []
 unfolding carbonylOn carbonylOf
 no-carbonyl false k e = refl
 no-carbonyl true k e = rw (eqb-swap 1 k e)
@@ -95,7 +95,7 @@ empty-features acyl gs rs l k e =
     let b : (groupOn gs k || ringOn rs k) ≡ false = or-right (carbonylOn acyl k) (groupOn gs k || ringOn rs k) e in
     rw (no-labels k l rs (or-right (groupOn gs k) (ringOn rs k) b), no-carbonyl acyl k a, no-groups k gs (or-left (groupOn gs k) (ringOn rs k) b))
 
-zero-false : (b : Bool) → _≡_ {A = ℕ} (cond b 1 0) 0 → b ≡ false
+pub zero-false : (b : Bool) → _≡_ {A = ℕ} (cond b 1 0) 0 → b ≡ false
 zero-false false e = refl
 zero-false true e = absurd (omega arith)
 

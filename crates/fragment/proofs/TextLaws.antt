@@ -108,7 +108,7 @@ sitting-here : (k : ℕ) (g : Mod) (gs : List Mod) → g .pos ≡ k → groupsTe
 unfolding groupsText groupText sitting only branches
 sitting-here k g gs e = rw (eq-eqb (g .pos) k e) (parts-cons (branchPart (g .row)) (branches (sitting k gs)))
 
-sitting-past : (k : ℕ) (g : Mod) (gs : List Mod) → (g .pos ≡ k → ⊥) → sitting k (g ∷ gs) ≡ sitting k gs
+pub sitting-past : (k : ℕ) (g : Mod) (gs : List Mod) → (g .pos ≡ k → ⊥) → sitting k (g ∷ gs) ≡ sitting k gs
 unfolding sitting only
 sitting-past k g gs e = rw (ne-eqb (g .pos) k e)
 
