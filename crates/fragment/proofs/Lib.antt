@@ -6,3 +6,4 @@ pub mod TokenLaws
 pub mod RangeLaws
 pub mod SegmentLaws
 pub mod AtomLaws
+pub mod NumberLaws

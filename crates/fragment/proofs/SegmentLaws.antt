@@ -141,30 +141,30 @@ flexible-shown (suc n) m e k l rs b h =
 
 -- ---- the whole segment
 
-module _ (r : Role) (d : read.Chain) (x : Drawn) (t : ChainTokens) (w : Draws r d x) (k : TokensOf x t) (s : Readable d) (l : ℕ) where
+module _ (r : Role) (d : read.Chain) (x : Drawn) (t : ChainTokens) (w : Draws r d x) (k : TokensOf x t) (s : Readable d) where
   on : literalEnd r d ≤ d .carbon
   on = literal-on r d
 
-  literal-is : valuesFrom (carbonOf (x .acyl) (t .bonds) (groupsIn (x .groups))) (t .first) (suc (t .last) - t .first) ≡ literal r d
+  pub literal-is : valuesFrom (carbonOf (x .acyl) (t .bonds) (groupsIn (x .groups))) (t .first) (suc (t .last) - t .first) ≡ literal r d
   unfolding literal
   literal-is =
       rw (first-is r d x t w k s, last-is r d x t w k s)
       (values-same (carbonOf (x .acyl) (t .bonds) (groupsIn (x .groups))) (carbonAt r d) (firstDrawn r) (suc (literalEnd r d) - firstDrawn r)
       (λ i g h. carbon-is r d x t w k s i (omega (arith, on))))
 
-  literal-shown : show (chainPieces (ringPairs (d .rings)) l (firstDrawn r) (literal r d))
+  literal-shown : (l : ℕ) → show (chainPieces (ringPairs (d .rings)) l (firstDrawn r) (literal r d))
       ≡ carbonsText (x .acyl) (t .bonds) (groupsIn (x .groups)) (ringsIn (x .rings)) l (t .first) (suc (t .last) - t .first)
   unfolding carbonsText
-  literal-shown = rw (literal-is, w .rings, first-is r d x t w k s)
+  literal-shown l = rw (literal-is, w .rings, first-is r d x t w k s)
 
-  literal-length : length (literal r d) ≡ suc (literalEnd r d) - firstDrawn r
+  pub literal-length : length (literal r d) ≡ suc (literalEnd r d) - firstDrawn r
   unfolding literal
   literal-length = length-values (carbonAt r d) (firstDrawn r) (suc (literalEnd r d) - firstDrawn r)
 
-  tail-shown : show (chainPieces (ringPairs (d .rings)) l (firstDrawn r + length (literal r d)) (flexible (markOf (bondAt r d (literalEnd r d))) (d .unlocated)))
+  tail-shown : (l : ℕ) → show (chainPieces (ringPairs (d .rings)) l (firstDrawn r + length (literal r d)) (flexible (markOf (bondAt r d (literalEnd r d))) (d .unlocated)))
       ≡ flexibleText (getD (t .bonds) (t .last) 0) (x .unlocated)
   unfolding flexibleText
-  tail-shown =
+  tail-shown l =
       flexible-shown (d .unlocated) (markOf (bondAt r d (literalEnd r d))) (literalEnd r d) (firstDrawn r + length (literal r d)) l (d .rings)
       (λ n. rings-literal r d (s .rings) n) (omega (arith, literal-length))
       ∙ (rw (bond-is r d x t w k s (literalEnd r d) on, last-is r d x t w k s, w .unlocated))
@@ -173,11 +173,11 @@ module _ (r : Role) (d : read.Chain) (x : Drawn) (t : ChainTokens) (w : Draws r 
   unfolding floats floatsText
   floats-shown = rw (w .floats)
 
-  pub segment-is : show (itemPieces l (chain (chainDrawn r d))) ≡ segmentText x t l
+  pub segment-is : (l : ℕ) → show (itemPieces l (chain (chainDrawn r d))) ≡ segmentText x t l
   unfolding itemPieces chainDrawn carbons segmentText
-  segment-is =
+  segment-is l =
       show-append (chainPieces (ringPairs (d .rings)) l (firstDrawn r) (literal r d ++ flexible (markOf (bondAt r d (literalEnd r d))) (d .unlocated))) (floatPieces (floats d))
-      ∙ (rw (chain-append (ringPairs (d .rings)) l (firstDrawn r) (literal r d) (flexible (markOf (bondAt r d (literalEnd r d))) (d .unlocated)), show-append (chainPieces (ringPairs (d .rings)) l (firstDrawn r) (literal r d)) (chainPieces (ringPairs (d .rings)) l (firstDrawn r + length (literal r d)) (flexible (markOf (bondAt r d (literalEnd r d))) (d .unlocated))), literal-shown, tail-shown, floats-shown)
+      ∙ (rw (chain-append (ringPairs (d .rings)) l (firstDrawn r) (literal r d) (flexible (markOf (bondAt r d (literalEnd r d))) (d .unlocated)), show-append (chainPieces (ringPairs (d .rings)) l (firstDrawn r) (literal r d)) (chainPieces (ringPairs (d .rings)) l (firstDrawn r + length (literal r d)) (flexible (markOf (bondAt r d (literalEnd r d))) (d .unlocated))), literal-shown l, tail-shown l, floats-shown)
       (append-assoc (carbonsText (x .acyl) (t .bonds) (groupsIn (x .groups)) (ringsIn (x .rings)) l (t .first) (suc (t .last) - t .first)) (flexibleText (getD (t .bonds) (t .last) 0) (x .unlocated)) (floatsText (groupsIn (x .floats)))))
 
 -- ---- what the functions need

@@ -1,7 +1,7 @@
 -- The atoms of a chain, counted from its first. Assumes nothing.
 use Prim.Native.Nat.{ℕ, zero, suc, _+_, _-_, _*_, _≤_}
 use mathlib.Core.Path.{_≡_}
-use mathlib.Core.Bool.{Bool}
+use mathlib.Core.Bool.{Bool, cond}
 use mathlib.Core.List.{List, [], _∷_, _++_}
 use lib.Dec.{eqb}
 use lib.ListN.{length, take, getD}
@@ -12,11 +12,13 @@ use Rattle.chain.specs.declared.Role.{Role}
 use Rattle.chain.specs.Lists.{valuesFrom}
 use Rattle.chain.specs.Features.{drawnCount}
 use Rattle.chain.specs.Bonds.{bridged}
-use Rattle.chain.specs.Drawing.{branches, carbons, carbonAtoms, flexibleAtom, atomsEnd}
+use Rattle.chain.specs.Drawing.{branches, flexible, carbonAtoms, flexibleAtom, atomsEnd}
+use Rattle.chain.specs.Drawing as draw
 use Rattle.drawable.specs.declared.Drawn.{Drawn}
 use Rattle.drawable.specs.Drawn.{groupsIn, Draws}
 use Rattle.fragment.specs.declared.bonds.ChainTokens.{ChainTokens}
 use Rattle.fragment.specs.declared.atoms.Numbers.{Numbers}
+use Rattle.fragment.specs.declared.atoms.ChainAtoms.{ChainAtoms}
 use Rattle.fragment.specs.Text.{sitting, carbonylOf, carbonOf}
 use Rattle.fragment.specs.Tokens.{Readable}
 
@@ -55,3 +57,28 @@ pub record LiteralNumbers (x : Drawn) (t : ChainTokens) (n : Numbers) : Type 0 w
   pub numbered : Numbered (literalOf x t) n
   pub room : n .count ≤ 255
   pub few : n .next ≤ 93 * n .count
+
+-- the carbons of the flexible tail
+unfoldable pub tailCount : ℕ → ℕ
+tailCount n = cond (eqb n 0) 0 (2 * n + 2)
+
+-- the flexible tail counted after some carbons
+pub record TailNumbers (n : Numbers) (u : ℕ) (r : Numbers) : Type 0 where
+  pub numbered : (cs : List Carbon) (b : ℕ) → Numbered cs n → n .count + tailCount u ≤ 256 → Numbered (cs ++ flexible b u) r
+  pub size : length (r .atoms) ≡ 256
+  pub room : r .count ≤ 256
+  pub few : r .next ≤ n .next + 256
+
+-- the atoms of a chain, counted from its first
+pub record AtomsAre (r : Role) (d : Chain) (n : ChainAtoms) : Type 0 where
+  pub carbons : take (n .count) (n .carbons) ≡ carbonAtoms r d 0
+  pub flexible : n .flexible ≡ flexibleAtom r d 0
+  pub floats : n .floats ≡ chainEnd 0 (draw.carbons r d)
+  pub end : n .end ≡ atomsEnd r d 0
+
+-- the atoms of every chain that x draws
+pub record AtomsOf (x : Drawn) (n : ChainAtoms) : Type 0 where
+  pub are : (r : Role) (d : Chain) → Draws r d x → Readable d → drawnCount r d ≤ 256 → AtomsAre r d n
+  pub size : length (n .carbons) ≡ 256
+  pub room : n .count ≤ 256
+  pub few : n .end ≤ 24079

@@ -5,13 +5,13 @@ use crate::bonds::ChainTokens;
 use drawable::Drawn;
 use drawable::Groups;
 ghost use mathlib.Core.Path.{_≡_};
-ghost use Prim.Native.Nat.{suc, _+_, _-_, _*_, _≤_, _<_};
+ghost use Prim.Native.Nat.{_+_, _≤_, min};
 ghost use Rattle.reading.specs.Chain.{partsEnd, bridgeEnd, floatEnd};
 ghost use Rattle.chain.specs.Drawing.{branchPart, branches};
 ghost use Rattle.drawable.specs.Drawn.{groupsIn};
 ghost use Rattle.fragment.specs.Text.{sitting, carbonylOf};
 ghost use Rattle.fragment.specs.Tokens.{TokensOf};
-ghost use Rattle.fragment.specs.Atoms.{Counts, carbonSize, bareSize, bridgedAt, LiteralNumbers};
+ghost use Rattle.fragment.specs.Atoms.{Counts, carbonSize, bareSize, bridgedAt, tailCount, LiteralNumbers, TailNumbers, AtomsOf};
 
 // The atoms of a group's branch.
 fn branch_atoms(row: u8) -> u16
@@ -111,4 +111,82 @@ fn number_range(x: Drawn, t: ChainTokens) -> Numbers
         k += 1;
     }
     Numbers { count, next, atoms }
+}
+
+// Where the flexible tail of n double bonds ends that starts after so many carbons; the array's end is the limit.
+fn tail_end(count: usize, n: u16) -> usize
+    requires { ⌜ count ≤ 255 ⌝ }
+    ensures { λ r. ⌜ r ≡ min (count + tailCount n) 256 ⌝ }
+{
+    if n == 0 {
+        return count;
+    }
+    let end = count + 2 * (n as usize) + 2;
+    if end < CARBON_ROOM {
+        return end;
+    }
+    CARBON_ROOM
+}
+
+// The carbons of the flexible tail: each is one atom.
+fn number_tail(numbers: Numbers, n: u16) -> Numbers
+    requires { ⌜ (numbers .count ≤ 255) × (numbers .next ≤ 23715) ⌝ }
+    ensures { λ r. ⌜ TailNumbers numbers n r ⌝ }
+{
+    let end = tail_end(numbers.count, n);
+    let mut atoms = numbers.atoms;
+    let mut next = numbers.next;
+    let mut count = numbers.count;
+    while count < end {
+        atoms[count] = next;
+        next += 1;
+        count += 1;
+    }
+    Numbers { count, next, atoms }
+}
+
+// The atom after the floating groups, the first of which is the atom given.
+fn float_end(floats: Groups, first: u16) -> u16
+    requires { ⌜ first ≤ 23971 ⌝ }
+    ensures { λ r. ⌜ Counts (first + 108) (floatEnd first (branches (groupsIn floats))) r ⌝ }
+{
+    let n = floats.len();
+    let mut end = first;
+    let mut i = 0;
+    while i < n {
+        let g = floats.at(i);
+        end += 1 + branch_atoms(g.row);
+        i += 1;
+    }
+    end
+}
+
+// The atoms of a chain, counted from its first: of each drawn carbon, of the first flexible carbon, of the first floating group, and the
+// atom after the last.
+pub struct ChainAtoms {
+    pub count: usize,
+    pub carbons: [u16; CARBON_ROOM],
+    pub flexible: u16,
+    pub floats: u16,
+    pub end: u16,
+}
+
+pub fn number_chain(x: Drawn, t: ChainTokens) -> ChainAtoms
+    requires { ⌜ TokensOf x t ⌝ }
+    ensures { λ r. ⌜ AtomsOf x r ⌝ }
+{
+    let floats = x.floats;
+    let literal = number_range(x, t);
+    let flexible = literal.next;
+    let all = number_tail(literal, x.unlocated);
+    let next = all.next;
+    let end = float_end(floats, next);
+    let carbons = all.atoms;
+    ChainAtoms {
+        count: all.count,
+        carbons,
+        flexible,
+        floats: next,
+        end,
+    }
 }
