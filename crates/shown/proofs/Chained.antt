@@ -45,6 +45,10 @@ unfolding stillFirst
 still-some first f [] h = absurd (omega arith)
 still-some first f (x ∷ l) h = refl
 
+pub still-one : (first : Bool) (b : List ℕ) (bs : List (List ℕ)) → stillFirst first (b ∷ bs) ≡ false
+unfolding stillFirst
+still-one first b bs = refl
+
 -- one run of texts written after another
 pub shown-then : {xs ys zs : List ℕ} {at p q : ℕ} (opening sep : List ℕ) (first later : Bool) (a b : List (List ℕ)) → later ≡ stillFirst first a → length xs < 2 ^ 64
     → Written xs at (shown opening sep first a) ys p → Written ys p (shown opening sep later b) zs q → Written xs at (shown opening sep first (a ++ b)) zs q
@@ -142,7 +146,7 @@ line-shown text labels marks sites ss h =
           shown-append (ascii " ") (ascii ";") true (swapTexts labels) (map showSum ss),
         ) (simp append-assoc)
 
--- ---- the marks and the sum of a chain
+-- ---- whether the next block or part is the first, by the numbers that the code has
 
 not-zero : (n : ℕ) → eqb (suc n) 0 ≡ false
 not-zero n = ne-eqb (suc n) 0 (λ e. omega arith)
@@ -156,6 +160,16 @@ pub still-sums : (first : Bool) (v n total : ℕ) → stillFirst first (map show
 unfolding stillFirst sumList
 still-sums first v zero total = refl
 still-sums first v (suc n) total = rw (not-zero n)
+
+pub still-labels : (first : Bool) (ls : List (At ℕ)) → stillFirst first (labelBlocks ls) ≡ cond (eqb (length ls) 0) first false
+unfolding stillFirst labelBlocks
+still-labels first [] = refl
+still-labels first (l ∷ ls) = rw (not-zero (length ls))
+
+pub still-swaps : (first : Bool) (ls : List (At ℕ)) → stillFirst first (swapTexts ls) ≡ cond (eqb (length ls) 0) first false
+unfolding stillFirst swapTexts
+still-swaps first [] = refl
+still-swaps first (l ∷ ls) = rw (not-zero (length ls))
 
 -- the sum of a chain, by its numbers
 pub sums-are : (r : Role) (d : Chain) (v : ℕ) → sums r d v ≡ sumList v (d .unlocated) (remaining r d - d .unlocated - 1)
