@@ -7,3 +7,4 @@ pub mod RangeLaws
 pub mod SegmentLaws
 pub mod AtomLaws
 pub mod NumberLaws
+pub mod MarkLaws
