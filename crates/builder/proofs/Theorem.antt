@@ -13,7 +13,7 @@ use Rattle.record.specs.Chain.{Chain}
 use Rattle.reading.specs.Ascii.{ascii}
 use Rattle.reading.specs.Lexer.{memb}
 use Rattle.reading.specs.Row.{Row}
-use Rattle.reading.specs.Molecule.{At, at, atomsOf, notesOf, look, variablesOf, sumSet, Molecule, moleculeOf}
+use Rattle.reading.specs.Molecule.{At, at, atomsOf, notesOf, look, variablesOf, Molecule, moleculeOf, setOf, sumKey}
 use Rattle.reading.specs.Line.{flat, below, distinct, rising, once}
 use Rattle.reading.specs.Chain.{chainEnd}
 use Rattle.reading.proofs.PartingLaws.{All, all-map, NonEmpty, and-left, and-right}
@@ -296,7 +296,7 @@ module _ (t : List ℕ) (ds : List Chain) (most : ℕ) (ρ : ℕ → Role) (tail
             counts = x .counts;
             meets =
                 rw (sums-in (s .rows) (labels swap all-labels) (allMarks ps) (allSites ps) (allSums ps))
-                (all-each (Meets (x .count)) (sumSet (allSums ps)) (set-all (Meets (x .count)) (allSums ps) (x .meets)));
+                (all-each (Meets (x .count)) (setOf sumKey (allSums ps)) (set-all (Meets (x .count)) (allSums ps) (x .meets)));
           },
         )
 
@@ -304,7 +304,7 @@ module _ (t : List ℕ) (ds : List Chain) (most : ℕ) (ρ : ℕ → Role) (tail
     all-add-up count x =
         let m : All (Meets count) (allSums ps) =
         all-set (Meets count) (allSums ps)
-        (each-all (Meets count) (sumSet (allSums ps)) (rw (sums-in (s .rows) (labels swap all-labels) (allMarks ps) (allSites ps) (allSums ps)) at (x .meets)))
+        (each-all (Meets count) (setOf sumKey (allSums ps)) (rw (sums-in (s .rows) (labels swap all-labels) (allMarks ps) (allSites ps) (allSums ps)) at (x .meets)))
         in
         all-each (AddsUp (drawnMolecule swap) count) (bySn ps)
         (all-sorted (AddsUp (drawnMolecule swap) count) ps
