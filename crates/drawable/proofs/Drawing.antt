@@ -1,6 +1,6 @@
 -- Laws of a chain as it is drawn: what each step of `drawn_as` makes of the lists.
 -- Assumes nothing.
-use Prim.Native.Nat.{ℕ, suc, _+_, _<_, _≤_, min}
+use Prim.Native.Nat.{ℕ, _+_, _<_, _≤_, min}
 use native.Mathlib.Numerals.{add-one}
 use native.Mathlib.Omega.{arith}
 use mathlib.Core.Path.{_≡_, refl, sym, ap, _∙_}
@@ -8,7 +8,7 @@ use mathlib.Core.Bool.{Bool, true, false, cond, not}
 use mathlib.Core.List.{List, [], _∷_, _++_, append-assoc, append-nil}
 use lib.Dec.{eqb}
 use lib.ListN.{length, take, drop, getD, length-append, length-take}
-use lib.Seq.{take-suc, take-all, getD-take}
+use lib.Seq.{take-suc, take-all}
 use borrow.Author.Tests.{eq-eqb, ne-eqb}
 use Rattle.record.specs.declared.ChainPrefix.{ChainPrefix}
 use Rattle.record.specs.declared.ChainPrefix.the-variants as prefix
@@ -19,12 +19,10 @@ use Rattle.record.specs.declared.ParsedChain.{ParsedChain}
 use Rattle.record.specs.Chain.{Chain, Keeps, Holds, Within, maxBonds, maxGroups, maxRings}
 use Rattle.chain.specs.declared.Role.{Role}
 use Rattle.chain.specs.declared.Role.the-variants.{Slot, Acyl, Base}
-use Rattle.chain.specs.Lists.{anyOf, only}
+use Rattle.chain.specs.Lists.{anyOf}
 use Rattle.chain.specs.Features.{isAcyl, alkenylBond, doubles, located, unlocated, oxygenAt, triolOxygen, baseOxygens, groupsOn, floating}
 use Rattle.groups.specs.Groups.{hydroxy}
-use Rattle.drawable.specs.declared.Bonds.{Bonds}
-use Rattle.drawable.specs.declared.Groups.{Groups}
-use Rattle.drawable.specs.Drawn.{bondsIn, groupsIn, ringsIn, noBond, noGroup, bondRoom, groupRoom, Length, groupAt, chainOf}
+use Rattle.drawable.specs.Drawn.{groupsIn, ringsIn, noBond, noGroup, Length, groupAt, chainOf}
 use Rattle.drawable.proofs.Through.{only-skip, only-push, only-all}
 use Rattle.drawable.proofs.Lists.{length-only, take-front}
 

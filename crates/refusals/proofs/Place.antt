@@ -1,14 +1,13 @@
 -- Laws of the tests for 22, 32 and 33: one for each way out.
 -- Assumes nothing.
-use Prim.Native.Nat.{ℕ, suc, _+_, _<_, _≤_}
+use Prim.Native.Nat.{ℕ, _+_, _<_, _≤_}
 use native.Mathlib.Omega.{arith}
 use mathlib.Core.Path.{_≡_, refl, sym, ap, _∙_}
-use mathlib.Core.Bool.{Bool, true, false, cond, not, _&&_, _||_, or-true, or-false, and-false}
+use mathlib.Core.Bool.{Bool, true, false, not, _&&_, _||_, or-true, or-false, and-false}
 use mathlib.Core.List.{List, [], _∷_, _++_}
 use lib.Dec.{eqb, ltb, leb}
 use lib.ListN.{length, drop}
-use borrow.Author.Tests.{lt-ltb, le-ltb, le-leb, lt-leb, eq-eqb, ne-eqb, not-true, not-false, eqb-false, eqb-true}
-use Rattle.record.specs.declared.ChainPrefix.{ChainPrefix}
+use borrow.Author.Tests.{lt-ltb, le-ltb, le-leb, lt-leb, eq-eqb, ne-eqb, not-true, not-false, eqb-false}
 use Rattle.record.specs.declared.Bridge.the-variants.{Epoxide, Carbocycle}
 use Rattle.record.specs.declared.DbPos.{DbPos}
 use Rattle.record.specs.declared.Mod.{Mod}
@@ -18,8 +17,8 @@ use Rattle.record.specs.Chain.{Chain}
 use Rattle.chain.specs.declared.Role.{Role}
 use Rattle.chain.specs.declared.Role.the-variants.{Slot, Acyl, Base}
 use Rattle.chain.specs.Lists.{anyOf, anyTwo, only, isEmpty}
-use Rattle.chain.specs.Features.{firstDrawn, isAcyl, doubles, located, unlocated, baseOxygens, groupsOn, floating}
-use Rattle.chain.specs.Refusals.{isSphingoid, wrongKind, doubleOff, groupOff, ringOff, etherBase, offChain, sameBond, epoxideOn, smallRing, sameRing, clashes, placeRefusal}
+use Rattle.chain.specs.Features.{isAcyl, located, unlocated, baseOxygens, groupsOn, floating}
+use Rattle.chain.specs.Refusals.{isSphingoid, wrongKind, doubleOff, groupOff, ringOff, offChain, sameBond, epoxideOn, smallRing, sameRing, clashes, placeRefusal}
 use Rattle.drawable.specs.declared.Drawn.{Drawn}
 use Rattle.drawable.specs.Drawn.{bondsIn, groupsIn, ringsIn, Length, chainOf, Draws, Says}
 use Rattle.refusals.specs.Pins.{bondAt}
