@@ -23,8 +23,8 @@ use Rattle.chain.specs.Bonds.{markOf, bridged}
 use Rattle.chain.specs.Drawing.{branchPart, branches, bare, pairs, flexible, ringPairs}
 use Rattle.drawable.specs.Drawn.{Length, groupRoom, noGroup}
 use Rattle.fragment.specs.Text.{groupText, sitting, groupsText, labelsText, carbonText, bridgeText, floatText, floatsText, carbonylOf, carbonylText, featuresText, carbonOf, carbonsText, pairsText, flexibleText}
-use Rattle.fragment.specs.ByCarbon.{groupOn, ringOn, carbonylOn, busyAt, Busy}
-use Rattle.fragment.proofs.Fronts.{next-of, none-left}
+use Rattle.carbons.specs.ByCarbon.{groupOn, ringOn, carbonylOn, busyAt, Busy}
+use Rattle.carbons.proofs.Fronts.{next-of, none-left}
 use Rattle.fragment.proofs.Left.{Left, left-less, left-same, left-none, written-three}
 use Rattle.fragment.proofs.TextLaws.{parts-cons, floats-cons}
 

@@ -27,13 +27,13 @@ use Rattle.chain.specs.Features.{firstDrawn, isAcyl, doubles, groupsOn, floatin
 use Rattle.chain.specs.Bonds.{bondsOf, bondAt, markOf}
 use Rattle.chain.specs.Drawing.{branches, carbonyl, groupsAt, carbonAt, literal, flexible, carbons, ringPairs, floats, chainDrawn}
 use Rattle.drawable.specs.declared.Drawn.{Drawn}
-use Rattle.drawable.specs.Drawn.{bondsIn, groupsIn, ringsIn, Draws, SaysUpTo}
-use Rattle.fragment.specs.declared.bonds.ChainTokens.{ChainTokens}
-use Rattle.fragment.specs.ByCarbon.{BondsBy, Busy}
+use Rattle.drawable.specs.Drawn.{groupsIn, ringsIn, Draws}
+use Rattle.carbons.specs.declared.ChainTokens.{ChainTokens}
 use Rattle.fragment.specs.Text.{sitting, floatsText, carbonylOf, carbonOf, carbonsText, flexibleText}
-use Rattle.fragment.specs.Tokens.{TokensOf, segmentText, RingsOn, Readable, Segment}
+use Rattle.carbons.specs.Tokens.{TokensOf}
+use Rattle.fragment.specs.Segment.{segmentText, RingsOn, Readable, Segment}
 use Rattle.fragment.proofs.Left.{written-three}
-use Rattle.fragment.proofs.TokenLaws.{length-values}
+use Rattle.carbons.proofs.TokenLaws.{length-values, values-same}
 use Rattle.fragment.proofs.RangeLaws.{chain-append, unlabelled}
 
 -- ---- what holds of every chain that x draws
@@ -66,16 +66,6 @@ module _ (r : Role) (d : read.Chain) (x : Drawn) (t : ChainTokens) (w : Draws r 
   pub carbon-is : (i : ℕ) → i ≤ d .carbon → carbonOf (x .acyl) (t .bonds) (groupsIn (x .groups)) i ≡ carbonAt r d i
   unfolding carbonOf carbonAt carbonylOf carbonyl sitting groupsAt
   carbon-is i h = rw (bond-is (i - 1) (omega arith), bond-is i h, w .acyl, w .groups)
-
--- ---- values of two functions that agree
-
-pub values-same : {A : Type 0} (f g : ℕ → A) (k n : ℕ) → ((i : ℕ) → k ≤ i → i < k + n → f i ≡ g i) → valuesFrom f k n ≡ valuesFrom g k n
-unfolding valuesFrom
-values-same f g k zero e = refl
-values-same f g k (suc n) e =
-    let a = e k (omega arith) (omega arith) in
-    let b = values-same f g (suc k) n (λ i h m. e i (omega arith) (omega arith)) in
-    rw (a, b)
 
 -- ---- no ring ends past the literal part
 
@@ -181,18 +171,6 @@ module _ (r : Role) (d : read.Chain) (x : Drawn) (t : ChainTokens) (w : Draws r 
       (append-assoc (carbonsText (x .acyl) (t .bonds) (groupsIn (x .groups)) (ringsIn (x .rings)) l (t .first) (suc (t .last) - t .first)) (flexibleText (getD (t .bonds) (t .last) 0) (x .unlocated)) (floatsText (groupsIn (x .floats)))))
 
 -- ---- what the functions need
-
-pub tokens-are : {x : Drawn} {bs us : List ℕ} {f e l : ℕ} → BondsBy (bondsIn (x .bonds)) (ringsIn (x .rings)) (x .carbon) bs
-    → Busy (x .acyl) (groupsIn (x .groups)) (ringsIn (x .rings)) us → f ≡ max (x .first) 1 → SaysUpTo x e literalEnd → l ≡ min e 255
-    → TokensOf x (record { first = f; last = l; bonds = bs; busy = us })
-tokens-are {x} {e = e} {l} b u f s m =
-    record {
-      first = f;
-      room = omega arith;
-      last = λ h. record { is = λ r d w. let z : l ≡ e = omega (arith, s .fits) in z ∙ s .says .is r d w };
-      bonds = b;
-      busy = u;
-    }
 
 pub segment-written : {xs ys zs ws : List ℕ} {at p q o : ℕ} (x : Drawn) (t : ChainTokens) (l : ℕ) → length xs < 2 ^ 64
     → Written xs at (carbonsText (x .acyl) (t .bonds) (groupsIn (x .groups)) (ringsIn (x .rings)) l (t .first) (suc (t .last) - t .first)) ys p

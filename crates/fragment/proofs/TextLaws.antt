@@ -27,7 +27,7 @@ use Rattle.chain.specs.Bonds.{markOf}
 use Rattle.chain.specs.Drawing.{orNone, branchPart, branches, ringPairs}
 use Rattle.fragment.specs.Text.{branchText, groupText, sitting, groupsText, labelsText, carbonText, bridgeText, floatText}
 use Rattle.drawable.specs.Drawn.{Length, groupRoom, ringRoom, noGroup, noRing}
-use Rattle.fragment.proofs.Fronts.{next-of, none-left}
+use Rattle.carbons.proofs.Fronts.{next-of, none-left}
 use Rattle.fragment.proofs.Left.{Left, left-less, left-same, left-none, written-three}
 
 -- ---- the branches of the table, by one computed test over all of it

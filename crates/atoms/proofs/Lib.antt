@@ -1,0 +1,3 @@
+pub mod AtomLaws
+pub mod NumberLaws
+pub mod MarkLaws

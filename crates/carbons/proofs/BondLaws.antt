@@ -1,0 +1,272 @@
+-- Laws of the arrays by carbon: bonds, their marks, geometries, and the carbons that carry something.
+-- Assumes nothing.
+use Prim.Native.Nat.{ℕ, zero, suc, _+_, _-_, _≤_, _<_}
+use native.Mathlib.Numerals.{add-one}
+use native.Mathlib.Omega.{arith}
+use mathlib.Core.Path.{_≡_, refl, sym, ap, _∙_}
+use mathlib.Core.Bool.{Bool, true, false, cond, _||_, _&&_}
+use mathlib.Core.List.{List, [], _∷_}
+use lib.Dec.{eqb, ltb}
+use lib.ListN.{length, drop, getD, set, replicate, getD-replicate, length-set, length-replicate}
+use lib.Seq.{set-out, getD-set-same, getD-set-other}
+use borrow.Author.Tests.{lt-ltb, le-ltb, eq-eqb, ne-eqb, eqb-true, eqb-false}
+use Rattle.record.specs.declared.Geometry.{Geometry}
+use Rattle.record.specs.declared.Geometry.the-variants.{Unstated, Cis, Trans}
+use Rattle.record.specs.declared.Bridge.the-variants.{Epoxide, Carbocycle}
+use Rattle.record.specs.declared.DbPos.{DbPos}
+use Rattle.record.specs.declared.Mod.{Mod}
+use Rattle.record.specs.declared.Ring.{Ring}
+use Rattle.chain.specs.Lists.{anyOf}
+use Rattle.chain.specs.Refusals.{isEpoxide}
+use Rattle.chain.specs.Bonds.{openMark, opensDown, closeMark, closeByte, markBond, markFrom, geometryAt, plainBond, bridged, double}
+use Rattle.drawable.specs.Drawn.{Length, bondRoom, groupRoom, ringRoom, noBond, noGroup, noRing}
+use Rattle.carbons.specs.ByCarbon.{geometryByte, geometryOf, doubleAt, bridgeAt, groupOn, ringOn, SetWhere, Geometries, Marks, PlainBonds}
+use Rattle.carbons.proofs.Fronts.{back-one, none-left}
+
+-- ---- a store
+
+pub set-past : (xs : List ℕ) (p v : ℕ) → length xs ≤ p → xs ≡ set xs p v
+set-past xs p v h = sym (set-out xs p v h)
+
+-- what stands at k after a store at p
+stored : (xs : List ℕ) (p v k : ℕ) → k < length xs → getD (set xs p v) k 0 ≡ cond (eqb p k) v (getD xs k 0)
+stored xs p v k h = go (eqb p k) refl
+  where
+    go : (b : Bool) → eqb p k ≡ b → getD (set xs p v) k 0 ≡ cond b v (getD xs k 0)
+    go true e = rw (eqb-true p k e) (getD-set-same xs k v 0 h)
+    go false e = getD-set-other xs p k v 0 (λ f. eqb-false p k e (sym f))
+
+-- ---- places where something stands
+
+pub where-none : {test : ℕ → Bool} (v : ℕ) (ks : List ℕ) → ((k : ℕ) → test k ≡ false) → SetWhere test v ks ks
+where-none v ks e = record { size = refl; at = λ k h. rw (e k) }
+
+-- one place more
+pub where-one : {test more : ℕ → Bool} {v : ℕ} {ks js : List ℕ} (p : ℕ) → SetWhere test v ks js
+    → ((k : ℕ) → more k ≡ (eqb p k || test k)) → SetWhere more v ks (set js p v)
+where-one {test} {more} {v} {ks} {js} p s e =
+    record { size = length-set js p v ∙ s .size; at = λ k h. stored js p v k (omega (arith, s .size)) ∙ go k (eqb p k) (s .at k h) (e k) }
+  where
+    go : (k : ℕ) (b : Bool) → getD js k 0 ≡ cond (test k) v (getD ks k 0) → more k ≡ (b || test k) → cond b v (getD js k 0) ≡ cond (more k) v (getD ks k 0)
+    go k true f g = rw g
+    go k false f g = rw g f
+
+where-same : {test more : ℕ → Bool} {v : ℕ} {ks js : List ℕ} → SetWhere test v ks js → ((k : ℕ) → more k ≡ test k) → SetWhere more v ks js
+where-same s e = record { size = s .size; at = λ k h. rw (e k) (s .at k h) }
+
+pub where-length : {test : ℕ → Bool} {v : ℕ} {ks js : List ℕ} → SetWhere test v ks js → length js ≡ length ks
+where-length s = s .size
+
+or-assoc : (a b c : Bool) → ((a || b) || c) ≡ (a || (b || c))
+or-assoc true b c = refl
+or-assoc false b c = refl
+
+-- nothing is set before the loop: the list is gone through from its end
+module _ {n : ℕ} (ks : List ℕ) where
+  pub doubles-none : {bs : List DbPos} → Length bondRoom bs n → SetWhere (doubleAt (drop n bs)) 61 ks ks
+  unfolding doubleAt
+  doubles-none s = where-none 61 ks (λ k. rw (none-left s n (omega arith)))
+
+  pub bridges-none : {rs : List Ring} → Length ringRoom rs n → SetWhere (bridgeAt (drop n rs)) 79 ks ks
+  unfolding bridgeAt
+  bridges-none s = where-none 79 ks (λ k. rw (none-left s n (omega arith)))
+
+  pub groups-none : {gs : List Mod} → Length groupRoom gs n → SetWhere (groupOn (drop n gs)) 1 ks ks
+  unfolding groupOn
+  groups-none s = where-none 1 ks (λ k. rw (none-left s n (omega arith)))
+
+  pub rings-none : {rs : List Ring} → Length ringRoom rs n → SetWhere (ringOn (drop n rs)) 1 ks ks
+  unfolding ringOn
+  rings-none s = where-none 1 ks (λ k. rw (none-left s n (omega arith)))
+
+-- a turn
+module _ {n : ℕ} {ks js : List ℕ} (i : ℕ) (h : 0 < i) (m : i ≤ n) where
+  pub double-set : {is : List ℕ} {bs : List DbPos} (b : DbPos) → Length bondRoom bs n → SetWhere (doubleAt (drop i bs)) 61 ks js → b ≡ getD bs (i - 1) noBond
+      → is ≡ set js (b .pos) 61 → SetWhere (doubleAt (drop (i - 1) bs)) 61 ks is
+  unfolding doubleAt
+  double-set b s w e f = rw f (where-one (b .pos) w (λ k. rw (back-one s noBond b i e h m)))
+
+  pub bridge-set : {is : List ℕ} {rs : List Ring} (x : Ring) → Length ringRoom rs n → SetWhere (bridgeAt (drop i rs)) 79 ks js → x ≡ getD rs (i - 1) noRing
+      → x .bridge ≡ Epoxide → is ≡ set js (x .start) 79 → SetWhere (bridgeAt (drop (i - 1) rs)) 79 ks is
+  unfolding bridgeAt
+  bridge-set x s w e g f = rw f (where-one (x .start) w (λ k. rw (back-one s noRing x i e h m, g)))
+
+  pub bridge-not : {rs : List Ring} (x : Ring) → Length ringRoom rs n → SetWhere (bridgeAt (drop i rs)) 79 ks js → x ≡ getD rs (i - 1) noRing
+      → x .bridge ≡ Carbocycle → SetWhere (bridgeAt (drop (i - 1) rs)) 79 ks js
+  unfolding bridgeAt
+  bridge-not x s w e g = where-same w (λ k. rw (back-one s noRing x i e h m, g))
+
+  pub group-set : {is : List ℕ} {gs : List Mod} (g : Mod) → Length groupRoom gs n → SetWhere (groupOn (drop i gs)) 1 ks js → g ≡ getD gs (i - 1) noGroup
+      → is ≡ set js (g .pos) 1 → SetWhere (groupOn (drop (i - 1) gs)) 1 ks is
+  unfolding groupOn
+  group-set g s w e f = rw f (where-one (g .pos) w (λ k. rw (back-one s noGroup g i e h m)))
+
+  pub ring-set : {rs : List Ring} {mid is : List ℕ} (x : Ring) → Length ringRoom rs n → SetWhere (ringOn (drop i rs)) 1 ks js → x ≡ getD rs (i - 1) noRing
+      → mid ≡ set js (x .end) 1 → is ≡ set mid (x .start) 1 → SetWhere (ringOn (drop (i - 1) rs)) 1 ks is
+  unfolding ringOn
+  ring-set {rs} {mid} x s w e f g =
+      let t : SetWhere (λ (k : ℕ). eqb (x .end) k || ringOn (drop i rs) k) 1 ks mid = rw f (where-one (x .end) w (λ k. refl)) in
+      rw g (where-one (x .start) t (λ k. rw (back-one s noRing x i e h m) (or-assoc (eqb (x .start) k) (eqb (x .end) k) (ringOn (drop i rs) k))))
+
+-- all of the list
+module _ {A : Type 0} (i : ℕ) (h : i ≤ 0) (l : List A) where
+  drop-none : drop i l ≡ l
+  drop-none =
+      let z : i ≡ 0 = omega arith in
+      rw z
+
+module _ {ks js : List ℕ} (i : ℕ) (h : i ≤ 0) where
+  pub doubles-all : (bs : List DbPos) → SetWhere (doubleAt (drop i bs)) 61 ks js → SetWhere (doubleAt bs) 61 ks js
+  doubles-all bs w = rw (drop-none i h bs) at w
+
+  pub bridges-all : (rs : List Ring) → SetWhere (bridgeAt (drop i rs)) 79 ks js → SetWhere (bridgeAt rs) 79 ks js
+  bridges-all rs w = rw (drop-none i h rs) at w
+
+  pub groups-all : (gs : List Mod) → SetWhere (groupOn (drop i gs)) 1 ks js → SetWhere (groupOn gs) 1 ks js
+  groups-all gs w = rw (drop-none i h gs) at w
+
+  pub rings-all : (rs : List Ring) → SetWhere (ringOn (drop i rs)) 1 ks js → SetWhere (ringOn rs) 1 ks js
+  rings-all rs w = rw (drop-none i h rs) at w
+
+-- ---- geometries
+
+pub geometries-none : {n : ℕ} {bs : List DbPos} → Length bondRoom bs n → Geometries (drop n bs) (replicate 256 0)
+unfolding geometryAt
+geometries-none {n} s =
+    record { size = length-replicate {A = ℕ} 256 0; at = λ k h. getD-replicate 256 k 0 0 h ∙ (rw (none-left s n (omega arith))) }
+
+pub geometry-set : {n : ℕ} {bs : List DbPos} {js is : List ℕ} (i r : ℕ) (b : DbPos) → 0 < i → i ≤ n → Length bondRoom bs n
+    → Geometries (drop i bs) js → b ≡ getD bs (i - 1) noBond → r ≡ geometryByte (b .geom) → is ≡ set js (b .pos) r → Geometries (drop (i - 1) bs) is
+unfolding geometryAt
+geometry-set {n} {bs} {js} {is} i r b h m s w e f g =
+    rw (g, back-one s noBond b i e h m)
+    (record { size = length-set js (b .pos) r ∙ w .size; at = λ k q. stored js (b .pos) r k (omega (arith, w .size)) ∙ go k (eqb (b .pos) k) (w .at k q) })
+  where
+    go : (k : ℕ) (t : Bool) → getD js k 0 ≡ geometryByte (geometryAt k (drop i bs)) → cond t r (getD js k 0) ≡ geometryByte (cond t (b .geom) (geometryAt k (drop i bs)))
+    go k true u = f
+    go k false u = u
+
+pub geometries-all : {bs : List DbPos} {js : List ℕ} (i : ℕ) → i ≤ 0 → Geometries (drop i bs) js → Geometries bs js
+geometries-all {bs} {js} i h w = rw (drop-none i h bs) at w
+
+geometry-back : (g : Geometry) → geometryOf (geometryByte g) ≡ g
+unfolding geometryOf
+geometry-back Unstated = refl
+geometry-back Cis = refl
+geometry-back Trans = refl
+
+-- ---- marks
+
+module _ (p : ℕ) (ks : List ℕ) where
+  pub open-there : 1 < p → getD ks (p - 1) 0 ≡ 0 → set ks (p - 1) 47 ≡ openMark p ks
+  unfolding openMark
+  open-there h e = rw (lt-ltb 1 p h, eq-eqb (getD ks (p - 1) 0) 0 e)
+
+  pub open-full : 1 < p → (getD ks (p - 1) 0 ≡ 0 → ⊥) → ks ≡ openMark p ks
+  unfolding openMark
+  open-full h e = rw (lt-ltb 1 p h, ne-eqb (getD ks (p - 1) 0) 0 e)
+
+  pub open-none : p ≤ 1 → ks ≡ openMark p ks
+  unfolding openMark
+  open-none h = rw (le-ltb 1 p h)
+
+  module _ (c : ℕ) (t : Bool) where
+    pub close-there : (r : ℕ) → p + 1 < c → getD ks (p + 1) 0 ≡ 0 → r ≡ closeByte t (eqb (getD ks (p - 1) 0) 92) → set ks (p + 1) r ≡ closeMark c t p ks
+    unfolding closeMark
+    close-there r h e f =
+        let g : suc p < c = omega arith in
+        let i : getD ks (suc p) 0 ≡ 0 = rw (add-one p) at e in
+        rw (f, add-one p, lt-ltb (suc p) c g, eq-eqb (getD ks (suc p) 0) 0 i)
+
+    pub close-full : p + 1 < c → (getD ks (p + 1) 0 ≡ 0 → ⊥) → ks ≡ closeMark c t p ks
+    unfolding closeMark
+    close-full h e =
+        let g : suc p < c = omega arith in
+        let i : getD ks (suc p) 0 ≡ 0 → ⊥ = rw (add-one p) at e in
+        rw (lt-ltb (suc p) c g, ne-eqb (getD ks (suc p) 0) 0 i)
+
+    pub close-none : c ≤ p + 1 → ks ≡ closeMark c t p ks
+    unfolding closeMark
+    close-none h =
+        let g : c ≤ suc p = omega arith in
+        rw (le-ltb (suc p) c g)
+
+  module _ (c g : ℕ) where
+    pub mark-cis : {mid js : List ℕ} → g ≡ 90 → mid ≡ openMark p ks → js ≡ closeMark c false p mid → js ≡ markBond c (geometryOf g) p ks
+    unfolding markBond geometryOf
+    mark-cis e u v = rw (e, v, u)
+
+    pub mark-trans : {mid js : List ℕ} → (g ≡ 90 → ⊥) → g ≡ 69 → mid ≡ openMark p ks → js ≡ closeMark c true p mid → js ≡ markBond c (geometryOf g) p ks
+    unfolding markBond geometryOf
+    mark-trans n e u v = rw (e, v, u)
+
+    pub mark-none : (g ≡ 90 → ⊥) → (g ≡ 69 → ⊥) → ks ≡ markBond c (geometryOf g) p ks
+    unfolding markBond geometryOf
+    mark-none n e = rw (ne-eqb g 90 n, ne-eqb g 69 e)
+
+-- a mark keeps the length
+length-if : (b : Bool) (ks : List ℕ) (p v : ℕ) → length (cond b (set ks p v) ks) ≡ length ks
+length-if true ks p v = length-set ks p v
+length-if false ks p v = refl
+
+length-open : (p : ℕ) (ks : List ℕ) → length (openMark p ks) ≡ length ks
+unfolding openMark
+length-open p ks = length-if (ltb 1 p && eqb (getD ks (p - 1) 0) 0) ks (p - 1) 47
+
+length-close : (c : ℕ) (t : Bool) (p : ℕ) (ks : List ℕ) → length (closeMark c t p ks) ≡ length ks
+unfolding closeMark
+length-close c t p ks = length-if (ltb (suc p) c && eqb (getD ks (suc p) 0) 0) ks (suc p) (closeByte t (opensDown p ks))
+
+length-mark : (c : ℕ) (g : Geometry) (p : ℕ) (ks : List ℕ) → length (markBond c g p ks) ≡ length ks
+unfolding markBond
+length-mark c Unstated p ks = refl
+length-mark c Cis p ks = length-close c false p (openMark p ks) ∙ length-open p ks
+length-mark c Trans p ks = length-close c true p (openMark p ks) ∙ length-open p ks
+
+pub length-marks : (c : ℕ) (bs : List DbPos) (p n : ℕ) (ks : List ℕ) → length (markFrom c bs p n ks) ≡ length ks
+unfolding markFrom
+length-marks c bs p zero ks = refl
+length-marks c bs p (suc n) ks = length-marks c bs (suc p) n (markBond c (geometryAt p bs) p ks) ∙ length-mark c (geometryAt p bs) p ks
+
+pub opened-length : (ks js : List ℕ) (p : ℕ) → js ≡ openMark p ks → length js ≡ length ks
+opened-length ks js p e = rw e (length-open p ks)
+
+pub closed-length : (ks js : List ℕ) (c : ℕ) (t : Bool) (p : ℕ) → js ≡ closeMark c t p ks → length js ≡ length ks
+closed-length ks js c t p e = rw e (length-close c t p ks)
+
+pub marked-length : (ks js : List ℕ) (c : ℕ) (g : Geometry) (p : ℕ) → js ≡ markBond c g p ks → length js ≡ length ks
+marked-length ks js c g p e = rw e (length-mark c g p ks)
+
+pub both-length : (ks js is : List ℕ) (c : ℕ) (t : Bool) (p : ℕ) → js ≡ openMark p ks → is ≡ closeMark c t p js → length is ≡ length ks
+both-length ks js is c t p e f = closed-length js is c t p f ∙ opened-length ks js p e
+
+-- what is left to be marked, from p on
+pub record MarksLeft (c : ℕ) (geoms before now : List ℕ) (p : ℕ) : Type 0 where
+  pub size : length now ≡ length before
+  pub are : (bs : List DbPos) → Geometries bs geoms → markFrom c bs 1 c before ≡ markFrom c bs p (suc c - p) now
+
+module _ {c : ℕ} {geoms ks : List ℕ} where
+  pub marks-all : MarksLeft c geoms ks ks 1
+  marks-all =
+      let z : suc c - 1 ≡ c = omega arith in
+      record { size = refl; are = λ bs g. rw z }
+
+  pub marks-less : {js is : List ℕ} (p : ℕ) → MarksLeft c geoms ks js p → p ≤ c → c < length geoms → is ≡ markBond c (geometryOf (getD geoms p 0)) p js → MarksLeft c geoms ks is (p + 1)
+  unfolding markFrom
+  marks-less {js} p w h m e =
+      record {
+        size = marked-length js _ c (geometryOf (getD geoms p 0)) p e ∙ w .size;
+        are = λ bs g.
+            let z : suc c - p ≡ suc (c - p) = omega arith in
+            let y : suc c - suc p ≡ c - p = omega arith in
+            w .are bs g ∙ (rw (z, add-one p, y, e, g .at p (omega (arith, g .size)), geometry-back));
+      }
+
+  pub marks-end : {js : List ℕ} (p : ℕ) → MarksLeft c geoms ks js p → c < p → Marks c geoms ks js
+  unfolding markFrom
+  marks-end p w h =
+      record {
+        are = λ bs g.
+            let z : suc c - p ≡ 0 = omega arith in
+            sym (w .are bs g ∙ (rw z));
+      }

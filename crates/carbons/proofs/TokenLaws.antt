@@ -1,0 +1,175 @@
+-- Laws of a chain's tokens: the bonds by carbon are those of the drawing, and a carbon that is not busy carries nothing.
+-- Assumes nothing.
+use Prim.Native.Nat.{ℕ, zero, suc, _+_, _-_, _≤_, _<_, min, max}
+use native.Mathlib.Nat.{zero-add}
+use native.Mathlib.Numerals.{add-one}
+use native.Mathlib.Omega.{arith}
+use mathlib.Core.Path.{_≡_, refl, sym, ap, _∙_}
+use mathlib.Core.Bool.{Bool, true, false, cond, _||_, _&&_}
+use mathlib.Core.List.{List, [], _∷_}
+use lib.Dec.{eqb, ltb}
+use lib.ListN.{length, take, drop, getD, set, replicate, getD-replicate, length-set, length-replicate}
+use lib.Seq.{take-set-lt, take-set-le, getD-take, take-suc, ext-getD, length-take-le}
+use borrow.Author.Tests.{lt-ltb, le-ltb, eq-eqb, ne-eqb, ltb-true, ltb-false, eqb-true, eqb-false}
+use Rattle.record.specs.declared.Geometry.{Geometry}
+use Rattle.record.specs.declared.Geometry.the-variants.{Unstated, Cis, Trans}
+use Rattle.record.specs.declared.DbPos.{DbPos}
+use Rattle.record.specs.declared.Mod.{Mod}
+use Rattle.record.specs.declared.Ring.{Ring}
+use Rattle.chain.specs.Lists.{anyOf, valuesFrom}
+use Rattle.chain.specs.Features.{literalEnd}
+use Rattle.chain.specs.Bonds.{openMark, opensDown, closeMark, closeByte, markBond, markFrom, geometryAt, plainBond, plainBonds}
+use Rattle.drawable.specs.declared.Drawn.{Drawn}
+use Rattle.drawable.specs.Drawn.{bondsIn, groupsIn, ringsIn, SaysUpTo}
+use Rattle.carbons.specs.declared.ChainTokens.{ChainTokens}
+use Rattle.carbons.specs.Tokens.{TokensOf}
+use Rattle.carbons.specs.ByCarbon.{doubleAt, bridgeAt, groupOn, ringOn, carbonylOn, busyAt, SetWhere, Geometries, Marks, PlainBonds, BondsBy, Busy}
+use Rattle.carbons.proofs.BondLaws.{where-none, where-one, length-marks}
+
+-- ---- values
+
+pub length-values : {A : Type 0} (f : ℕ → A) (k n : ℕ) → length (valuesFrom f k n) ≡ n
+unfolding valuesFrom
+length-values f k zero = refl
+length-values f k (suc n) = ap suc (length-values f (suc k) n)
+
+pub values-at : {A : Type 0} (f : ℕ → A) (k n i : ℕ) (d : A) → i < n → getD (valuesFrom f k n) i d ≡ f (k + i)
+unfolding valuesFrom
+values-at f k zero i d h = absurd (omega arith)
+values-at f k (suc n) zero d h =
+    let z : k + 0 ≡ k = omega arith in
+    rw z
+values-at f k (suc n) (suc i) d h =
+    let z : suc k + i ≡ k + suc i = omega arith in
+    values-at f (suc k) n i d (omega arith) ∙ ap f z
+
+pub values-same : {A : Type 0} (f g : ℕ → A) (k n : ℕ) → ((i : ℕ) → k ≤ i → i < k + n → f i ≡ g i) → valuesFrom f k n ≡ valuesFrom g k n
+unfolding valuesFrom
+values-same f g k zero e = refl
+values-same f g k (suc n) e =
+    let a = e k (omega arith) (omega arith) in
+    let b = values-same f g (suc k) n (λ i h m. e i (omega arith) (omega arith)) in
+    rw (a, b)
+
+-- ---- before any mark
+
+zeros-size : (m : ℕ) → length (replicate {A = ℕ} m 0) ≡ m
+zeros-size m = length-replicate {A = ℕ} m 0
+
+pub bonds-plain : {bs : List DbPos} {rs : List Ring} {mid ks : List ℕ} → SetWhere (bridgeAt rs) 79 (replicate 256 0) mid → SetWhere (doubleAt bs) 61 mid ks → PlainBonds bs rs ks
+unfolding plainBond bridgeAt doubleAt
+bonds-plain {bs} {rs} {mid} v w =
+    record {
+      size = w .size ∙ (v .size ∙ zeros-size 256);
+      at = λ k h.
+          let m : length mid ≡ 256 = v .size ∙ zeros-size 256 in
+          let z : k < length (replicate {A = ℕ} 256 0) = omega (arith, zeros-size 256) in
+          w .at k (omega arith) ∙ (rw (v .at k z, getD-replicate {A = ℕ} 256 k 0 0 h));
+    }
+
+plain-taken : (bs : List DbPos) (rs : List Ring) (c : ℕ) (ks : List ℕ) → c ≤ 255 → PlainBonds bs rs ks → take (suc c) ks ≡ plainBonds bs rs c
+unfolding plainBonds
+plain-taken bs rs c ks h w =
+    let z : length (take (suc c) ks) ≡ suc c = length-take-le (suc c) ks (omega (arith, w .size)) in
+    ext-getD 0 (take (suc c) ks) (valuesFrom (plainBond bs rs) 0 (suc c)) (z ∙ sym (length-values (plainBond bs rs) 0 (suc c)))
+    (λ i q.
+    let y : i < suc c = rw z at q in
+    getD-take (suc c) ks i 0 y ∙ (w .at i (omega arith) ∙ sym (rw (zero-add i) at (values-at (plainBond bs rs) 0 (suc c) i 0 y))))
+
+-- ---- marks go no further than c
+
+take-if : (b : Bool) (m : ℕ) (ks : List ℕ) (p v : ℕ) → p < m → take m (cond b (set ks p v) ks) ≡ cond b (set (take m ks) p v) (take m ks)
+take-if true m ks p v h = take-set-lt m ks p v h
+take-if false m ks p v h = refl
+
+take-open : (c p : ℕ) (ks : List ℕ) → p ≤ c → take (suc c) (openMark p ks) ≡ openMark p (take (suc c) ks)
+unfolding openMark
+take-open c p ks h =
+    let z : p - 1 < suc c = omega arith in
+    take-if (ltb 1 p && eqb (getD ks (p - 1) 0) 0) (suc c) ks (p - 1) 47 z ∙ (rw (getD-take (suc c) ks (p - 1) 0 z))
+
+take-close : (c : ℕ) (t : Bool) (p : ℕ) (ks : List ℕ) → p ≤ c → take (suc c) (closeMark c t p ks) ≡ closeMark c t p (take (suc c) ks)
+unfolding closeMark
+take-close c t p ks h = go (ltb (suc p) c) refl
+  where
+    go : (b : Bool) → ltb (suc p) c ≡ b
+        → take (suc c) (cond (b && eqb (getD ks (suc p) 0) 0) (set ks (suc p) (closeByte t (opensDown p ks))) ks)
+        ≡ cond (b && eqb (getD (take (suc c) ks) (suc p) 0) 0) (set (take (suc c) ks) (suc p) (closeByte t (opensDown p (take (suc c) ks)))) (take (suc c) ks)
+    go false e = refl
+    go true e =
+        let s : suc p < c = ltb-true (suc p) c e in
+        take-if (eqb (getD ks (suc p) 0) 0) (suc c) ks (suc p) (closeByte t (opensDown p ks)) (omega arith)
+        ∙ (rw (getD-take (suc c) ks (suc p) 0 (omega arith), getD-take (suc c) ks (p - 1) 0 (omega arith)))
+
+take-mark : (c : ℕ) (g : Geometry) (p : ℕ) (ks : List ℕ) → p ≤ c → take (suc c) (markBond c g p ks) ≡ markBond c g p (take (suc c) ks)
+unfolding markBond
+take-mark c Unstated p ks h = refl
+take-mark c Cis p ks h = take-close c false p (openMark p ks) h ∙ ap (closeMark c false p) (take-open c p ks h)
+take-mark c Trans p ks h = take-close c true p (openMark p ks) h ∙ ap (closeMark c true p) (take-open c p ks h)
+
+take-marks : (c : ℕ) (bs : List DbPos) (p n : ℕ) (ks : List ℕ) → p + n ≤ suc c → take (suc c) (markFrom c bs p n ks) ≡ markFrom c bs p n (take (suc c) ks)
+unfolding markFrom
+take-marks c bs p zero ks h = refl
+take-marks c bs p (suc n) ks h =
+    take-marks c bs (suc p) n (markBond c (geometryAt p bs) p ks) (omega arith) ∙ ap (markFrom c bs (suc p) n) (take-mark c (geometryAt p bs) p ks (omega arith))
+
+pub bonds-marked : {bs : List DbPos} {rs : List Ring} {geoms ks js : List ℕ} (c m : ℕ) → PlainBonds bs rs ks → Geometries bs geoms → m ≡ min c 255
+    → Marks m geoms ks js → BondsBy bs rs c js
+bonds-marked {bs} {rs} {geoms} {ks} {js} c m w g e v =
+    record {
+      size = ap length (v .are bs g) ∙ (length-marks m bs 1 m ks ∙ w .size);
+      are = λ h.
+          let z : m ≡ c = omega arith in
+          let y : js ≡ markFrom c bs 1 c ks = rw z at (v .are bs g) in
+          ap (take (suc c)) y ∙ (take-marks c bs 1 c ks (omega arith) ∙ ap (markFrom c bs 1 c) (plain-taken bs rs c ks h w));
+    }
+
+-- ---- busy carbons
+
+pub carbonyl-set : {ks js : List ℕ} (acyl : Bool) → acyl ≡ true → js ≡ set ks 1 1 → SetWhere (carbonylOn acyl) 1 ks js
+unfolding carbonylOn
+carbonyl-set {ks} acyl e f = rw (e, f) (where-one 1 (where-none {test = λ (k : ℕ). false} 1 ks (λ k. refl)) (λ k. or-false (eqb 1 k)))
+  where
+    or-false : (b : Bool) → b ≡ (b || false)
+    or-false true = refl
+    or-false false = refl
+
+pub carbonyl-none : {ks : List ℕ} (acyl : Bool) → acyl ≡ false → SetWhere (carbonylOn acyl) 1 ks ks
+unfolding carbonylOn
+carbonyl-none {ks} acyl e = rw e (where-none 1 ks (λ k. refl))
+
+pub busy-all : {acyl : Bool} {gs : List Mod} {rs : List Ring} {ks js is : List ℕ} → SetWhere (ringOn rs) 1 (replicate 256 0) ks → SetWhere (groupOn gs) 1 ks js
+    → SetWhere (carbonylOn acyl) 1 js is → Busy acyl gs rs is
+unfolding busyAt
+busy-all {acyl} {gs} {rs} {ks} {js} {is} u v w =
+    record {
+      size = w .size ∙ m;
+      at = λ k h.
+          let z : k < length (replicate {A = ℕ} 256 0) = omega (arith, zeros-size 256) in
+          w .at k (omega (arith, m)) ∙ (rw (v .at k (omega (arith, l)), u .at k z, getD-replicate {A = ℕ} 256 k 0 0 h) (go (carbonylOn acyl k) (groupOn gs k) (ringOn rs k)));
+    }
+  where
+    l : length ks ≡ 256
+    l = u .size ∙ zeros-size 256
+
+    m : length js ≡ 256
+    m = v .size ∙ l
+
+    go : (a b c : Bool) → _≡_ {A = ℕ} (cond a 1 (cond b 1 (cond c 1 0))) (cond (a || (b || c)) 1 0)
+    go true b c = refl
+    go false true c = refl
+    go false false c = refl
+
+-- ---- all of it
+
+pub tokens-are : {x : Drawn} {bs us : List ℕ} {f e l : ℕ} → BondsBy (bondsIn (x .bonds)) (ringsIn (x .rings)) (x .carbon) bs
+    → Busy (x .acyl) (groupsIn (x .groups)) (ringsIn (x .rings)) us → f ≡ max (x .first) 1 → SaysUpTo x e literalEnd → l ≡ min e 255
+    → TokensOf x (record { first = f; last = l; bonds = bs; busy = us })
+tokens-are {x} {e = e} {l} b u f s m =
+    record {
+      first = f;
+      room = omega arith;
+      last = λ h. record { is = λ r d w. let z : l ≡ e = omega (arith, s .fits) in z ∙ s .says .is r d w };
+      bonds = b;
+      busy = u;
+    }

@@ -1,0 +1,2 @@
+pub mod ByCarbon
+pub mod Tokens

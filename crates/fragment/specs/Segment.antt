@@ -1,0 +1,37 @@
+-- What is written of a chain, and that it is the text of the drawing. Assumes nothing.
+use Prim.Native.Nat.{ℕ, suc, _-_, _≤_}
+use mathlib.Core.Path.{_≡_}
+use mathlib.Core.List.{List, [], _∷_, _++_}
+use lib.ListN.{length, getD}
+use Rattle.emit.specs.Text.{Written}
+use Rattle.record.specs.declared.Ring.{Ring}
+use Rattle.record.specs.Chain.{Chain, maxCarbons}
+use Rattle.reading.specs.Piece.{show}
+use Rattle.reading.specs.Template.{itemPieces, chain}
+use Rattle.chain.specs.declared.Role.{Role}
+use Rattle.chain.specs.Drawing.{chainDrawn}
+use Rattle.drawable.specs.declared.Drawn.{Drawn}
+use Rattle.drawable.specs.Drawn.{groupsIn, ringsIn, Draws}
+use Rattle.carbons.specs.declared.ChainTokens.{ChainTokens}
+use Rattle.fragment.specs.Text.{carbonsText, flexibleText, floatsText}
+
+-- the literal carbons, the flexible tail and the groups without a position
+unfoldable pub segmentText : Drawn → ChainTokens → ℕ → List ℕ
+segmentText x t l =
+    carbonsText (x .acyl) (t .bonds) (groupsIn (x .groups)) (ringsIn (x .rings)) l (t .first) (suc (t .last) - t .first)
+    ++ (flexibleText (getD (t .bonds) (t .last) 0) (x .unlocated) ++ floatsText (groupsIn (x .floats)))
+
+-- each ring starts no later than it ends, and ends on the chain: so the token reader reads it
+abbrev pub RingsOn : ℕ → List Ring → Type 0
+RingsOn c [] = Unit {0}
+RingsOn c (x ∷ rs) = (x .start ≤ x .end) × (x .end ≤ c) × RingsOn c rs
+
+-- what the drawing relies on beside the refusals
+pub record Readable (d : Chain) : Type 0 where
+  pub carbons : d .carbon ≤ maxCarbons
+  pub rings : RingsOn (d .carbon) (d .rings)
+
+-- the text of every chain that x draws, with labels from l on, stands at the place `at`
+pub record Segment (x : Drawn) (l : ℕ) (xs : List ℕ) (at : ℕ) (ys : List ℕ) (q : ℕ) : Type 0 where
+  pub size : length ys ≡ length xs
+  pub text : (r : Role) (d : Chain) → Draws r d x → Readable d → l ≤ 247 → Written xs at (show (itemPieces l (chain (chainDrawn r d)))) ys q
