@@ -11,9 +11,9 @@ use Rattle.scan.specs.Part.{sameBytes}
 use Rattle.reading.specs.Ascii.{ascii}
 use Rattle.chain.specs.declared.Role.{Role}
 use Rattle.chain.specs.declared.Role.the-variants.{Acyl, Base}
-use Rattle.builder.specs.declared.Class.{Class}
-use Rattle.builder.specs.declared.Class.the-variants.{Fa, Gl1, Gl2, Gl3, Gp, Cl, Sb, Sa}
-use Rattle.builder.specs.Template.{classOf, roleOf}
+use Rattle.template.specs.declared.Class.{Class}
+use Rattle.template.specs.declared.Class.the-variants.{Fa, Gl1, Gl2, Gl3, Gp, Cl, Sb, Sa}
+use Rattle.template.specs.Template.{classOf, roleOf}
 
 pub first-base : (sn : ℕ) → sn ≡ 1 → Base ≡ roleOf Sa sn
 first-base sn e = rw (eq-eqb sn 1 e)

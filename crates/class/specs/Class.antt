@@ -1,6 +1,6 @@
 -- A class code as it was read. Assumes nothing.
 use mathlib.Core.Option.{Option, none, some}
-use Rattle.builder.specs.declared.Class.{Class}
+use Rattle.template.specs.declared.Class.{Class}
 use Rattle.class.specs.declared.Code.{Code}
 use Rattle.class.specs.declared.Code.the-variants.{Known, Unknown}
 

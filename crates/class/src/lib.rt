@@ -1,10 +1,10 @@
 // The eight class codes, and what each class asks of its tokens and its tail. Every byte string has an answer. What each class is, is said
-// by the templates: crates/builder/specs/Template.antt.
-use builder::Class;
+// by the templates: crates/template/specs/Template.antt.
 use chain::Role;
+use template::Class;
 ghost use mathlib.Core.Path.{_≡_};
-ghost use Rattle.builder.specs.Template.{classOf, fewest as fewestOf, most as mostOf, roleOf, hasTail};
-ghost use Rattle.builder.specs.declared.Class.the-variants.{Sa};
+ghost use Rattle.template.specs.Template.{classOf, fewest as fewestOf, most as mostOf, roleOf, hasTail};
+ghost use Rattle.template.specs.declared.Class.the-variants.{Sa};
 ghost use Rattle.class.specs.Class.{read};
 
 // A class code as it was read.

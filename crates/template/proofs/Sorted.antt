@@ -23,9 +23,9 @@ use Rattle.chain.specs.Lists.{anyOf}
 use Rattle.chain.specs.Drawing.{carbons}
 use Rattle.chain.proofs.Lists.{or-left, or-right, Rises, rises-from, all-append}
 use Rattle.chain.proofs.Atoms.{chainEnd-le, atomsEnd-le, atomsOf-append}
-use Rattle.builder.specs.Template.{Element, fixed, tail, slot, chain}
-use Rattle.builder.specs.Request.{nonempty, fixedPieces, tailPart, Placed, atomsOfPiece, atomsOfPieces, siteOf, place, atomsAfter, variablesAfter, placedFrom, insertBySn, bySn, siteNote, snSites}
-use Rattle.builder.proofs.Templates.{snsOf, isBase, hasBase, headed, Begins, begins}
+use Rattle.template.specs.Template.{Element, fixed, tail, slot, chain}
+use Rattle.template.specs.Request.{nonempty, fixedPieces, tailPart, Placed, atomsOfPiece, atomsOfPieces, siteOf, place, atomsAfter, variablesAfter, placedFrom, insertBySn, bySn, siteNote, snSites}
+use Rattle.template.proofs.Templates.{snsOf, isBase, hasBase, headed, Begins, begins}
 
 -- ---- what a template places
 

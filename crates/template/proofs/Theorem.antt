@@ -31,20 +31,20 @@ use Rattle.chain.proofs.Lists.{Rises, rises-within, rises-distinct, rises-risin
 use Rattle.chain.proofs.Accepted.{Drawable, first-one, drawn-most, carbon-most}
 use Rattle.chain.proofs.Atoms.{carbon-atoms-rise, carbon-atoms-count, atomsEnd-le}
 use Rattle.chain.proofs.Counts.{SumStands, Chosen, written-add-up}
-use Rattle.builder.specs.declared.Class.{Class}
-use Rattle.builder.specs.Template.{Element, elements, fewest, most as mostTokens, roleOf, hasTail}
-use Rattle.builder.specs.Request.{Placed, placedFrom, placed, allMarks, allSites, allSums, bySn, headCarbons, indicesOf, snSites, labels, orNoRows, rowsDrawn, moleculeDrawn, textOf, lineOf}
-use Rattle.builder.specs.Promise.{Each, bytesAt, variableAt, Listed, Choice, AddsUp, Promise}
-use Rattle.builder.proofs.Templates.{snsOf, isBase, hasBase, headed, Fitting, fitting}
-use Rattle.builder.proofs.Rows.{Carbonic}
-use Rattle.builder.proofs.Placing.{InRows, variablesTo, AcceptsFrom, accepts-at}
-use Rattle.builder.proofs.Whole.{Stands, stands}
-use Rattle.builder.proofs.Text.{text-reads}
-use Rattle.builder.proofs.Notes.{endOf, placing-within, placing-drawable, all-marks-rise, all-variables-rise, all-summed, all-sums-stand, variables-most, all-sites-rise, all-sites-within, all-sites-flat, all-sites-some, sn-sites-rise, own-marks, look-outside, marks-after, total-agrees, all-chosen, own-sums}
-use Rattle.builder.proofs.Sorted.{sns-placed, headed-first, base-placed, length-placed, placed-apart, all-sorted, snOf, sorted-rise, site-notes-rise, sorted-sites-apart, sorted-sites-all}
-use Rattle.builder.proofs.Tail.{TailReads, tail-fits}
-use Rattle.builder.proofs.Listing.{chains-listed}
-use Rattle.builder.proofs.Molecules.{bytes-at, variable-at, sums-in, set-all, all-set}
+use Rattle.template.specs.declared.Class.{Class}
+use Rattle.template.specs.Template.{Element, elements, fewest, most as mostTokens, roleOf, hasTail}
+use Rattle.template.specs.Request.{Placed, placedFrom, placed, allMarks, allSites, allSums, bySn, headCarbons, indicesOf, snSites, labels, orNoRows, rowsDrawn, moleculeDrawn, textOf, lineOf}
+use Rattle.template.specs.Promise.{Each, bytesAt, variableAt, Listed, Choice, AddsUp, Promise}
+use Rattle.template.proofs.Templates.{snsOf, isBase, hasBase, headed, Fitting, fitting}
+use Rattle.template.proofs.Rows.{Carbonic}
+use Rattle.template.proofs.Placing.{InRows, variablesTo, AcceptsFrom, accepts-at}
+use Rattle.template.proofs.Whole.{Stands, stands}
+use Rattle.template.proofs.Text.{text-reads}
+use Rattle.template.proofs.Notes.{endOf, placing-within, placing-drawable, all-marks-rise, all-variables-rise, all-summed, all-sums-stand, variables-most, all-sites-rise, all-sites-within, all-sites-flat, all-sites-some, sn-sites-rise, own-marks, look-outside, marks-after, total-agrees, all-chosen, own-sums}
+use Rattle.template.proofs.Sorted.{sns-placed, headed-first, base-placed, length-placed, placed-apart, all-sorted, snOf, sorted-rise, site-notes-rise, sorted-sites-apart, sorted-sites-all}
+use Rattle.template.proofs.Tail.{TailReads, tail-fits}
+use Rattle.template.proofs.Listing.{chains-listed}
+use Rattle.template.proofs.Molecules.{bytes-at, variable-at, sums-in, set-all, all-set}
 
 -- ---- what is accepted
 

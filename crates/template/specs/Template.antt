@@ -8,8 +8,8 @@ use Rattle.scan.specs.Part.{sameBytes}
 use Rattle.reading.specs.Ascii.{ascii}
 use Rattle.chain.specs.declared.Role.{Role}
 use Rattle.chain.specs.declared.Role.the-variants as role
-use Rattle.builder.specs.declared.Class.{Class}
-use Rattle.builder.specs.declared.Class.the-variants.{Fa, Gl1, Gl2, Gl3, Gp, Cl, Sb, Sa}
+use Rattle.template.specs.declared.Class.{Class}
+use Rattle.template.specs.declared.Class.the-variants.{Fa, Gl1, Gl2, Gl3, Gp, Cl, Sb, Sa}
 
 -- an element of a template: a text of its own, the tail, a slot of some sn, or a chain of some sn that stands without an O
 pub data Element : Type 0 where

@@ -14,11 +14,11 @@ use Rattle.reading.specs.Part.{partOf}
 use Rattle.chain.specs.Refusals.{wrongKind, placeRefusal, drawRefusal}
 use Rattle.chain.specs.Drawing.{orNone, chainDrawn, carbonAtoms, marks, sites, sums}
 use Rattle.emit.specs.Text.{digits}
-use Rattle.builder.specs.declared.Class.{Class}
-use Rattle.builder.specs.declared.Class.the-variants.{Fa, Sb}
-use Rattle.builder.specs.Request.{lineOf, indexOf}
-use Rattle.builder.specs.Promise.{Promise}
-use Rattle.builder.proofs.Theorem.{Accepted, promise}
+use Rattle.template.specs.declared.Class.{Class}
+use Rattle.template.specs.declared.Class.the-variants.{Fa, Sb}
+use Rattle.template.specs.Request.{lineOf, indexOf}
+use Rattle.template.specs.Promise.{Promise}
+use Rattle.template.proofs.Theorem.{Accepted, promise}
 
 -- a request, its line and its lists end to end
 pub data Example : Type 0 where

@@ -18,8 +18,8 @@ use Rattle.reading.specs.Show.{showLine}
 use Rattle.chain.specs.declared.Role.{Role}
 use Rattle.chain.specs.declared.Role.the-variants as role
 use Rattle.chain.specs.Drawing as draw
-use Rattle.builder.specs.declared.Class.{Class}
-use Rattle.builder.specs.Template.{Element, fixed, tail, slot, chain, elements}
+use Rattle.template.specs.declared.Class.{Class}
+use Rattle.template.specs.Template.{Element, fixed, tail, slot, chain, elements}
 
 -- the chain of the token with this sn, if there is such a token
 unfoldable pub chainAt : ℕ → List Chain → Option Chain

@@ -20,10 +20,10 @@ use Rattle.chain.specs.declared.Role.{Role}
 use Rattle.chain.specs.declared.Role.the-variants as role
 use Rattle.chain.specs.Lists.{anyOf, allOf, valuesFrom}
 use Rattle.chain.proofs.Branches.{unlabelled}
-use Rattle.builder.specs.declared.Class.{Class}
-use Rattle.builder.specs.declared.Class.the-variants.{Fa, Gl1, Gl2, Gl3, Gp, Cl, Sb, Sa}
-use Rattle.builder.specs.Template.{Element, fixed, tail, slot, chain, elements, most, roleOf, hasTail}
-use Rattle.builder.specs.Request.{fixedPieces, atomsOfPieces}
+use Rattle.template.specs.declared.Class.{Class}
+use Rattle.template.specs.declared.Class.the-variants.{Fa, Gl1, Gl2, Gl3, Gp, Cl, Sb, Sa}
+use Rattle.template.specs.Template.{Element, fixed, tail, slot, chain, elements, most, roleOf, hasTail}
+use Rattle.template.specs.Request.{fixedPieces, atomsOfPieces}
 
 -- ---- a template's own pieces are a run
 

@@ -14,8 +14,8 @@ use Rattle.reading.proofs.Reading.{Reads, Split, reads-split, reads-nil-only}
 use Rattle.reading.proofs.WellFormed.{AtomBytes, letter, chlorine, bromine, bracket, AllWell}
 use Rattle.reading.proofs.Part.{PartFrom, part-from, part-size}
 use Rattle.chain.specs.Drawing.{orNone}
-use Rattle.builder.specs.Request.{tailPart}
-use Rattle.builder.proofs.Placing.{TailFits}
+use Rattle.template.specs.Request.{tailPart}
+use Rattle.template.proofs.Placing.{TailFits}
 
 -- ---- a piece gives at most one row
 

@@ -12,9 +12,9 @@ use Rattle.reading.specs.Template.{Item, piece, part, chain as drawnChain, item
 use Rattle.reading.proofs.ShowLex.{show-append}
 use Rattle.chain.specs.declared.Role.{Role}
 use Rattle.chain.specs.Drawing.{chainDrawn, ringPairs}
-use Rattle.builder.specs.Template.{Element, fixed, tail, slot, chain}
-use Rattle.builder.specs.Request.{Placed, place, nonempty, placedFrom, chainItem, slotOxygen, fixedPieces, itemsOf, allItems}
-use Rattle.builder.specs.Built.{chainIn, elementAtoms, elementVariables, labelsAfter, elementLabels, elementPlaced, atomsFrom, variablesFrom, labelsFrom}
+use Rattle.template.specs.Template.{Element, fixed, tail, slot, chain}
+use Rattle.template.specs.Request.{Placed, place, nonempty, placedFrom, chainItem, slotOxygen, fixedPieces, itemsOf, allItems}
+use Rattle.template.specs.Built.{chainIn, elementAtoms, elementVariables, labelsAfter, elementLabels, elementPlaced, atomsFrom, variablesFrom, labelsFrom}
 
 -- the chains of elements, the first taken off
 pub placed-cons : (t : List ℕ) (ds : List Chain) (n v : ℕ) (e : Element) (es : List Element)

@@ -11,8 +11,8 @@ use Rattle.reading.proofs.SetLaws.{Has, set-to, set-from, sum-told}
 use mathlib.Core.Logic.{inl, inr, ⊎-elim}
 use Rattle.reading.proofs.PartingLaws.{All}
 use Rattle.reading.proofs.Part.{none≢some}
-use Rattle.builder.specs.Promise.{atomAt, bytesOf, variableOf, bytesAt, variableAt, sumsIn}
-use Rattle.builder.proofs.Rows.{rowBytes}
+use Rattle.template.specs.Promise.{atomAt, bytesOf, variableOf, bytesAt, variableAt, sumsIn}
+use Rattle.template.proofs.Rows.{rowBytes}
 
 -- ---- atoms
 

@@ -27,11 +27,11 @@ use Rattle.chain.specs.Drawing.{chainDrawn, ringPairs}
 use Rattle.chain.proofs.Accepted.{Drawable}
 use Rattle.chain.proofs.Branches.{unlabelled}
 use Rattle.chain.proofs.Fits.{chain-fits, chain-well}
-use Rattle.builder.specs.Template.{Element, fixed, tail, slot, chain}
-use Rattle.builder.specs.Request.{chainAt, nonempty, orNothing, fixedPieces, tailPart, chainItem, slotOxygen, itemsOf, allItems}
-use Rattle.builder.proofs.Templates.{isBare, inRole, isTailed, sameRole, snsOf, Fitting}
-use Rattle.builder.proofs.Placing.{Accepts, TailFits, drawable-at}
-use Rattle.builder.proofs.Whole.{Stands}
+use Rattle.template.specs.Template.{Element, fixed, tail, slot, chain}
+use Rattle.template.specs.Request.{chainAt, nonempty, orNothing, fixedPieces, tailPart, chainItem, slotOxygen, itemsOf, allItems}
+use Rattle.template.proofs.Templates.{isBare, inRole, isTailed, sameRole, snsOf, Fitting}
+use Rattle.template.proofs.Placing.{Accepts, TailFits, drawable-at}
+use Rattle.template.proofs.Whole.{Stands}
 
 -- ---- items that are joined
 

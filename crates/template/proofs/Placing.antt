@@ -35,10 +35,10 @@ use Rattle.chain.specs.Drawing.{chainDrawn, carbons, floats, carbonAtoms, atoms
 use Rattle.chain.proofs.Lists.{all-append}
 use Rattle.chain.proofs.Accepted.{Drawable}
 use Rattle.chain.proofs.Few.{atoms-most}
-use Rattle.builder.specs.Template.{Element, fixed, tail, slot, chain}
-use Rattle.builder.specs.Request.{chainAt, unlessEmpty, nonempty, fixedPieces, tailPart, chainItem, slotOxygen, itemsOf, allItems, Placed, atomsOfPiece, atomsOfPieces, siteOf, place, atomsAfter, variablesAfter, placedFrom}
-use Rattle.builder.proofs.Templates.{Turn, no, to, turnPiece, andTurn, turnPieces, turnTail, turnChain, turnElement, turnAll, mostAtoms, sameRole, inRole, isTailed}
-use Rattle.builder.proofs.Rows.{length-hung, Carbonic, carbonic-before, carbonic-after, drawnRows, length-drawn, drawn-carbonic}
+use Rattle.template.specs.Template.{Element, fixed, tail, slot, chain}
+use Rattle.template.specs.Request.{chainAt, unlessEmpty, nonempty, fixedPieces, tailPart, chainItem, slotOxygen, itemsOf, allItems, Placed, atomsOfPiece, atomsOfPieces, siteOf, place, atomsAfter, variablesAfter, placedFrom}
+use Rattle.template.proofs.Templates.{Turn, no, to, turnPiece, andTurn, turnPieces, turnTail, turnChain, turnElement, turnAll, mostAtoms, sameRole, inRole, isTailed}
+use Rattle.template.proofs.Rows.{length-hung, Carbonic, carbonic-before, carbonic-after, drawnRows, length-drawn, drawn-carbonic}
 
 -- ---- items, drawn
 

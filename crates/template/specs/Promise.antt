@@ -15,8 +15,8 @@ use Rattle.reading.specs.Line.{distinct, readLine}
 use Rattle.chain.specs.Features.{firstDrawn, drawnCount}
 use Rattle.chain.specs.Drawing.{carbonAtoms}
 use Rattle.chain.specs.Counts.{total, copies, Counts, Meets, methyls}
-use Rattle.builder.specs.declared.Class.{Class}
-use Rattle.builder.specs.Request.{Placed, placed, bySn, headCarbons, indicesOf, moleculeDrawn, lineOf}
+use Rattle.template.specs.declared.Class.{Class}
+use Rattle.template.specs.Request.{Placed, placed, bySn, headCarbons, indicesOf, moleculeDrawn, lineOf}
 
 -- every element has a property
 abbrev pub Each : {A : Type 0} → (A → Type 0) → List A → Type 0

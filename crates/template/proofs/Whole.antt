@@ -17,11 +17,11 @@ use Rattle.reading.specs.Template.{Item, piece, draw, drawAll, drawn}
 use Rattle.reading.proofs.Reading.{fail≢ok}
 use Rattle.reading.proofs.PartingLaws.{All}
 use Rattle.chain.specs.declared.Role.{Role}
-use Rattle.builder.specs.Template.{Element, fixed, tail, slot, chain}
-use Rattle.builder.specs.Request.{chainAt, fixedPieces, itemsOf, allItems, placedFrom}
-use Rattle.builder.proofs.Templates.{Turn, no, to, turnAll, ends, Begins, begins, headed, mostAtoms, Fitting}
-use Rattle.builder.proofs.Rows.{rowBytes, Carbonic}
-use Rattle.builder.proofs.Placing.{Accepts, TailFits, Placing, InRows, Made, MadeTo, made-all, atomsTo, variablesTo}
+use Rattle.template.specs.Template.{Element, fixed, tail, slot, chain}
+use Rattle.template.specs.Request.{chainAt, fixedPieces, itemsOf, allItems, placedFrom}
+use Rattle.template.proofs.Templates.{Turn, no, to, turnAll, ends, Begins, begins, headed, mostAtoms, Fitting}
+use Rattle.template.proofs.Rows.{rowBytes, Carbonic}
+use Rattle.template.proofs.Placing.{Accepts, TailFits, Placing, InRows, Made, MadeTo, made-all, atomsTo, variablesTo}
 
 -- ---- the first two atoms
 

@@ -1,0 +1,2 @@
+pub mod Sn
+pub mod Laws
