@@ -14,7 +14,8 @@ use Rattle.fragment.specs.Segment.{Readable}
 use Rattle.atoms.specs.Atoms.{AtomsAre, AtomsOf}
 use Rattle.atoms.specs.Marks.{sumOf}
 use Rattle.template.specs.Request as request
-use Rattle.template.specs.Request.{nonempty}
+use Rattle.template.specs.Request.{nonempty, indicesOf}
+use Rattle.template.specs.Promise.{Each}
 use Rattle.placed.specs.declared.CxFragment.{CxFragment}
 use Rattle.placed.specs.declared.Slots.{Slots}
 use Rattle.placed.specs.declared.Placed.{Placed}
@@ -77,5 +78,6 @@ gathered f (p ∷ ps) = f p ++ gathered f ps
 -- the chain of a place is at hand, and its numbers leave room
 pub record Told (s : Slots) (p : request.Placed) : Type 0 where
   pub carries : Carries (p .role) (p .chain) (fragmentAt s (p .sn))
-  pub first : p .first ≤ 60000
+  pub first : p .first ≤ 4294000000
   pub variable : p .variable ≤ 4294000000
+  pub indices : Each (λ i. i ≤ 65535) (indicesOf p)
