@@ -1,2 +1,3 @@
 pub mod Sn
 pub mod Laws
+pub mod Ready

@@ -384,7 +384,7 @@ nonempty-is sn ds d e = go (chainAt sn ds) e
     go none e = absurd (none≢some e)
     go (some d′) e = some-is d′ (eqb (d′ .carbon) 0) refl e
 
-same-role : (a b : Role) → sameRole a b ≡ true → a ≡ b
+pub same-role : (a b : Role) → sameRole a b ≡ true → a ≡ b
 unfolding sameRole
 same-role role.Slot role.Slot e = refl
 same-role role.Slot role.Acyl e = absurd (false≢true e)
