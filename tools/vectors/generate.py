@@ -598,3 +598,45 @@ def stored_rows(rng, good_count, fault_count):
     rows += [good_row(rng) for _ in range(good_count)]
     rows += [good_row(rng, fault_rate=1.0) for _ in range(fault_count)]
     return list(dict.fromkeys(rows))
+
+
+# ---------------------------------------------------------------------------
+# Chains: features on neighbouring carbons
+# ---------------------------------------------------------------------------
+
+# What sits at carbon k, as a double bond of the list or as a segment.
+CHAIN_BONDS = [b"%d", b"%dZ", b"%dE"]
+CHAIN_SEGMENTS = [lambda k: b"%dEp" % k, lambda k: b"%d-%dcy5" % (k, k + 4), lambda k: b"%d-%dcy5" % (k - 4, k),
+                  lambda k: b"%dOH" % k, lambda k: b"%doxo" % k, lambda k: b"OH"]
+CHAIN_PLACES = [(7, 1), (7, 2), (7, 5), (7, 6), (14, 2), (14, 5), (14, 6), (14, 12)]
+
+
+def chain_token(carbons, missing, features):
+    """A token with features (which, carbon); the first three kinds are double bonds."""
+    bonds = [CHAIN_BONDS[f] % k for f, k in features if f < len(CHAIN_BONDS)]
+    segments = [CHAIN_SEGMENTS[f - len(CHAIN_BONDS)](k) for f, k in features if f >= len(CHAIN_BONDS)]
+    token = b"%d:%d" % (carbons, len(bonds) + missing)
+    if bonds:
+        token += b"(" + b",".join(bonds) + b")"
+    return token + b"".join(b";" + text for text in segments)
+
+
+def chain_rows():
+    """Every pair of features on one carbon, on neighbours and one apart, at the start, in the
+    middle and at the end of a chain, with no, one and two double bonds without a position."""
+    kinds = range(len(CHAIN_BONDS) + len(CHAIN_SEGMENTS))
+    for carbons, k in CHAIN_PLACES:
+        for missing in (0, 1, 2):
+            for a in kinds:
+                for b in kinds:
+                    for apart in (0, 1, 2):
+                        yield row(b"FA", [chain_token(carbons + 6 * missing, missing, [(a, k), (b, k + apart)])])
+    for carbons in range(1, 40):
+        for missing in range(0, 6):
+            yield row(b"FA", [b"%d:%d" % (carbons, missing)])
+            yield row(b"FA", [b"iso-%d:%d" % (carbons, missing)])
+            yield row(b"FA", [b"%d:%d;OH" % (carbons, missing)])
+
+
+def stored_chains():
+    return list(dict.fromkeys(chain_rows()))
