@@ -11,7 +11,7 @@ use mathlib.Core.List.{List, [], _∷_, _++_}
 use lib.ListN.{length, length-append, length-set, length-replicate, getD, set, replicate}
 use lib.Seq.{getD-set-same, getD-set-other}
 use lib.Dec.{eqb, ltb}
-use borrow.Author.Tests.{ltb-true, eqb-true, eqb-false, eq-eqb, ne-eqb}
+use borrow.Author.Tests.{ltb-true, eqb-true, eqb-false, eq-eqb, ne-eqb, not-true}
 use Rattle.reading.specs.Row.{Row, row, Link, link}
 use Rattle.reading.specs.Piece.{Piece, atom, mark, dot, lpar, rpar}
 use Rattle.reading.specs.Lexer.{memb, within, organic, marks, bracketed, pairs, second, Lex, between, inAtom, inBracket, Fed, fed, begin, feed, before, onFed, lex, piecesOf}
@@ -25,7 +25,7 @@ use Rattle.reading.proofs.ShowLex.{within-both, and-both}
 use Rattle.tail.specs.declared.Rings.{Rings}
 use Rattle.tail.proofs.Bytes.{or-false}
 use Rattle.tail.proofs.Scan.{digit-last, scan-wrong}
-use Rattle.tail.specs.Grammar.{noRings, withAtom, bonded, clashes, withDigit, noneOpen, State, wrong, stands, opening, afterBond, whole, closed, letter, inside, atomBegins, bondOrAtom, branchCloses, branchOpens, goesOn, digitOr, bracketOn, step, finished, done, scan, isTail}
+use Rattle.tail.specs.Grammar.{noRings, withAtom, bonded, clashes, withDigit, noneOpen, State, wrong, stands, opening, afterBond, whole, closed, letter, inside, atomBegins, bondOrAtom, branchCloses, branchOpens, goesOn, digitOr, bracketOn, step, finished, done, scan, tailAtoms, isTail}
 
 -- ---- the same atoms and digits
 
@@ -237,7 +237,7 @@ module _ (q : Rings) (ls : List ℕ) (n cur : ℕ) (t : List Entry) (ph : Phase)
 pub data Sim : State → Lex → Machine → Type 0 where
   at-opening : {stk : List ℕ} {q : Rings} {n cur : ℕ} {t : List Entry} → Like q n cur t → Sim (stands opening stk q) between (st n cur stk t opened)
   at-bond : {stk : List ℕ} {q : Rings} {n cur : ℕ} {t : List Entry} {m : ℕ} → Like q n cur t → Sim (stands afterBond stk q) between (st n cur stk t (marked m))
-  at-closed : {stk : List ℕ} {q : Rings} {n cur : ℕ} {t : List Entry} → Like q n cur t → Sim (stands closed stk q) between (st n cur stk t after)
+  at-closed : {stk : List ℕ} {q : Rings} {n cur : ℕ} {t : List Entry} → 1 ≤ q .last → Like q n cur t → Sim (stands closed stk q) between (st n cur stk t after)
   at-letter : {stk : List ℕ} {q : Rings} {n cur : ℕ} {t : List Entry} {ph : Phase} {a : ℕ}
       → Pending q [] n cur t ph → Sim (stands (letter a) stk q) (inAtom (a ∷ []) []) (st n cur stk t ph)
   at-whole : {stk : List ℕ} {q : Rings} {n cur : ℕ} {t : List Entry} {ph : Phase} {b ls : List ℕ}
@@ -351,10 +351,10 @@ module _ (x : ℕ) (stk : List ℕ) (q : Rings) where
       })
       (λ _. atom-begins n cur t ph j v)
 
-branch-closes : (stk : List ℕ) (q : Rings) (n cur : ℕ) (t : List Entry) → Like q n cur t → May between (st n cur stk t after) 41 (q .last) (branchCloses stk q)
+branch-closes : (stk : List ℕ) (q : Rings) (n cur : ℕ) (t : List Entry) → 1 ≤ q .last → Like q n cur t → May between (st n cur stk t after) 41 (q .last) (branchCloses stk q)
 unfolding branchCloses feed begin Plain
-branch-closes [] q n cur t v = tt
-branch-closes (a ∷ stk) q n cur t v =
+branch-closes [] q n cur t o v = tt
+branch-closes (a ∷ stk) q n cur t o v =
     record {
       us = rpar ∷ [];
       next = between;
@@ -362,7 +362,7 @@ branch-closes (a ∷ stk) q n cur t v =
       s′ = st n a stk t after;
       feeds = refl;
       reads = reads-cons (steps-rpar n cur a stk t) (reads-nil _);
-      sim = at-closed (record { atoms = v .atoms; here = refl; table = v .table; known = v .known; earlier = v .earlier; ten = v .ten; many = v .many });
+      sim = at-closed o (record { atoms = v .atoms; here = refl; table = v .table; known = v .known; earlier = v .earlier; ten = v .ten; many = v .many });
       digits = (tt, tt);
       plain = λ vs h. subst (λ (k : ℕ). Plain k vs) (omega arith) h;
       grows = omega arith;
@@ -388,10 +388,10 @@ branch-opens stk q n cur t v =
     }))
     (λ _. tt)
 
-goes-on : (x : ℕ) (stk : List ℕ) (q : Rings) (n cur : ℕ) (t : List Entry) → Like q n cur t → May between (st n cur stk t after) x (q .last) (goesOn x stk q)
+goes-on : (x : ℕ) (stk : List ℕ) (q : Rings) (n cur : ℕ) (t : List Entry) → 1 ≤ q .last → Like q n cur t → May between (st n cur stk t after) x (q .last) (goesOn x stk q)
 unfolding goesOn
-goes-on x stk q n cur t v =
-    may-cond _ _ _ _ (eqb x 41) _ _ (λ e. rw (eqb-true x 41 e) (branch-closes stk q n cur t v))
+goes-on x stk q n cur t o v =
+    may-cond _ _ _ _ (eqb x 41) _ _ (λ e. rw (eqb-true x 41 e) (branch-closes stk q n cur t o v))
     (λ _. may-cond _ _ _ _ (eqb x 40) _ _ (λ e. rw (eqb-true x 40 e) (branch-opens stk q n cur t v))
     (λ _. bond-or-atom x stk q n cur t after tt (steps-mark x n cur stk t) v))
 
@@ -435,7 +435,7 @@ digit-or x b ls stk q n cur t ph few v =
       plain = λ vs h. h;
       grows = omega (arith, digit-last (x - 48) q);
     }))
-    (λ _. ended-by x (q .last) b ls stk q n cur t ph v (goesOn x stk q) (goes-on x stk q (suc n) n (v .t′) (v .like)))
+    (λ _. ended-by x (q .last) b ls stk q n cur t ph v (goesOn x stk q) (goes-on x stk q (suc n) n (v .t′) (omega (arith, v .own, v .like .atoms)) (v .like)))
 
 bracket-on : (x k : ℕ) (xs : List ℕ) (stk : List ℕ) (q : Rings) (n cur : ℕ) (t : List Entry) (ph : Phase) → length xs ≡ k → Pending q [] n cur t ph
     → May (inBracket xs) (st n cur stk t ph) x (q .last) (bracketOn x k stk q)
@@ -478,7 +478,7 @@ pub takes : {G : State} {L : Lex} {s : Machine} (x : ℕ) → lastOf G ≤ 255 �
 unfolding step stepPiece second
 takes x few (at-opening {stk} {q} {n} {cur} {t} v) = bond-or-atom x stk q n cur t opened tt (record { by = refl }) v
 takes x few (at-bond {stk} {q} {n} {cur} {t} {m} v) = atom-begins x stk q n cur t (marked m) tt v
-takes x few (at-closed {stk} {q} {n} {cur} {t} v) = goes-on x stk q n cur t v
+takes x few (at-closed {stk} {q} {n} {cur} {t} o v) = goes-on x stk q n cur t o v
 takes x few (at-letter {stk} {q} {n} {cur} {t} {ph} {a} v) =
     may-cond _ _ _ _ (pairs a x) _ _
     (λ e.
@@ -500,29 +500,29 @@ takes x few (at-inside {stk} {q} {n} {cur} {t} {ph} {xs} {k} e v) = bracket-on x
 
 -- ---- all bytes
 
--- the rest of the text is lexed to pieces that the machine reads to the end, with nothing open
-pub record Ends (L : Lex) (s : Machine) (xs : List ℕ) : Type 0 where
+-- the rest of the text is lexed to pieces that the machine reads to the end, with nothing open and with `size` atoms in all
+pub record Ends (L : Lex) (s : Machine) (xs : List ℕ) (size : ℕ) : Type 0 where
   pub us : List Piece
   pub rows : List Row
-  pub size : ℕ
   pub last : ℕ
   pub lexes : lex L xs ≡ some us
   pub reads : Reads us s rows (st (suc size) last [] [] after)
   pub digits : EachLabel (λ (d : ℕ). d < 10) us
   pub plain : Plain (deep s) us
+  pub few : size ≤ 255
 
-ends-more : {L : Lex} {s : Machine} {x l : ℕ} {G : State} (xs : List ℕ) (m : Takes L s x l G) → Ends (m .next) (m .s′) xs → Ends L s (x ∷ xs)
+ends-more : {L : Lex} {s : Machine} {x l size : ℕ} {G : State} (xs : List ℕ) (m : Takes L s x l G) → Ends (m .next) (m .s′) xs size → Ends L s (x ∷ xs) size
 unfolding lex onFed before
-ends-more {L} {s} {x} {l} {G} xs m e =
+ends-more {L} {s} {x} {l} {size} {G} xs m e =
     record {
       us = m .us ++ e .us;
       rows = m .rows ++ e .rows;
-      size = e .size;
       last = e .last;
       lexes = ap (λ (z : Fed). onFed z (λ q′. lex q′ xs)) (m .feeds) ∙ ap (before (m .us)) (e .lexes);
       reads = reads-append (m .reads) (e .reads);
       digits = each-label-append (λ (d : ℕ). d < 10) (m .us) (e .us) (m .digits) (e .digits);
       plain = m .plain (e .us) (e .plain);
+      few = e .few;
     }
 
 none-found : (l : List ℕ) → noneOpen l ≡ true → (m : ℕ) → getD l m 0 ≡ 0
@@ -539,48 +539,59 @@ none-found (a ∷ l) h m = go a h m (none-found l)
 shut : (q : Rings) (n cur : ℕ) (t : List Entry) → Like q n cur t → noneOpen (q .opened) ≡ true → t ≡ []
 shut q n cur t v h = nothing-open t (λ m. v .table m ∙ ap openOn (none-found (q .opened) h m))
 
-ends-settled : (stk : List ℕ) (q : Rings) (n cur : ℕ) (t : List Entry) → Like q n cur t → finished stk q ≡ true
-    → record { none : stk ≡ []; empty : t ≡ []; count : n ≡ suc (q .last) }
-unfolding finished
-ends-settled [] q n cur t v h = record { none = refl; empty = shut q n cur t v h; count = v .atoms }
-ends-settled (a ∷ stk) q n cur t v h = absurd (false≢true h)
+-- nothing is open, and the tail has all the atoms that were read
+record Settled (stk : List ℕ) (q : Rings) (t : List Entry) : Type 0 where
+  none : stk ≡ []
+  empty : t ≡ []
+  count : finished stk q ≡ q .last
 
-ends-pending : (b ls : List ℕ) (stk : List ℕ) (q : Rings) (n cur : ℕ) (t : List Entry) (ph : Phase) → Pending q ls n cur t ph → finished stk q ≡ true → Ends (inAtom b ls) (st n cur stk t ph) []
+ends-settled : (stk : List ℕ) (q : Rings) (n cur : ℕ) (t : List Entry) → Like q n cur t → 1 ≤ finished stk q → Settled stk q t
+unfolding finished
+ends-settled [] q n cur t v h = go (noneOpen (q .opened)) refl h
+  where
+    go : (b : Bool) → noneOpen (q .opened) ≡ b → 1 ≤ cond b (q .last) 0 → Settled [] q t
+    go true e g = record { none = refl; empty = shut q n cur t v e; count = rw e }
+    go false e g = absurd (omega arith)
+ends-settled (a ∷ stk) q n cur t v h = absurd (omega arith)
+
+ends-pending : (b ls : List ℕ) (stk : List ℕ) (q : Rings) (n cur : ℕ) (t : List Entry) (ph : Phase) → q .last ≤ 255 → Pending q ls n cur t ph → 1 ≤ finished stk q
+    → Ends (inAtom b ls) (st n cur stk t ph) [] (finished stk q)
 unfolding lex Plain
-ends-pending b ls stk q n cur t ph v h =
-    let e : record { none : stk ≡ []; empty : v .t′ ≡ []; count : suc n ≡ suc (q .last) } = ends-settled stk q (suc n) n (v .t′) (v .like) h in
-    rw (e .none)
+ends-pending b ls stk q n cur t ph few v h =
+    let e : Settled stk q (v .t′) = ends-settled stk q (suc n) n (v .t′) (v .like) h in
+    let k : finished stk q ≡ n = omega (arith, e .count, v .like .atoms) in
+    rw (k, e .none)
     (record {
       us = atom b ls ∷ [];
       rows = row b (v .ks) ∷ [];
-      size = n;
       last = n;
       lexes = refl;
       reads = reads-cons (steps-atom b ls n cur [] t ph (v .ks) [] (v .does ∙ ap (links (v .ks)) (e .empty))) (reads-nil _);
       digits = (v .small, tt);
       plain = tt;
+      few = omega (arith, e .count, k);
     })
 
-ends-here : {G : State} {L : Lex} {s : Machine} → Sim G L s → done G ≡ true → Ends L s []
+ends-here : {G : State} {L : Lex} {s : Machine} → lastOf G ≤ 255 → Sim G L s → 1 ≤ done G → Ends L s [] (done G)
 unfolding done lex Plain
-ends-here (at-opening v) h = absurd (false≢true h)
-ends-here (at-bond v) h = absurd (false≢true h)
-ends-here (at-closed {stk} {q} {n} {cur} {t} v) h =
-    let e : record { none : stk ≡ []; empty : t ≡ []; count : n ≡ suc (q .last) } = ends-settled stk q n cur t v h in
-    rw (e .none, e .empty, e .count)
-    (record { us = []; rows = []; size = q .last; last = cur; lexes = refl; reads = reads-nil _; digits = tt; plain = tt })
-ends-here (at-letter {stk} {q} {n} {cur} {t} {ph} {a} v) h = ends-pending (a ∷ []) [] stk q n cur t ph v h
-ends-here (at-whole {stk} {q} {n} {cur} {t} {ph} {b} {ls} w v) h = ends-pending b ls stk q n cur t ph v h
-ends-here (at-inside e v) h = absurd (false≢true h)
+ends-here few (at-opening v) h = absurd (omega arith)
+ends-here few (at-bond v) h = absurd (omega arith)
+ends-here few (at-closed {stk} {q} {n} {cur} {t} o v) h =
+    let e : Settled stk q t = ends-settled stk q n cur t v h in
+    rw (e .count, e .none, e .empty, v .atoms)
+    (record { us = []; rows = []; last = cur; lexes = refl; reads = reads-nil _; digits = tt; plain = tt; few = few })
+ends-here few (at-letter {stk} {q} {n} {cur} {t} {ph} {a} v) h = ends-pending (a ∷ []) [] stk q n cur t ph few v h
+ends-here few (at-whole {stk} {q} {n} {cur} {t} {ph} {b} {ls} w v) h = ends-pending b ls stk q n cur t ph few v h
+ends-here few (at-inside e v) h = absurd (omega arith)
 
-ends : (xs : List ℕ) {G : State} {L : Lex} {s : Machine} → lastOf G + length xs ≤ 255 → Sim G L s → scan G xs ≡ true → Ends L s xs
+ends : (xs : List ℕ) {G : State} {L : Lex} {s : Machine} → lastOf G + length xs ≤ 255 → Sim G L s → 1 ≤ scan G xs → Ends L s xs (scan G xs)
 unfolding scan
-ends [] few v h = ends-here v h
+ends [] few v h = ends-here (omega arith) v h
 ends (x ∷ xs) {G} {L} {s} few v h = go (step G x) (takes x (omega arith) v) h (λ H M r. ends xs {G = H} {L = M} {s = r})
   where
-    go : (H : State) → May L s x (lastOf G) H → scan H xs ≡ true
-        → ((K : State) (M : Lex) (r : Machine) → lastOf K + length xs ≤ 255 → Sim K M r → scan K xs ≡ true → Ends M r xs) → Ends L s (x ∷ xs)
-    go wrong m g ih = absurd (false≢true (sym (scan-wrong xs) ∙ g))
+    go : (H : State) → May L s x (lastOf G) H → 1 ≤ scan H xs
+        → ((K : State) (M : Lex) (r : Machine) → lastOf K + length xs ≤ 255 → Sim K M r → 1 ≤ scan K xs → Ends M r xs (scan K xs)) → Ends L s (x ∷ xs) (scan H xs)
+    go wrong m g ih = absurd (omega (arith, scan-wrong xs))
     go (stands p stk q) m g ih = ends-more xs m (ih (stands p stk q) (m .next) (m .s′) (omega (arith, m .grows)) (m .sim) g)
 
 -- ---- THE LAW OF THE TAIL
@@ -592,20 +603,33 @@ pub record TailPart (xs : List ℕ) : Type 0 where
   pub digits : EachLabel (λ (d : ℕ). d < 10) (part .pieces)
   pub plain : Plain 0 (part .pieces)
 
-part-of : (xs : List ℕ) → Ends between (st 1 0 [] [] opened) xs → TailPart xs
+-- the text is read so, hung on atom 0
+abbrev pub Alone : List ℕ → ℕ → Type 0
+Alone xs size = Ends between (st 1 0 [] [] opened) xs size
+
+pub part-is : (xs : List ℕ) (n : ℕ) (e : Alone xs n) → partOf xs ≡ some (record { pieces = e .us; rows = e .rows; size = n; last = e .last })
 unfolding partOf piecesOf partLexed alone partRead
-part-of xs e =
+part-is xs n e = ap partLexed (e .lexes) ∙ ap (partRead (e .us)) (e .reads .by)
+
+-- what has atoms reads with all of them
+pub tail-reads : (xs : List ℕ) → 1 ≤ tailAtoms xs → Alone xs (tailAtoms xs)
+unfolding tailAtoms
+tail-reads xs h = go (within 1 255 (length xs)) refl h
+  where
+    go : (b : Bool) → within 1 255 (length xs) ≡ b → 1 ≤ cond b (scan (stands opening [] noRings) xs) 0 → Alone xs (cond b (scan (stands opening [] noRings) xs) 0)
+    go true e g = ends xs (omega (arith, within-both 1 255 (length xs) e .1)) (at-opening like-start) g
+    go false e g = absurd (omega arith)
+
+pub tail-some : (xs : List ℕ) → isTail xs ≡ true → 1 ≤ tailAtoms xs
+unfolding isTail
+tail-some xs h = omega (arith, eqb-false (tailAtoms xs) 0 (not-true (eqb (tailAtoms xs) 0) h))
+
+pub tail-alone : (xs : List ℕ) → isTail xs ≡ true → TailPart xs
+tail-alone xs h =
+    let e : Alone xs (tailAtoms xs) = tail-reads xs (tail-some xs h) in
     record {
-      part = record { pieces = e .us; rows = e .rows; size = e .size; last = e .last };
-      is = ap partLexed (e .lexes) ∙ ap (partRead (e .us)) (e .reads .by);
+      part = record { pieces = e .us; rows = e .rows; size = tailAtoms xs; last = e .last };
+      is = part-is xs (tailAtoms xs) e;
       digits = e .digits;
       plain = e .plain;
     }
-
-pub tail-alone : (xs : List ℕ) → isTail xs ≡ true → TailPart xs
-unfolding isTail
-tail-alone xs h = go (within 1 255 (length xs)) refl h
-  where
-    go : (b : Bool) → within 1 255 (length xs) ≡ b → cond b (scan (stands opening [] noRings) xs) false ≡ true → TailPart xs
-    go true e g = part-of xs (ends xs (omega (arith, within-both 1 255 (length xs) e .1)) (at-opening like-start) g)
-    go false e g = absurd (false≢true g)

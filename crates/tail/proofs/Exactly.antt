@@ -20,7 +20,7 @@ use Rattle.reading.proofs.LexShow.{onFed-ended, lex-show}
 use Rattle.reading.proofs.ShowLex.{within-both}
 use Rattle.reading.proofs.Part.{none≢some, PartFrom, part-from}
 use Rattle.tail.specs.declared.Rings.{Rings}
-use Rattle.tail.specs.Grammar.{noRings, withAtom, bonded, clashes, withDigit, noneOpen, Place, State, wrong, stands, opening, whole, inside, atomBegins, bondOrAtom, branchCloses, branchOpens, goesOn, digitOr, bracketOn, step, finished, done, scan, isTail}
+use Rattle.tail.specs.Grammar.{noRings, withAtom, bonded, clashes, withDigit, noneOpen, Place, State, wrong, stands, opening, whole, inside, atomBegins, bondOrAtom, branchCloses, branchOpens, goesOn, digitOr, bracketOn, step, finished, done, scan, tailAtoms, isTail}
 use Rattle.tail.proofs.Alone.{openOn, Like, Pending, Sim, at-opening, at-bond, at-closed, at-letter, at-whole, at-inside, lastOf, Takes, May, takes, like-start, second-labels, false≢true, Plain, deep, TailPart}
 
 -- ---- what a tail's pieces are
@@ -390,7 +390,7 @@ refuses : {G : State} {L : Lex} {s : Machine} (x : ℕ) (xs : List ℕ) (us : Li
 unfolding step second
 refuses x xs us r f (at-opening {stk} {q} {n} {cur} {t} v) l d small h e = refuse-opening x xs us l stk q n cur t r f d e
 refuses x xs us r f (at-bond {stk} {q} {n} {cur} {t} {m} v) l d small h e = refuse-bond x xs us l stk q n cur t r f m d e
-refuses x xs us r f (at-closed {stk} {q} {n} {cur} {t} v) l d small h e = refuse-closed x xs us l stk q n cur t r f d h e
+refuses x xs us r f (at-closed {stk} {q} {n} {cur} {t} o v) l d small h e = refuse-closed x xs us l stk q n cur t r f d h e
 refuses x xs us r f (at-letter {stk} {q} {n} {cur} {t} {ph} {a} v) l d small h e =
     let w : (pairs a x ≡ false) × (digitOr x stk q ≡ wrong) = either-wrong (pairs a x) _ stk _ _ e in
     refuse-pending q (a ∷ []) [] n cur stk t ph v x xs us l r f d small h (w .0) (w .1)
@@ -409,23 +409,23 @@ shut-digit : (a : ℕ) → none ≡ openOn a → a ≡ 0
 shut-digit zero e = refl
 shut-digit (suc a) e = absurd (none≢some e)
 
-finished-settled : (stk : List ℕ) (q : Rings) (n cur : ℕ) (t : List Entry) (n′ e : ℕ) → Like q n cur t → st n cur stk t after ≡ st n′ e [] [] after → finished stk q ≡ true
+finished-settled : (stk : List ℕ) (q : Rings) (n cur : ℕ) (t : List Entry) (n′ e : ℕ) → 1 ≤ q .last → Like q n cur t → st n cur stk t after ≡ st n′ e [] [] after → 1 ≤ finished stk q
 unfolding finished lookup
-finished-settled stk q n cur t n′ e v w =
+finished-settled stk q n cur t n′ e o v w =
     let a : stk ≡ [] = cc in
     let b : t ≡ [] = cc in
-    rw a (none-open (q .opened) (λ m. shut-digit (getD (q .opened) m 0) (sym (ap (lookup m) b) ∙ v .table m)))
+    rw (a, none-open (q .opened) (λ m. shut-digit (getD (q .opened) m 0) (sym (ap (lookup m) b) ∙ v .table m))) o
 
 finished-pending : (b ls : List ℕ) (stk : List ℕ) (q : Rings) (n cur : ℕ) (t : List Entry) (ph : Phase) (r : List Row) (n′ e : ℕ) → Pending q ls n cur t ph
-    → Reads (atom b ls ∷ []) (st n cur stk t ph) r (st n′ e [] [] after) → finished stk q ≡ true
+    → Reads (atom b ls ∷ []) (st n cur stk t ph) r (st n′ e [] [] after) → 1 ≤ finished stk q
 finished-pending b ls stk q n cur t ph r n′ e v d =
-    finished-settled stk q (suc n) n (v .t′) n′ e (v .like)
+    finished-settled stk q (suc n) n (v .t′) n′ e (omega (arith, v .own, v .like .atoms)) (v .like)
     (reads-nil-only (reads-rest (atom b ls ∷ []) (reads-cons (steps-atom b ls n cur stk t ph (v .ks) (v .t′) (v .does)) (reads-nil _)) d .reads) .state)
 
 phase-after : (n cur : ℕ) (stk : List ℕ) (t : List Entry) (n′ cur′ : ℕ) (stk′ : List ℕ) (t′ : List Entry) (ph : Phase) → st n cur stk t ph ≡ st n′ cur′ stk′ t′ after → ph ≡ after
 phase-after n cur stk t n′ cur′ stk′ t′ ph e = cc
 
-accepted-here : {G : State} {L : Lex} {s : Machine} (us : List Piece) (r : List Row) (n′ e : ℕ) → Sim G L s → lex L [] ≡ some us → Reads us s r (st n′ e [] [] after) → done G ≡ true
+accepted-here : {G : State} {L : Lex} {s : Machine} (us : List Piece) (r : List Row) (n′ e : ℕ) → Sim G L s → lex L [] ≡ some us → Reads us s r (st n′ e [] [] after) → 1 ≤ done G
 unfolding done lex
 accepted-here us r n′ e (at-opening {stk} {q} {n} {cur} {t} v) l d =
     let u : us ≡ [] = cc in
@@ -435,9 +435,9 @@ accepted-here us r n′ e (at-bond {stk} {q} {n} {cur} {t} {m} v) l d =
     let u : us ≡ [] = cc in
     let w : marked m ≡ after = phase-after n cur stk t n′ e [] [] (marked m) (reads-nil-only (subst (λ (z : List Piece). Reads z (st n cur stk t (marked m)) r (st n′ e [] [] after)) u d) .state) in
     let z : _≡_ {A = ℕ} 0 1 = cc in absurd (omega arith)
-accepted-here us r n′ e (at-closed {stk} {q} {n} {cur} {t} v) l d =
+accepted-here us r n′ e (at-closed {stk} {q} {n} {cur} {t} o v) l d =
     let u : us ≡ [] = cc in
-    finished-settled stk q n cur t n′ e v (reads-nil-only (subst (λ (z : List Piece). Reads z (st n cur stk t after) r (st n′ e [] [] after)) u d) .state)
+    finished-settled stk q n cur t n′ e o v (reads-nil-only (subst (λ (z : List Piece). Reads z (st n cur stk t after) r (st n′ e [] [] after)) u d) .state)
 accepted-here us r n′ e (at-letter {stk} {q} {n} {cur} {t} {ph} {a} v) l d =
     let u : us ≡ atom (a ∷ []) [] ∷ [] = cc in
     finished-pending (a ∷ []) [] stk q n cur t ph r n′ e v (subst (λ (z : List Piece). Reads z (st n cur stk t ph) r (st n′ e [] [] after)) u d)
@@ -451,15 +451,15 @@ unfolding lex onFed
 lex-fed L M x xs ps f l = sym (ap (λ (z : Fed). onFed z (λ q. lex q xs)) f) ∙ l
 
 accepted : (xs : List ℕ) {G : State} {L : Lex} {s : Machine} (us : List Piece) (r : List Row) (n′ e : ℕ) → lastOf G + length xs ≤ 255 → Sim G L s
-    → lex L xs ≡ some us → Reads us s r (st n′ e [] [] after) → Small us → Plain (deep s) us → scan G xs ≡ true
+    → lex L xs ≡ some us → Reads us s r (st n′ e [] [] after) → Small us → Plain (deep s) us → 1 ≤ scan G xs
 unfolding scan
 accepted [] us r n′ e few v l d small h = accepted-here us r n′ e v l d
 accepted (x ∷ xs) {G} {L} {s} us r n′ e few v l d small h =
     go (step G x) refl (takes x (omega arith) v) (λ H M m. accepted xs {G = H} {L = M} {s = m})
   where
     more : (H : State) (m : Takes L s x (lastOf G) H)
-        → ((us′ : List Piece) (r′ : List Row) → lex (m .next) xs ≡ some us′ → Reads us′ (m .s′) r′ (st n′ e [] [] after) → Small us′ → Plain (deep (m .s′)) us′ → scan H xs ≡ true)
-        → (w : After (m .us) (lex (m .next) xs) us) → scan H xs ≡ true
+        → ((us′ : List Piece) (r′ : List Row) → lex (m .next) xs ≡ some us′ → Reads us′ (m .s′) r′ (st n′ e [] [] after) → Small us′ → Plain (deep (m .s′)) us′ → 1 ≤ scan H xs)
+        → (w : After (m .us) (lex (m .next) xs) us) → 1 ≤ scan H xs
     more H m ih w =
         let y : Rest (w .rest) (m .s′) (st n′ e [] [] after) =
         reads-rest (m .us) (m .reads) (subst (λ (z : List Piece). Reads z s r (st n′ e [] [] after)) (w .is) d) in
@@ -468,8 +468,8 @@ accepted (x ∷ xs) {G} {L} {s} us r n′ e few v l d small h =
 
     go : (H : State) → step G x ≡ H → May L s x (lastOf G) H
         → ((K : State) (M : Lex) (k : Machine) (us′ : List Piece) (r′ : List Row) (a b : ℕ) → lastOf K + length xs ≤ 255 → Sim K M k
-        → lex M xs ≡ some us′ → Reads us′ k r′ (st a b [] [] after) → Small us′ → Plain (deep k) us′ → scan K xs ≡ true)
-        → scan H xs ≡ true
+        → lex M xs ≡ some us′ → Reads us′ k r′ (st a b [] [] after) → Small us′ → Plain (deep k) us′ → 1 ≤ scan K xs)
+        → 1 ≤ scan H xs
     go wrong w m ih = absurd (refuses x xs us r (st n′ e [] [] after) v l d small h w)
     go (stands p stk q) w m ih =
         more (stands p stk q) m (λ us′ r′. ih (stands p stk q) (m .next) (m .s′) us′ r′ n′ e (omega (arith, m .grows)) (m .sim))
@@ -477,7 +477,7 @@ accepted (x ∷ xs) {G} {L} {s} us r n′ e few v l d small h =
 
 -- ---- THE TAILS, EXACTLY
 
-part-accepted : (xs : List ℕ) (p : Part) → PartFrom xs p → length xs ≤ 255 → Small (p .pieces) → Plain 0 (p .pieces) → scan (stands opening [] noRings) xs ≡ true
+part-accepted : (xs : List ℕ) (p : Part) → PartFrom xs p → length xs ≤ 255 → Small (p .pieces) → Plain 0 (p .pieces) → 1 ≤ scan (stands opening [] noRings) xs
 part-accepted xs p f few small h =
     accepted xs (p .pieces) (p .rows) (suc (p .size)) (p .last) (omega arith) (at-opening like-start)
     (subst (λ (z : List ℕ). lex between z ≡ some (p .pieces)) (f .shown) (lex-show (p .pieces) (f .well)))
@@ -485,6 +485,7 @@ part-accepted xs p f few small h =
 
 -- what reads so is a tail; `tail-alone` is the other way
 pub only-tails : (xs : List ℕ) → 1 ≤ length xs → length xs ≤ 255 → TailPart xs → isTail xs ≡ true
-unfolding isTail within
+unfolding isTail tailAtoms within
 only-tails xs lo hi w =
-    rw (le-leb 1 (length xs) lo, le-leb (length xs) 255 hi) (part-accepted xs (w .part) (part-from xs (w .part) (w .is)) hi (w .digits) (w .plain))
+    let k : 1 ≤ scan (stands opening [] noRings) xs = part-accepted xs (w .part) (part-from xs (w .part) (w .is)) hi (w .digits) (w .plain) in
+    rw (le-leb 1 (length xs) lo, le-leb (length xs) 255 hi, ne-eqb (scan (stands opening [] noRings) xs) 0 (λ z. omega arith))

@@ -1,10 +1,11 @@
 -- Tails and what are none, as one list with one proof.
+use Prim.Native.Nat.{ℕ}
 use Prim.Native.String.{String}
 use mathlib.Core.Path.{_≡_, refl}
 use mathlib.Core.Bool.{Bool, true, false}
 use mathlib.Core.List.{List, [], _∷_, map}
 use Rattle.reading.specs.Ascii.{ascii}
-use Rattle.tail.specs.Grammar.{isTail}
+use Rattle.tail.specs.Grammar.{tailAtoms, isTail}
 
 pub data Example : Type 0 where
   tail : String → Example
@@ -67,3 +68,20 @@ examples =
 pub worked-examples : map found examples ≡ map expected examples
 unfolding found expected examples isTail ascii
 worked-examples = refl
+
+-- how many atoms some of them have: a bracket is one, two letters may be one, and marks, digits and parentheses are none
+pub counted : List (String × ℕ)
+counted =
+    ("O", 1)
+    ∷ ("OP(=O)(O)OCC[N+](C)(C)C", 11)
+    ∷ ("OC1C(O)CC=CC1", 8)
+    ∷ ("Cl", 1)
+    ∷ ("C(=O)(Br)C", 4)
+    ∷ ("[abcdefghijklmnop]", 1)
+    ∷ ("C(C", 0)
+    ∷ ("", 0)
+    ∷ []
+
+pub counted-examples : map (λ (e : String × ℕ). tailAtoms (ascii (e .0))) counted ≡ map (λ (e : String × ℕ). e .1) counted
+unfolding counted tailAtoms ascii
+counted-examples = refl

@@ -3,4 +3,5 @@ pub mod Digits
 pub mod Scan
 pub mod Alone
 pub mod Exactly
+pub mod Atoms
 pub mod Examples

@@ -15,12 +15,12 @@ use Rattle.tail.specs.declared.Rings.{Rings}
 use Rattle.tail.specs.declared.Found.{Found}
 use Rattle.tail.specs.declared.Found.the-variants.{Next, Nothing}
 use Rattle.tail.specs.declared.Ran.{Ran}
-use Rattle.tail.specs.Grammar.{noRings, withAtom, backTo, clashes, withDigit, noneOpen, State, wrong, stands, opening, afterBond, whole, closed, letter, inside, atomBegins, bondOrAtom, branchCloses, branchOpens, goesOn, digitOr, bracketOn, step, finished, done, scan, isTail}
+use Rattle.tail.specs.Grammar.{noRings, withAtom, backTo, clashes, withDigit, noneOpen, State, wrong, stands, opening, afterBond, whole, closed, letter, inside, atomBegins, bondOrAtom, branchCloses, branchOpens, goesOn, digitOr, bracketOn, step, finished, done, scan, tailAtoms, isTail}
 use Rattle.tail.specs.Contract.{Room, Digits, IsDigit, PastBond, Passed, PastBracket, PastAtom, resumed, Bounds, PastDigits, AtomRead, RunRead}
 
 -- ---- one byte and no byte
 
-pub scan-wrong : (l : List ℕ) → scan wrong l ≡ false
+pub scan-wrong : (l : List ℕ) → scan wrong l ≡ 0
 unfolding scan step done
 scan-wrong [] = refl
 scan-wrong (x ∷ xs) = scan-wrong xs
@@ -33,7 +33,7 @@ scan-end : (q : State) (s : List ℕ) (i : ℕ) → i ≡ length s → scan q (d
 unfolding scan
 scan-end q s i h = rw (h, drop-length s)
 
-wrong-at : (q : State) (s : List ℕ) (i : ℕ) → i < length s → step q (getD s i 0) ≡ wrong → scan q (drop i s) ≡ false
+wrong-at : (q : State) (s : List ℕ) (i : ℕ) → i < length s → step q (getD s i 0) ≡ wrong → scan q (drop i s) ≡ 0
 wrong-at q s i h e = scan-at q s i h ∙ rw e (scan-wrong (drop (i + 1) s))
 
 -- two states that go on the same way from a byte
@@ -375,7 +375,7 @@ module _ (s : List ℕ) (at depth : ℕ) (q : Rings) (r₀ r : Ran) (d₀ : Atom
                 bounds = record { within = d .bounds .within; few = omega (arith, v .bounds .few, v .bounds .within) };
               }
             where
-              never : (b : Bool) → cond b false false ≡ false
+              never : (b : Bool) → _≡_ {A = ℕ} (cond b 0 0) 0
               never true = refl
               never false = refl
 
@@ -393,7 +393,7 @@ module _ (s : List ℕ) (at depth : ℕ) (q : Rings) (r₀ r : Ran) (d₀ : Atom
                 }
               where
                 out : (stk : List ℕ) (b : Bool) → (b ≡ true → i .next < length s → getD s (i .next) 0 ≡ 41)
-                    → cond b (scan (stands closed (r .rings .current ∷ stk) (i .rings)) (drop (i .next) s)) false ≡ cond b (scan (stands closed stk k) (drop (i .next + 1) s)) false
+                    → cond b (scan (stands closed (r .rings .current ∷ stk) (i .rings)) (drop (i .next) s)) 0 ≡ cond b (scan (stands closed stk k) (drop (i .next + 1) s)) 0
                 out stk true g =
                     scan-at (stands closed (r .rings .current ∷ stk) (i .rings)) s (i .next) inner-inside
                     ∙ rw (eq-eqb (getD s (i .next) 0) 41 (g refl inner-inside), x)
@@ -407,13 +407,17 @@ module _ (s : List ℕ) (at depth : ℕ) (q : Rings) (r₀ r : Ran) (d₀ : Atom
 
 -- ---- the whole tail
 
-pub tail-empty : (s : List ℕ) → length s ≡ 0 → false ≡ isTail s
-unfolding isTail within
+pub tail-checked : (s : List ℕ) (n : ℕ) → n ≡ tailAtoms s → not (eqb n 0) ≡ isTail s
+unfolding isTail
+tail-checked s n e = ap (λ (z : ℕ). not (eqb z 0)) e
+
+pub tail-empty : (s : List ℕ) → length s ≡ 0 → 0 ≡ tailAtoms s
+unfolding tailAtoms within
 tail-empty s h = rw h
 
 module _ (s : List ℕ) (h : length s ≡ 0 → ⊥) where
-  pub tail-long : 255 < length s → false ≡ isTail s
-  unfolding isTail within
+  pub tail-long : 255 < length s → 0 ≡ tailAtoms s
+  unfolding tailAtoms within
   tail-long g = rw (le-leb 1 (length s) (omega arith), lt-leb (length s) 255 g)
 
   module _ (g : length s ≤ 255) (q : Rings) (e : q ≡ noRings) where
@@ -421,17 +425,17 @@ module _ (s : List ℕ) (h : length s ≡ 0 → ⊥) where
     room-first = record { within = omega arith; short = g; few = omega (arith, ap (λ (z : Rings). z .last) e) }
 
     module _ (r : Ran) (d : RunRead s 0 16 q r) where
-      starts : isTail s ≡ resumed s [] r
-      unfolding isTail within
+      starts : tailAtoms s ≡ resumed s [] r
+      unfolding tailAtoms within
       starts =
           rw (le-leb 1 (length s) (omega arith), le-leb (length s) 255 g)
           (ap (λ (z : Rings). scan (stands opening [] z) s) (sym e) ∙ d .same [] (omega arith))
 
-      pub tail-wrong : not (r .ok) ≡ true → false ≡ isTail s
+      pub tail-wrong : not (r .ok) ≡ true → 0 ≡ tailAtoms s
       tail-wrong f = sym (starts ∙ rw (not-true (r .ok) f))
 
       module _ (f : not (r .ok) ≡ false) where
-        pub tail-closes : r .next < length s → false ≡ isTail s
+        pub tail-closes : r .next < length s → 0 ≡ tailAtoms s
         unfolding step goesOn branchCloses
         tail-closes w =
             sym
@@ -439,7 +443,14 @@ module _ (s : List ℕ) (h : length s ≡ 0 → ⊥) where
             ∙ rw (not-false (r .ok) f)
             (wrong-at (stands closed [] (r .rings)) s (r .next) w (rw (eq-eqb (getD s (r .next) 0) 41 (d .stops (not-false (r .ok) f) w)))))
 
-        pub tail-ends : (b : Bool) → length s ≤ r .next → b ≡ noneOpen (r .rings .opened) → b ≡ isTail s
-        unfolding done finished
-        tail-ends b w x =
-            x ∙ sym (starts ∙ rw (not-false (r .ok) f) (scan-end (stands closed [] (r .rings)) s (r .next) (omega (arith, d .bounds .within))))
+        module _ (w : length s ≤ r .next) (b : Bool) (x : b ≡ noneOpen (r .rings .opened)) where
+          ends-so : tailAtoms s ≡ cond b (r .rings .last) 0
+          unfolding done finished
+          ends-so =
+              starts ∙ rw (not-false (r .ok) f, x) (scan-end (stands closed [] (r .rings)) s (r .next) (omega (arith, d .bounds .within)))
+
+          pub tail-open : not b ≡ true → 0 ≡ tailAtoms s
+          tail-open g = sym (ends-so ∙ rw (not-true b g))
+
+          pub tail-ends : not b ≡ false → r .rings .last ≡ tailAtoms s
+          tail-ends g = sym (ends-so ∙ rw (not-false b g))

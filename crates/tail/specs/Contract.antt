@@ -2,7 +2,7 @@
 -- the place where the function leaves off.
 use Prim.Native.Nat.{ℕ, _+_, _≤_, _<_}
 use mathlib.Core.Path.{_≡_}
-use mathlib.Core.Bool.{Bool, true, false, cond}
+use mathlib.Core.Bool.{true, cond}
 use mathlib.Core.List.{List}
 use lib.ListN.{length, drop, getD}
 use Rattle.tail.specs.declared.Rings.{Rings}
@@ -33,9 +33,9 @@ pub record PastBond (s : List ℕ) (at next : ℕ) : Type 0 where
   pub within : next ≤ length s
 
 -- how a tail goes on after an atom that is found or not
-abbrev pub afterFound : List ℕ → List ℕ → Rings → Found → Bool
+abbrev pub afterFound : List ℕ → List ℕ → Rings → Found → ℕ
 afterFound s stk q (Next p) = scan (stands whole stk q) (drop p s)
-afterFound s stk q Nothing = false
+afterFound s stk q Nothing = 0
 
 abbrev pub Passed : List ℕ → ℕ → Found → Type 0
 Passed s at (Next p) = (at < p) × (p ≤ length s)
@@ -52,8 +52,8 @@ pub record PastAtom (s : List ℕ) (at : ℕ) (found : Found) : Type 0 where
   pub passed : Passed s at found
 
 -- how a tail goes on after what was read: as after an atom with all its digits, or after a branch
-abbrev pub resumed : List ℕ → List ℕ → Ran → Bool
-resumed s stk r = cond (r .ok) (scan (stands closed stk (r .rings)) (drop (r .next) s)) false
+abbrev pub resumed : List ℕ → List ℕ → Ran → ℕ
+resumed s stk r = cond (r .ok) (scan (stands closed stk (r .rings)) (drop (r .next) s)) 0
 
 pub record Bounds (s : List ℕ) (r : Ran) : Type 0 where
   pub within : r .next ≤ length s

@@ -5,7 +5,7 @@
 -- an atom, its digits or another branch."
 use Prim.Native.Nat.{ℕ, suc, _+_, _-_}
 use Prim.Native.Char.{code}
-use mathlib.Core.Bool.{Bool, true, false, cond, _||_, _&&_}
+use mathlib.Core.Bool.{Bool, true, false, not, cond, _||_, _&&_}
 use mathlib.Core.List.{List, [], _∷_}
 use lib.ListN.{length, getD, set, replicate}
 use lib.Dec.{eqb, ltb}
@@ -108,30 +108,37 @@ step (stands closed stk r) x = goesOn x stk r
 
 -- ---- all bytes
 
--- the tail may end here: after an atom, its digits or a branch, with no branch and no digit open
-unfoldable pub finished : List ℕ → Rings → Bool
+-- The number of atoms of a tail that ends here, and 0 where it may not end. It may after an atom, its digits or a branch, with no branch and
+-- no digit open
+unfoldable pub finished : List ℕ → Rings → ℕ
 unfolding noneOpen
-finished [] r = noneOpen (r .opened)
-finished (a ∷ stk) r = false
+finished [] r = cond (noneOpen (r .opened)) (r .last) 0
+finished (a ∷ stk) r = 0
 
-unfoldable pub done : State → Bool
+unfoldable pub done : State → ℕ
 unfolding finished
-done wrong = false
-done (stands opening stk r) = false
-done (stands afterBond stk r) = false
+done wrong = 0
+done (stands opening stk r) = 0
+done (stands afterBond stk r) = 0
 done (stands (letter a) stk r) = finished stk r
-done (stands (inside k) stk r) = false
+done (stands (inside k) stk r) = 0
 done (stands whole stk r) = finished stk r
 done (stands closed stk r) = finished stk r
 
--- whether a tail goes on so from a state
-unfoldable pub scan : State → List ℕ → Bool
+-- the number of atoms of a tail that goes on so from a state, and 0 where none does
+unfoldable pub scan : State → List ℕ → ℕ
 unfolding step done
 scan q [] = done q
 scan q (x ∷ xs) = scan (step q x) xs
 
--- whether the bytes are a tail: "1 to 255 bytes". Exactly those that read by themselves, hung on an atom, with digits for labels, no dot and
--- at most 16 branches in one another: `tail-alone` and `only-tails` of proofs/
-unfoldable pub isTail : List ℕ → Bool
+-- the number of atoms of a tail, and 0 of what is none: "1 to 255 bytes". It is the size of the part that the tail reads to:
+-- `tail-part-atoms` of proofs/
+unfoldable pub tailAtoms : List ℕ → ℕ
 unfolding scan within
-isTail xs = cond (within 1 255 (length xs)) (scan (stands opening [] noRings) xs) false
+tailAtoms xs = cond (within 1 255 (length xs)) (scan (stands opening [] noRings) xs) 0
+
+-- whether the bytes are a tail: "one or more atoms". Exactly those that read by themselves, hung on an atom, with digits for labels, no dot
+-- and at most 16 branches in one another: `tail-alone` and `only-tails` of proofs/
+unfoldable pub isTail : List ℕ → Bool
+unfolding tailAtoms
+isTail xs = not (eqb (tailAtoms xs) 0)

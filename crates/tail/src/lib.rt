@@ -1,12 +1,12 @@
 // The check of a tail, the part of a line that the caller gives as text (01, Templates and the builder; refusal 23 rests on it).
 // It answers 01's grammar for every byte string. proofs/Alone and proofs/Exactly say what that is worth: the tails are exactly the texts,
-// within the limits, that read by themselves where they hang on an atom.
+// within the limits, that read by themselves where they hang on an atom. proofs/Atoms: a tail reads to as many atoms as are counted here.
 ghost use mathlib.Core.Path.{_≡_};
 ghost use mathlib.Core.Bool.{true, false};
 ghost use Prim.Native.Nat.{_-_, _≤_, _<_};
 ghost use lib.ListN.{length};
 ghost use Rattle.reading.specs.Lexer.{memb, within, organic, marks, bracketed, pairs};
-ghost use Rattle.tail.specs.Grammar.{noRings, withAtom, backTo, clashes, withDigit, noneOpen, isTail};
+ghost use Rattle.tail.specs.Grammar.{noRings, withAtom, backTo, clashes, withDigit, noneOpen, tailAtoms, isTail};
 ghost use Rattle.tail.specs.Contract.{Room, Digits, IsDigit, PastBond, PastBracket, PastAtom, PastDigits, AtomRead, RunRead};
 
 const MAX_TAIL: usize = 255;
@@ -367,23 +367,33 @@ fn read_run(s: &[u8], at: usize, depth: u32, rings: Rings) -> Ran
     ran
 }
 
+// The number of atoms of a tail; 0 where the bytes are none.
+pub fn tail_atoms(s: &[u8]) -> u16
+    ensures { λ r. ⌜ r ≡ tailAtoms (now (s .entry)) ⌝ }
+{
+    if s.len() == 0 {
+        return 0;
+    }
+    if MAX_TAIL < s.len() {
+        return 0;
+    }
+    let ran = read_run(s, 0, MAX_DEPTH, Rings::new());
+    if !ran.ok {
+        return 0;
+    }
+    if ran.next < s.len() {
+        return 0;
+    }
+    let rings = ran.rings;
+    if !rings.none_open() {
+        return 0;
+    }
+    rings.last as u16
+}
+
 // Whether the bytes are a tail.
 pub fn check_tail(s: &[u8]) -> bool
     ensures { λ r. ⌜ r ≡ isTail (now (s .entry)) ⌝ }
 {
-    if s.len() == 0 {
-        return false;
-    }
-    if MAX_TAIL < s.len() {
-        return false;
-    }
-    let ran = read_run(s, 0, MAX_DEPTH, Rings::new());
-    if !ran.ok {
-        return false;
-    }
-    if ran.next < s.len() {
-        return false;
-    }
-    let rings = ran.rings;
-    rings.none_open()
+    tail_atoms(s) != 0
 }

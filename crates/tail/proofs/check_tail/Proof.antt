@@ -1,41 +1,13 @@
-use Rattle.tail.proofs.Scan.{tail-empty, tail-long, room-first, tail-wrong, tail-closes, tail-ends}
 use borrow.Author.Needs.{needs}
+use Rattle.tail.proofs.Scan.{tail-checked}
 use Rattle.tail.proofs.check_tail.Statement.{statement}
 use Rattle.tail.proofs.check_tail.Tie as tie
 
+tail-atoms-requires : tie.Need-tail-atoms-requires
+tail-atoms-requires c κs = search needs
+
 returns : tie.Need-returns
-returns c = search tail-empty
-
-returns-2 : tie.Need-returns-2
-returns-2 c = search tail-long
-
-new-requires : tie.Need-new-requires
-new-requires c κs = search needs
-
-read-run-requires : tie.Need-read-run-requires
-read-run-requires c κs = search room-first
-
-returns-3 : tie.Need-returns-3
-returns-3 c = search tail-wrong
-
-returns-4 : tie.Need-returns-4
-returns-4 c = search tail-closes
-
-none-open-requires : tie.Need-none-open-requires
-none-open-requires c κs = search needs
-
-returns-5 : tie.Need-returns-5
-returns-5 c = search tail-ends
+returns c = search tail-checked
 
 pub check-tail-spec : {M : Type 1} → statement M
-check-tail-spec =
-    tie.close
-    (tie.spec
-    returns
-    returns-2
-    new-requires
-    read-run-requires
-    returns-3
-    returns-4
-    none-open-requires
-    returns-5)
+check-tail-spec = tie.close (tie.spec tail-atoms-requires returns)
