@@ -1,0 +1,162 @@
+// Whether a request is refused, before its slices are looked at: class, number of tokens, tokens, kinds, tail, and what cannot be drawn, in
+// the order of document 01. Every request has an answer. Which, is said by specs/Verdict.antt.
+use chain::Role;
+use drawable::Drawn;
+use record::ChainPrefix;
+use record::ParsedChain;
+use template::Class;
+use token::MAX_TOKENS;
+use token::Request;
+ghost use mathlib.Core.Path.{_≡_};
+ghost use Prim.Native.Nat.{_<_, _≤_};
+ghost use Rattle.chain.specs.Refusals.{placeRefusal, drawRefusal};
+ghost use Rattle.judge.specs.Verdict.{firstOf, kindRefusal};
+ghost use Rattle.judge.specs.Judged.{chainsOf, DrawsAt, Longer, Drawing, FaultIs};
+
+pub const UNKNOWN_CLASS: u16 = 20;
+
+pub const WRONG_COUNT: u16 = 21;
+
+pub const WRONG_KIND: u16 = 22;
+
+pub const WRONG_TAIL: u16 = 23;
+
+// A refusal: its number, 0 for none, and the token's place from 1, 0 for none.
+pub struct Fault {
+    pub number: u16,
+    pub place: usize,
+}
+
+// The chains of a request as they are drawn, in the order of its tokens.
+pub struct Chains {
+    pub count: usize,
+    pub items: [Drawn; MAX_TOKENS],
+}
+
+// A request that was judged: refused, or a class and its chains.
+pub struct Judged {
+    pub fault: Fault,
+    pub class: Class,
+    pub chains: Chains,
+}
+
+impl Chains {
+    // No chains.
+    fn new() -> Chains
+        ensures { λ r. ⌜ r .count ≡ 0 ⌝ }
+    {
+        let chain = ParsedChain::new(ChainPrefix::Acyl, 0, 0, false);
+        let drawn = drawable::drawn_as(Role::Slot, chain);
+        let items = [drawn; MAX_TOKENS];
+        Chains { count: 0, items }
+    }
+
+    // One chain more.
+    fn push(mut self, drawn: Drawn) -> Chains
+        requires { ⌜ self .count < 4 ⌝ }
+        ensures { λ r. ⌜ Longer self drawn r ⌝ }
+    {
+        let at = self.count;
+        self.items[at] = drawn;
+        self.count = at + 1;
+        self
+    }
+}
+
+// The first chain that is of the wrong kind for its place.
+fn first_kind(class: Class, request: Request) -> Fault
+    requires { ⌜ request .count ≤ 4 ⌝ }
+    ensures { λ r. ⌜ r ≡ firstOf kindRefusal class 1 (chainsOf request) ⌝ }
+{
+    let n = request.count;
+    let mut i = 0;
+    while i < n {
+        let chain = request.chains[i];
+        let role = class::role_of(class, i + 1);
+        if refusals::wrong_kind(role, chain) {
+            return Fault {
+                number: WRONG_KIND,
+                place: i + 1,
+            };
+        }
+        i += 1;
+    }
+    Fault {
+        number: 0,
+        place: 0,
+    }
+}
+
+// Chain i, counted from 0, as the class draws it.
+fn draw_one(class: Class, request: Request, i: usize) -> Drawn
+    requires { ⌜ request .count ≤ 4 ⌝ }
+    requires { ⌜ i < request .count ⌝ }
+    ensures { λ r. ⌜ DrawsAt class request i r ⌝ }
+{
+    let chain = request.chains[i];
+    let role = class::role_of(class, i + 1);
+    drawable::drawn_as(role, chain)
+}
+
+// The chains as the class draws them.
+fn draw_all(class: Class, request: Request) -> Chains
+    requires { ⌜ request .count ≤ 4 ⌝ }
+    ensures { λ r. ⌜ Drawing class (chainsOf request) r ⌝ }
+{
+    let n = request.count;
+    let mut chains = Chains::new();
+    let mut i = 0;
+    while i < n {
+        chains = chains.push(draw_one(class, request, i));
+        i += 1;
+    }
+    chains
+}
+
+// The first chain with a feature off the chain or with two that clash.
+fn first_place(chains: Chains) -> Fault
+    requires { ⌜ chains .count ≤ 4 ⌝ }
+    ensures { λ r. ⌜ FaultIs chains placeRefusal r ⌝ }
+{
+    let n = chains.count;
+    let mut i = 0;
+    while i < n {
+        let x = chains.items[i];
+        let number = refusals::place_refusal(x);
+        if number != 0 {
+            return Fault {
+                number,
+                place: i + 1,
+            };
+        }
+        i += 1;
+    }
+    Fault {
+        number: 0,
+        place: 0,
+    }
+}
+
+// The first chain that has no drawing.
+fn first_draw(chains: Chains) -> Fault
+    requires { ⌜ chains .count ≤ 4 ⌝ }
+    ensures { λ r. ⌜ FaultIs chains drawRefusal r ⌝ }
+{
+    let n = chains.count;
+    let mut i = 0;
+    while i < n {
+        let x = chains.items[i];
+        let number = refusals::draw_refusal(x);
+        if number != 0 {
+            return Fault {
+                number,
+                place: i + 1,
+            };
+        }
+        i += 1;
+    }
+    Fault {
+        number: 0,
+        place: 0,
+    }
+}
