@@ -13,7 +13,7 @@ use Rattle.drawable.specs.Drawn.{Draws, chainOf}
 use Rattle.judge.specs.declared.Chains.{Chains}
 use Rattle.judge.specs.declared.Judged.{Judged}
 use Rattle.judge.specs.declared.Fault.{Fault}
-use Rattle.judge.specs.Verdict.{Verdict, Refused, Drawable, firstOf}
+use Rattle.judge.specs.Verdict.{Verdict, Refused, Drawable, firstOf, judgeDrawn}
 
 -- the chains that a request's records hold
 unfoldable pub chainsOf : Request → List Chain
@@ -51,3 +51,7 @@ pub record FaultIs (x : Chains) (test : Role → Chain → ℕ) (f : Fault) : Ty
 abbrev pub JudgedIs : Judged → Verdict → Type 0
 JudgedIs j (Refused n p) = (j .fault .number ≡ n) × (j .fault .place ≡ p) × (0 < n)
 JudgedIs j (Drawable c ds) = (j .fault .number ≡ 0) × (j .class ≡ c) × Drawing c ds (j .chains)
+
+-- j is what is said of the chains that x draws, whatever they are
+pub record DrawnIs (c : Class) (x : Chains) (j : Judged) : Type 0 where
+  pub is : (ds : List Chain) → Drawing c ds x → JudgedIs j (judgeDrawn c ds)

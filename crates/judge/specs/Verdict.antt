@@ -45,12 +45,15 @@ wrongTail c t = cond (hasTail c) (not (isTail t)) (not (eqb (length t) 0))
 unfoldable pub orElse : Fault → Verdict → Verdict
 orElse f v = cond (eqb (f .number) 0) v (Refused (f .number) (f .place))
 
--- the chains of a class, judged in order
-unfoldable pub judgeChains : Class → List ℕ → List Chain → Verdict
-judgeChains c t ds =
-    orElse (firstOf kindRefusal c 1 ds)
-    (cond (wrongTail c t) (Refused 23 0) (orElse (firstOf placeRefusal c 1 ds) (orElse (firstOf drawRefusal c 1 ds) (Drawable c ds))))
+-- 32 and 33 of every chain, then 12 to 15
+unfoldable pub judgeDrawn : Class → List Chain → Verdict
+judgeDrawn c ds = orElse (firstOf placeRefusal c 1 ds) (orElse (firstOf drawRefusal c 1 ds) (Drawable c ds))
 
+-- 22 of every chain, then 23, then what is asked of the chains as they are drawn
+unfoldable pub judgeChains : Class → List ℕ → List Chain → Verdict
+judgeChains c t ds = orElse (firstOf kindRefusal c 1 ds) (cond (wrongTail c t) (Refused 23 0) (judgeDrawn c ds))
+
+-- the chains, or the first token that is refused
 abbrev pub judgeRead : Class → List ℕ → token.Verdict → Verdict
 judgeRead c t (token.First n p) = Refused n p
 judgeRead c t (token.All ds) = judgeChains c t ds

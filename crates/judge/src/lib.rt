@@ -1,6 +1,7 @@
 // Whether a request is refused, before its slices are looked at: class, number of tokens, tokens, kinds, tail, and what cannot be drawn, in
 // the order of document 01. Every request has an answer. Which, is said by specs/Verdict.antt.
 use chain::Role;
+use class::Code;
 use drawable::Drawn;
 use record::ChainPrefix;
 use record::ParsedChain;
@@ -10,8 +11,8 @@ use token::Request;
 ghost use mathlib.Core.Path.{_≡_};
 ghost use Prim.Native.Nat.{_<_, _≤_};
 ghost use Rattle.chain.specs.Refusals.{placeRefusal, drawRefusal};
-ghost use Rattle.judge.specs.Verdict.{firstOf, kindRefusal};
-ghost use Rattle.judge.specs.Judged.{chainsOf, DrawsAt, Longer, Drawing, FaultIs};
+ghost use Rattle.judge.specs.Verdict.{tokens, firstOf, kindRefusal, wrongTail, judgeChains, wrongCount, judgeTokens, verdict};
+ghost use Rattle.judge.specs.Judged.{chainsOf, DrawsAt, Longer, Drawing, FaultIs, JudgedIs, DrawnIs};
 
 pub const UNKNOWN_CLASS: u16 = 20;
 
@@ -159,4 +160,125 @@ fn first_draw(chains: Chains) -> Fault
         number: 0,
         place: 0,
     }
+}
+
+impl Judged {
+    // A request that is refused.
+    fn refused(fault: Fault) -> Judged
+        ensures { λ r. ⌜ r .fault ≡ fault ⌝ }
+    {
+        Judged {
+            fault,
+            class: Class::Fa,
+            chains: Chains::new(),
+        }
+    }
+}
+
+// What is asked of the chains as they are drawn.
+fn judge_drawn(class: Class, chains: Chains) -> Judged
+    requires { ⌜ chains .count ≤ 4 ⌝ }
+    ensures { λ r. ⌜ DrawnIs class chains r ⌝ }
+{
+    let place = first_place(chains);
+    if place.number != 0 {
+        return Judged::refused(place);
+    }
+    let draw = first_draw(chains);
+    if draw.number != 0 {
+        return Judged::refused(draw);
+    }
+    Judged {
+        fault: draw,
+        class,
+        chains,
+    }
+}
+
+// Whether a tail is outside the grammar, or stands where there is none.
+fn wrong_tail(class: Class, tail: &[u8]) -> bool
+    ensures { λ r. ⌜ r ≡ wrongTail class (now (tail .entry)) ⌝ }
+{
+    if class::has_tail(class) {
+        return !tail::check_tail(tail);
+    }
+    tail.len() != 0
+}
+
+// The chains of a class, and its tail.
+fn judge_chains(class: Class, tail: &[u8], request: Request) -> Judged
+    requires { ⌜ request .count ≤ 4 ⌝ }
+    ensures { λ r. ⌜ JudgedIs r (judgeChains class (now (tail .entry)) (chainsOf request)) ⌝ }
+{
+    let kind = first_kind(class, request);
+    if kind.number != 0 {
+        return Judged::refused(kind);
+    }
+    if wrong_tail(class, tail) {
+        return Judged::refused(Fault {
+            number: WRONG_TAIL,
+            place: 0,
+        });
+    }
+    judge_drawn(class, draw_all(class, request))
+}
+
+// Whether a class takes another number of tokens.
+fn wrong_count(class: Class, count: usize) -> bool
+    ensures { λ r. ⌜ r ≡ wrongCount class count ⌝ }
+{
+    if count < class::fewest(class) {
+        return true;
+    }
+    class::most(class) < count
+}
+
+// The tokens of a class.
+fn judge_tokens<'a>(
+    class: Class,
+    tail: &[u8],
+    count: usize,
+    sn1: &'a [u8],
+    sn2: &'a [u8],
+    sn3: &'a [u8],
+    sn4: &'a [u8],
+) -> Judged
+    ensures { λ r. ⌜ JudgedIs r (judgeTokens class (now (tail .entry)) count (tokens count (now (sn1 .entry)) (now (sn2 .entry)) (now (sn3 .entry)) (now (sn4 .entry)))) ⌝ }
+{
+    if wrong_count(class, count) {
+        return Judged::refused(Fault {
+            number: WRONG_COUNT,
+            place: 0,
+        });
+    }
+    let request = token::parse_tokens(count, sn1, sn2, sn3, sn4);
+    let refusal = request.refusal;
+    if refusal != 0 {
+        return Judged::refused(Fault {
+            number: refusal,
+            place: request.place,
+        });
+    }
+    judge_chains(class, tail, request)
+}
+
+// Whether a request is refused, and for what; or its class and its chains.
+pub fn judge<'a>(
+    class: &[u8],
+    tail: &[u8],
+    count: usize,
+    sn1: &'a [u8],
+    sn2: &'a [u8],
+    sn3: &'a [u8],
+    sn4: &'a [u8],
+) -> Judged
+    ensures { λ r. ⌜ JudgedIs r (verdict (now (class .entry)) (now (tail .entry)) count (tokens count (now (sn1 .entry)) (now (sn2 .entry)) (now (sn3 .entry)) (now (sn4 .entry)))) ⌝ }
+{
+    let Code::Known(known) = class::class_of(class) else {
+        return Judged::refused(Fault {
+            number: UNKNOWN_CLASS,
+            place: 0,
+        });
+    };
+    judge_tokens(known, tail, count, sn1, sn2, sn3, sn4)
 }
