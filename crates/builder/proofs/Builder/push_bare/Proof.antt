@@ -1,0 +1,16 @@
+use Rattle.builder.proofs.Pushes.{bare-pushed}
+use borrow.Author.Needs.{needs}
+use Rattle.builder.proofs.Builder.push_bare.Statement.{statement}
+use Rattle.builder.proofs.Builder.push_bare.Tie as tie
+
+push-chain-requires : tie.Need-push-chain-requires
+push-chain-requires c κs = search needs
+
+same-length : tie.Need-same-length
+same-length c = search needs
+
+returns : tie.Need-returns
+returns c = search bare-pushed
+
+pub push-bare-spec : {M : Type 1} → statement M
+push-bare-spec = tie.close (tie.spec push-chain-requires same-length returns)

@@ -1,0 +1,7 @@
+pub mod Pushes
+pub mod Built
+pub mod Templates
+pub mod Small
+pub mod Classes
+pub mod Fits
+pub mod Carried
