@@ -1,0 +1,3 @@
+pub mod FourLaws
+pub mod PlacedLaws
+pub mod SitesLaws

@@ -1,0 +1,47 @@
+-- The sn sites of chains in their places, by numbers alone. Assumes nothing.
+use Prim.Native.Nat.{ℕ}
+use mathlib.Core.Path.{_≡_}
+use mathlib.Core.List.{List, [], _∷_}
+use lib.ListN.{length, take}
+use Rattle.chain.specs.declared.Role.{Role}
+use Rattle.chain.specs.declared.Role.the-variants.{Slot, Acyl, Base}
+use Rattle.shown.specs.declared.Site.{Site}
+use Rattle.shown.specs.Notes.{Digits}
+use Rattle.placed.specs.declared.Placed.{Placed}
+use Rattle.listing.specs.declared.Sites.{Sites}
+use Rattle.listing.specs.Four.{four, Filled, Added, ofEach, ofAll}
+
+-- what stands past the last site
+abbrev pub noSite : Site
+noSite = record { sn = 0; atom = 0 }
+
+-- the site of a chain; a base has none
+abbrev pub siteIn : Role → Site → List Site
+siteIn Slot s = s ∷ []
+siteIn Acyl s = s ∷ []
+siteIn Base s = []
+
+unfoldable pub siteList : Placed → List Site
+siteList p = siteIn (p .role) (record { sn = p .sn; atom = p .site })
+
+-- those of an sn
+abbrev pub snSiteList : ℕ → List Placed → List Site
+snSiteList sn ps = ofEach siteList sn ps
+
+-- all of them, by rising sn
+abbrev pub allSiteList : List Placed → List Site
+allSiteList ps = ofAll siteList ps
+
+-- r holds the first four of some sites, each with an sn of one digit; its other places are zero
+pub record SitesAre (l : List Site) (r : Sites) : Type 0 where
+  pub count : r .count ≡ length (take 4 l)
+  pub items : r .items ≡ four noSite l
+  pub digits : Digits (take (r .count) (r .items))
+
+-- ---- while they are gathered
+
+abbrev pub NoSites : Sites → Type 0
+NoSites r = Filled noSite [] (r .count) (r .items)
+
+abbrev pub SitesAdded : List Site → Sites → Sites → Type 0
+SitesAdded more x r = Added noSite more (x .count) (x .items) (r .count) (r .items)
