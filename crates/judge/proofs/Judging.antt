@@ -4,7 +4,6 @@ use Prim.Native.Nat.{ℕ, _≤_, _<_}
 use native.Mathlib.Omega.{arith}
 use mathlib.Core.Path.{_≡_, refl, sym, ap, _∙_}
 use mathlib.Core.Bool.{Bool, true, false, cond, not}
-use mathlib.Core.Option.{Option, none, some}
 use mathlib.Core.List.{List, [], _∷_}
 use lib.ListN.{length, take}
 use lib.Dec.{eqb, ltb}
@@ -21,7 +20,7 @@ use Rattle.class.specs.Class.{read}
 use Rattle.judge.specs.declared.Fault.{Fault}
 use Rattle.judge.specs.declared.Chains.{Chains}
 use Rattle.judge.specs.declared.Judged.{Judged}
-use Rattle.judge.specs.Verdict.{Verdict, Refused, Drawable, tokens, firstOf, kindRefusal, wrongTail, orElse, judgeDrawn, judgeChains, judgeRead, wrongCount, judgeTokens, judgeClass, verdict}
+use Rattle.judge.specs.Verdict.{Verdict, Refused, Drawable, tokens, firstOf, kindRefusal, wrongTail, orElse, judgeDrawn, judgeChains, wrongCount, judgeTokens, verdict}
 use Rattle.judge.specs.Judged.{chainsOf, Drawing, FaultIs, JudgedIs, DrawnIs}
 use Rattle.judge.proofs.Tokens.{request-chains, request-refused}
 

@@ -1,8 +1,10 @@
--- Laws of the tokens of a request: each chain that was read is sound, there are as many as tokens, and they are those that the records hold.
+-- Laws of the tokens of a request: each chain that was read is sound, there are as many as tokens, and they are those that the records hold;
+-- or a token is refused, by 31 or by 11, at the place of one of them.
 -- Assumes nothing.
 use Prim.Native.Nat.{ℕ, _+_, _≤_}
 use native.Mathlib.Omega.{arith}
-use mathlib.Core.Path.{_≡_, refl, sym, ap, _∙_, subst}
+use mathlib.Core.Path.{_≡_, refl, _∙_, subst}
+use mathlib.Core.Bool.{true}
 use mathlib.Core.List.{List, [], _∷_, _++_, map}
 use lib.ListN.{length, take, length-append, length-take}
 use Rattle.record.specs.declared.ParsedChain.{ParsedChain}
@@ -14,25 +16,27 @@ use Rattle.token.specs.Request.{Verdict, All, First, withToken, tokensFrom, tok
 use Rattle.token.proofs.Sound.{token-sound}
 use Rattle.drawable.specs.Drawn.{chainOf}
 use Rattle.drawable.proofs.Drawing.{held-chain}
-use Rattle.judge.specs.Verdict.{tokens}
+use Rattle.judge.specs.Verdict.{tokens, isRefusal}
 use Rattle.judge.specs.Judged.{chainsOf}
+use Rattle.judge.proofs.Numbers.{token-number}
 
--- n chains, each of them sound
+-- of n tokens: as many chains, each of them sound, or a refusal
 abbrev SoundTo : ℕ → Verdict → Type 0
 SoundTo n (All ds) = Every Sound ds × (length ds ≡ n)
-SoundTo n (First m p) = Unit {0}
+SoundTo n (First m p) = (isRefusal m ≡ true) × (p ≤ n)
 
 every-one : (ds : List Chain) (d : Chain) → Every Sound ds → Sound d → Every Sound (ds ++ (d ∷ []))
 every-one [] d h k = (k, tt)
 every-one (x ∷ ds) d h k = (h .0, every-one ds d (h .1) k)
 
 sound-more : (n : ℕ) (v : Verdict) (s : List ℕ) → SoundTo n v → SoundTo (n + 1) (withToken v (tokenOf s))
-sound-more n (First m p) s h = tt
+unfolding isRefusal
+sound-more n (First m p) s h = (h .0, omega (arith, h .1))
 sound-more n (All ds) s h = go (tokenOf s) refl
   where
     go : (o : Outcome) → tokenOf s ≡ o → SoundTo (n + 1) (withToken (All ds) o)
     go (Read d) e = (every-one ds d (h .0) (token-sound s d e), omega (arith, h .1, length-append ds (d ∷ [])))
-    go (Refused m) e = tt
+    go (Refused m) e = (token-number (λ k. isRefusal k ≡ true) refl refl s m e, omega (arith, h .1))
 
 sound-from : (n : ℕ) (v : Verdict) (ss : List (List ℕ)) → SoundTo n v → SoundTo (n + length ss) (tokensFrom v ss)
 unfolding tokensFrom
@@ -49,6 +53,9 @@ module _ (ss : List (List ℕ)) (ds : List Chain) (e : tokensOf ss ≡ All ds) w
 
   pub tokens-length : length ds ≡ length ss
   tokens-length = subst (SoundTo (length ss)) e (sound-all ss) .1
+
+pub tokens-refused : (ss : List (List ℕ)) (n p : ℕ) → tokensOf ss ≡ First n p → (isRefusal n ≡ true) × (p ≤ length ss)
+tokens-refused ss n p e = subst (SoundTo (length ss)) e (sound-all ss)
 
 -- the records of a request hold the chains of its tokens
 held-all : {cs : List ParsedChain} {ds : List Chain} → HoldsAll cs ds → Every Sound ds → map chainOf cs ≡ ds

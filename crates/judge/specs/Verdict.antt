@@ -1,7 +1,7 @@
 -- Whether a request is refused, before its slices are looked at. 01, Accepted, or refused by whom: "Order: 20, 21, per token 31 and 11, per
 -- chain 22, then 23, per chain 32 then 33, per chain 12 to 15, 41." Assumes nothing.
 use Prim.Native.Nat.{ℕ, suc}
-use mathlib.Core.Bool.{Bool, true, false, cond, not}
+use mathlib.Core.Bool.{Bool, true, cond, not}
 use mathlib.Core.Option.{Option, none, some}
 use mathlib.Core.List.{List, [], _∷_}
 use lib.ListN.{length, take}
@@ -10,6 +10,7 @@ use Rattle.record.specs.Chain.{Chain}
 use Rattle.token.specs.Request as token
 use Rattle.tail.specs.Grammar.{isTail}
 use Rattle.chain.specs.declared.Role.{Role}
+use Rattle.chain.specs.Lists.{anyOf}
 use Rattle.chain.specs.Refusals.{wrongKind, placeRefusal, drawRefusal}
 use Rattle.template.specs.declared.Class.{Class}
 use Rattle.template.specs.Template.{classOf, fewest, most, roleOf, hasTail}
@@ -62,6 +63,7 @@ judgeRead c t (token.All ds) = judgeChains c t ds
 unfoldable pub wrongCount : Class → ℕ → Bool
 wrongCount c count = cond (ltb count (fewest c)) true (ltb (most c) count)
 
+-- 21, then what is asked of the tokens
 unfoldable pub judgeTokens : Class → List ℕ → ℕ → List (List ℕ) → Verdict
 judgeTokens c t count ss = cond (wrongCount c count) (Refused 21 0) (judgeRead c t (token.tokensOf ss))
 
@@ -70,5 +72,11 @@ abbrev pub judgeClass : Option Class → List ℕ → ℕ → List (List ℕ) �
 judgeClass none t count ss = Refused 20 0
 judgeClass (some c) t count ss = judgeTokens c t count ss
 
+-- a class code, a tail, a number of tokens, and that many of the tokens
 unfoldable pub verdict : List ℕ → List ℕ → ℕ → List (List ℕ) → Verdict
 verdict class t count ss = judgeClass (classOf class) t count ss
+
+-- the numbers by which a request is refused before its slices are looked at, in their order
+unfoldable pub isRefusal : ℕ → Bool
+unfolding anyOf
+isRefusal n = anyOf (eqb n) (20 ∷ 21 ∷ 31 ∷ 11 ∷ 22 ∷ 23 ∷ 32 ∷ 33 ∷ 12 ∷ 13 ∷ 14 ∷ 15 ∷ [])

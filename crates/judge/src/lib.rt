@@ -14,12 +14,13 @@ ghost use Rattle.chain.specs.Refusals.{placeRefusal, drawRefusal};
 ghost use Rattle.judge.specs.Verdict.{tokens, firstOf, kindRefusal, wrongTail, judgeChains, wrongCount, judgeTokens, verdict};
 ghost use Rattle.judge.specs.Judged.{chainsOf, DrawsAt, Longer, Drawing, FaultIs, JudgedIs, DrawnIs};
 
+// A class code that is none of the eight.
 pub const UNKNOWN_CLASS: u16 = 20;
-
+// Another number of tokens than the class takes.
 pub const WRONG_COUNT: u16 = 21;
-
+// A chain of the wrong kind for its place.
 pub const WRONG_KIND: u16 = 22;
-
+// A tail outside the grammar, or where the class has none.
 pub const WRONG_TAIL: u16 = 23;
 
 // A refusal: its number, 0 for none, and the token's place from 1, 0 for none.
@@ -34,7 +35,7 @@ pub struct Chains {
     pub items: [Drawn; MAX_TOKENS],
 }
 
-// A request that was judged: refused, or a class and its chains.
+// A request that was judged: refused; or its class and its chains, and no fault. An enum holds no array, so the fault stands beside them.
 pub struct Judged {
     pub fault: Fault,
     pub class: Class,
