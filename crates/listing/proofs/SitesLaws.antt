@@ -1,20 +1,19 @@
 -- Laws of the sn sites.
 -- Assumes nothing.
-use Prim.Native.Nat.{ℕ, zero, suc, _≤_, _<_}
+use Prim.Native.Nat.{ℕ, zero, suc, _+_, _≤_, _<_}
 use native.Mathlib.Omega.{arith}
 use mathlib.Core.Path.{_≡_, refl, sym, ap, ap₂, _∙_}
-use mathlib.Core.Bool.{Bool, true, false, cond}
+use mathlib.Core.Bool.{true}
 use mathlib.Core.Option.{Option}
 use mathlib.Core.List.{List, [], _∷_, _++_, map, map-append}
-use lib.Dec.{eqb, ltb}
-use lib.ListN.{length, take}
-use borrow.Author.Tests.{lt-ltb, eqb-true}
+use lib.Dec.{ltb}
+use lib.ListN.{length, take, getD}
+use borrow.Author.Tests.{lt-ltb}
 use Rattle.reading.specs.Molecule.{At, at, notesOf}
 use Rattle.reading.specs.Line.{below}
 use Rattle.reading.proofs.PartingLaws.{All, and-left, and-right, and-both}
 use Rattle.chain.specs.declared.Role.{Role}
 use Rattle.chain.specs.declared.Role.the-variants.{Slot, Acyl, Base}
-use Rattle.chain.specs.Lists.{only}
 use Rattle.shown.specs.declared.Site.{Site}
 use Rattle.shown.specs.Notes.{labelsOf, Digits}
 use Rattle.template.specs.Request as request
@@ -23,11 +22,12 @@ use Rattle.template.specs.Promise.{Each}
 use Rattle.template.proofs.Sorted.{all-sorted}
 use Rattle.placed.specs.declared.Placed.{Placed}
 use Rattle.placed.specs.Fragment.{noted, siteOr, gathered}
-use Rattle.placed.specs.Sn.{ofSn}
+use Rattle.placed.specs.Sn.{fromSn}
+use Rattle.placed.proofs.Laws.{gathered-more}
 use Rattle.listing.specs.declared.Sites.{Sites}
-use Rattle.listing.specs.Four.{Filled, Added, ofEach, ofAll}
-use Rattle.listing.specs.Sites.{noSite, siteIn, siteList, snSiteList, allSiteList, SitesAre, NoSites, SitesAdded}
-use Rattle.listing.proofs.FourLaws.{added-none, filled-held, filled-all, all-four}
+use Rattle.listing.specs.Sites.{noSite, siteIn, siteList, allSiteList, SitesAre, SitesHeld, SitesAdded}
+use Rattle.listing.proofs.FourLaws.{added-none, filled-held}
+use Rattle.listing.proofs.OrderLaws.{all-from}
 use Rattle.listing.proofs.PlacedLaws.{each-all, Sited, noted-by-sn}
 
 -- what is counted are the sites, as far as there is room
@@ -75,32 +75,32 @@ digit-one p h = go (p .role)
     go Acyl = and-both (ltb (p .sn) 10) true (lt-ltb (p .sn) 10 h) refl
     go Base = refl
 
-digits-each : (k : ℕ) (ps : List Placed) → k < 10 → Digits (snSiteList k ps)
-unfolding ofEach ofSn only gathered below notesOf labelsOf
-digits-each k [] h = refl
-digits-each k (p ∷ ps) h = go (eqb (p .sn) k) refl (digits-each k ps h)
-  where
-    go : (b : Bool) → eqb (p .sn) k ≡ b → Digits (gathered siteList (ofSn k ps)) → Digits (gathered siteList (cond b (p ∷ ofSn k ps) (ofSn k ps)))
-    go true e r = digits-append (siteList p) (gathered siteList (ofSn k ps)) (digit-one p (omega (arith, h, eqb-true (p .sn) k e))) r
-    go false e r = r
+digits-gathered : (ps : List Placed) → All (λ (p : Placed). p .sn < 10) ps → Digits (gathered siteList ps)
+unfolding gathered below notesOf labelsOf
+digits-gathered [] h = refl
+digits-gathered (p ∷ ps) h = digits-append (siteList p) (gathered siteList ps) (digit-one p (h .0)) (digits-gathered ps (h .1))
 
 digits-all : (ps : List Placed) → Digits (allSiteList ps)
-digits-all ps =
-    rw (all-four siteList ps)
-    (digits-append (snSiteList 1 ps) (snSiteList 2 ps ++ (snSiteList 3 ps ++ snSiteList 4 ps)) (digits-each 1 ps (omega arith))
-    (digits-append (snSiteList 2 ps) (snSiteList 3 ps ++ snSiteList 4 ps) (digits-each 2 ps (omega arith))
-    (digits-append (snSiteList 3 ps) (snSiteList 4 ps) (digits-each 3 ps (omega arith)) (digits-each 4 ps (omega arith)))))
+unfolding allSiteList
+digits-all ps = digits-gathered (fromSn 1 4 ps) (all-from 10 4 1 ps (omega arith))
 
--- all sites
-pub sites-are : (ps : List Placed) (x a b c r : Sites) → NoSites x → SitesAdded (snSiteList 1 ps) x a → SitesAdded (snSiteList 2 ps) a b → SitesAdded (snSiteList 3 ps) b c
-    → SitesAdded (snSiteList 4 ps) c r → SitesAre (allSiteList ps) r
-sites-are ps x a b c r o u v w z =
-    let f : Filled noSite (allSiteList ps) (r .count) (r .items) = filled-all siteList ps o u v w z in
-    record {
-      count = f .count;
-      items = f .items;
-      digits = rw (filled-held noSite (allSiteList ps) (r .count) (r .items) (f .count) (f .items)) (digits-take 4 (allSiteList ps) (digits-all ps));
-    }
+-- ---- the sites of all chains
+
+module _ (l : List Placed) (i n : ℕ) where
+  pub sites-more : (x y : Sites) (d : Placed) → length l ≡ 4 → n ≤ 4 → i < n → SitesHeld (gathered siteList (take i l)) x → SitesAdded (siteList (getD l i d)) x y
+      → SitesHeld (gathered siteList (take (i + 1) l)) y
+  sites-more x y d k m h f u = rw (gathered-more siteList l i d (omega arith)) (u .holds (gathered siteList (take i l)) f)
+
+  pub sites-are : (r : Sites) (ps : List Placed) → take n l ≡ fromSn 1 4 ps → i ≤ n → n ≤ i → SitesHeld (gathered siteList (take i l)) r → SitesAre (allSiteList ps) r
+  unfolding allSiteList
+  sites-are r ps e h g u =
+      let q : i ≡ n = omega arith in
+      let f : SitesHeld (allSiteList ps) r = rw (q, e) at u in
+      record {
+        count = f .count;
+        items = f .items;
+        digits = rw (filled-held noSite (allSiteList ps) (r .count) (r .items) (f .count) (f .items)) (digits-take 4 (allSiteList ps) (digits-all ps));
+      }
 
 -- ---- the labels are those of the chains
 
@@ -126,7 +126,7 @@ labels-gathered (p ∷ ps) h =
 
 -- THE SN SITES of chains with sn 1 to 4, each with the site of its role
 pub sites-told : (ps : List request.Placed) → Each (λ p. (1 ≤ p .sn) × (p .sn ≤ 4)) ps → Each Sited ps → labelsOf (allSiteList (map noted ps)) ≡ snSites (bySn ps)
-unfolding ofAll
+unfolding allSiteList
 sites-told ps h g =
     ap (λ (l : List Placed). labelsOf (gathered siteList l)) (noted-by-sn ps h)
     ∙ labels-gathered (bySn ps) (all-sorted Sited ps (each-all Sited ps g))

@@ -1,11 +1,8 @@
--- Four places of an array with a count, and what is said of chains by rising sn. Assumes nothing.
+-- Four places of an array with a count. Assumes nothing.
 use Prim.Native.Nat.{ℕ}
 use mathlib.Core.Path.{_≡_}
 use mathlib.Core.List.{List, _++_}
 use lib.ListN.{length, take, replicate}
-use Rattle.placed.specs.declared.Placed.{Placed}
-use Rattle.placed.specs.Fragment.{gathered}
-use Rattle.placed.specs.Sn.{ofSn, fromSn}
 
 -- the first four of a list; a place past its end has z
 unfoldable pub four : {A : Type 0} → A → List A → List A
@@ -19,15 +16,3 @@ pub record Filled {A : Type 0} (z : A) (l : List A) (n : ℕ) (xs : List A) : Ty
 -- it then holds some more after them
 pub record Added {A : Type 0} (z : A) (more : List A) (n : ℕ) (xs : List A) (m : ℕ) (ys : List A) : Type 0 where
   pub holds : (l : List A) → Filled z l n xs → Filled z (l ++ more) m ys
-
--- ---- by rising sn
-
--- what is said of the chains of an sn
-unfoldable pub ofEach : {A : Type 0} → (Placed → List A) → ℕ → List Placed → List A
-unfolding gathered ofSn
-ofEach f sn ps = gathered f (ofSn sn ps)
-
--- and of all, those of sn 1 to 4
-unfoldable pub ofAll : {A : Type 0} → (Placed → List A) → List Placed → List A
-unfolding gathered fromSn
-ofAll f ps = gathered f (fromSn 1 4 ps)

@@ -8,8 +8,10 @@ use Rattle.chain.specs.declared.Role.the-variants.{Slot, Acyl, Base}
 use Rattle.shown.specs.declared.Site.{Site}
 use Rattle.shown.specs.Notes.{Digits}
 use Rattle.placed.specs.declared.Placed.{Placed}
+use Rattle.placed.specs.Fragment.{gathered}
+use Rattle.placed.specs.Sn.{fromSn}
 use Rattle.listing.specs.declared.Sites.{Sites}
-use Rattle.listing.specs.Four.{four, Filled, Added, ofEach, ofAll}
+use Rattle.listing.specs.Four.{four, Filled, Added}
 
 -- what stands past the last site
 abbrev pub noSite : Site
@@ -24,13 +26,10 @@ siteIn Base s = []
 unfoldable pub siteList : Placed → List Site
 siteList p = siteIn (p .role) (record { sn = p .sn; atom = p .site })
 
--- those of an sn
-abbrev pub snSiteList : ℕ → List Placed → List Site
-snSiteList sn ps = ofEach siteList sn ps
-
 -- all of them, by rising sn
-abbrev pub allSiteList : List Placed → List Site
-allSiteList ps = ofAll siteList ps
+unfoldable pub allSiteList : List Placed → List Site
+unfolding gathered fromSn siteList
+allSiteList ps = gathered siteList (fromSn 1 4 ps)
 
 -- r holds the first four of some sites, each with an sn of one digit; its other places are zero
 pub record SitesAre (l : List Site) (r : Sites) : Type 0 where
@@ -40,8 +39,11 @@ pub record SitesAre (l : List Site) (r : Sites) : Type 0 where
 
 -- ---- while they are gathered
 
+abbrev pub SitesHeld : List Site → Sites → Type 0
+SitesHeld l r = Filled noSite l (r .count) (r .items)
+
 abbrev pub NoSites : Sites → Type 0
-NoSites r = Filled noSite [] (r .count) (r .items)
+NoSites r = SitesHeld [] r
 
 abbrev pub SitesAdded : List Site → Sites → Sites → Type 0
 SitesAdded more x r = Added noSite more (x .count) (x .items) (r .count) (r .items)

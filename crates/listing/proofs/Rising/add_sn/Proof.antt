@@ -4,22 +4,23 @@ use Prim.Native.Nat.{_≤_, _-_, min}
 use mathlib.Core.Path.{_≡_}
 use lib.ListN.{length, take}
 use Rattle.record.proofs.Laws.{length-mapped}
-use Rattle.listing.specs.Sites.{noSite, siteList, snSiteList, SitesAdded}
-use Rattle.listing.proofs.FourLaws.{sn-none, sn-here, sn-other, sn-all}
-use Rattle.listing.proofs.Sites.add_sn.Statement.{statement}
-use Rattle.listing.proofs.Sites.add_sn.Tie as tie
+use Rattle.placed.specs.Sn.{ofSn}
+use Rattle.listing.specs.Order.{ChainsAdded}
+use Rattle.listing.proofs.OrderLaws.{sn-none, sn-here, sn-other, sn-all}
+use Rattle.listing.proofs.Rising.add_sn.Statement.{statement}
+use Rattle.listing.proofs.Rising.add_sn.Tie as tie
 
 abbrev Inv-loop : tie.InvT-loop
-Inv-loop count sn placed n sites₀ i₀ sites i = (i ≤ n) × (n ≡ min count 4) × (length placed ≡ 4) × SitesAdded (snSiteList sn (take i placed)) sites₀ sites
+Inv-loop count sn placed n chains₀ i₀ chains i = (i ≤ n) × (n ≡ min count 4) × (length placed ≡ 4) × ChainsAdded (ofSn sn (take i placed)) chains₀ chains
 
 abbrev μ-loop : tie.MeasureT-loop
-μ-loop count sn placed n sites₀ i₀ sites i = n - i
+μ-loop count sn placed n chains₀ i₀ chains i = n - i
 
 in-places-requires : tie.Need-in-places-requires Inv-loop μ-loop
 in-places-requires c κs = search needs
 
 loop-holds : tie.Need-loop-holds Inv-loop μ-loop
-loop-holds c = (omega arith, omega arith, search length-mapped, sn-none noSite siteList _ _ _)
+loop-holds c = (omega arith, omega arith, search length-mapped, sn-none _ _ _)
 
 mul-p : tie.Need-mul-p Inv-loop μ-loop
 mul-p c = search needs
@@ -27,8 +28,8 @@ mul-p c = search needs
 array-copy-out-p : tie.Need-array-copy-out-p Inv-loop μ-loop
 array-copy-out-p c = search needs
 
-add-requires : tie.Need-add-requires Inv-loop μ-loop
-add-requires c κs = search needs
+push-requires : tie.Need-push-requires Inv-loop μ-loop
+push-requires c κs = search needs
 
 add-i : tie.Need-add-i Inv-loop μ-loop
 add-i c = search needs
@@ -61,7 +62,7 @@ add-sn-spec =
     loop-holds
     mul-p
     array-copy-out-p
-    add-requires
+    push-requires
     add-i
     loop-less
     loop-again
