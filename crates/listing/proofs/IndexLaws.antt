@@ -9,14 +9,16 @@ use lib.ListN.{length, take, getD}
 use lib.Seq.{take-suc}
 use Rattle.emit.specs.Text.{Written}
 use Rattle.emit.proofs.Laws.{written-nil, written-append}
+use Rattle.record.specs.Chain.{Chain}
 use Rattle.reading.proofs.PartingLaws.{All}
 use Rattle.chain.specs.declared.Role.{Role}
 use Rattle.chain.specs.declared.Role.the-variants.{Slot, Acyl, Base}
 use Rattle.chain.specs.Drawing.{carbonAtoms}
 use Rattle.chain.proofs.Lists.{all-right}
 use Rattle.atoms.proofs.NumberLaws.{carbon-atoms-shift}
+use Rattle.template.specs.declared.Class.{Class}
 use Rattle.template.specs.Request as request
-use Rattle.template.specs.Request.{headCarbons, indicesOf, allIndices, bySn}
+use Rattle.template.specs.Request.{headCarbons, indicesOf, allIndices, bySn, placed, indexOf}
 use Rattle.template.specs.Promise.{Each}
 use Rattle.template.proofs.Sorted.{all-sorted}
 use Rattle.placed.specs.declared.CxFragment.{CxFragment}
@@ -27,7 +29,7 @@ use Rattle.placed.specs.Sn.{fromSn}
 use Rattle.placed.proofs.Laws.{gathered-more}
 use Rattle.listing.specs.Index.{indexFrom, indexList, allIndexes}
 use Rattle.listing.proofs.OrderLaws.{take-places}
-use Rattle.listing.proofs.PlacedLaws.{each-all, noted-by-sn}
+use Rattle.listing.proofs.PlacedLaws.{each-all, sns-told, noted-by-sn}
 
 -- ---- a chain
 
@@ -116,3 +118,7 @@ pub indices-told : (s : Slots) (ps : List request.Placed) → Each (Told s) ps �
 unfolding allIndexes
 indices-told s ps h n =
     ap (λ (l : List Placed). gathered (indexesOf s) l) (noted-by-sn ps n) ∙ gathered-told s (bySn ps) (all-sorted (Told s) ps (each-all (Told s) ps h))
+
+pub placed-indices : (s : Slots) (c : Class) (t : List ℕ) (ds : List Chain) → Each (Told s) (placed c t ds) → allIndexes s (map noted (placed c t ds)) ≡ indexOf c t ds
+unfolding indexOf
+placed-indices s c t ds h = indices-told s (placed c t ds) h (sns-told c t ds)

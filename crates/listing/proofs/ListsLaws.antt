@@ -4,13 +4,15 @@ use Prim.Native.Nat.{ℕ, _+_, _≤_, _<_, min}
 use native.Mathlib.Numerals.{add-one}
 use native.Mathlib.Omega.{arith}
 use mathlib.Core.Path.{_≡_, refl, ap, ap₂, _∙_}
-use mathlib.Core.List.{List, [], _∷_, _++_, map, map-append}
+use mathlib.Core.List.{List, [], _∷_, map, map-append}
 use lib.ListN.{length, take, getD, length-map, length-append, length-take}
-use lib.Seq.{take-suc}
+use lib.Seq.{take-suc, take-all}
+use Rattle.record.specs.Chain.{Chain}
 use Rattle.reading.proofs.PartingLaws.{All}
 use Rattle.atoms.specs.Atoms.{Counts}
+use Rattle.template.specs.declared.Class.{Class}
 use Rattle.template.specs.Request as request
-use Rattle.template.specs.Request.{headCarbons, indicesOf, bySn}
+use Rattle.template.specs.Request.{headCarbons, placed, bySn}
 use Rattle.template.specs.Promise.{Each}
 use Rattle.template.proofs.Sorted.{all-sorted}
 use Rattle.placed.specs.declared.CxFragment.{CxFragment}
@@ -23,7 +25,8 @@ use Rattle.listing.specs.declared.Lists.{Lists}
 use Rattle.listing.specs.Index.{indexFrom, indexList}
 use Rattle.listing.specs.Lists.{noList, listOf, listOfChain, allLists, ListsAre, ListsHeld, ListsAdded}
 use Rattle.listing.proofs.FourLaws.{filled-held}
-use Rattle.listing.proofs.PlacedLaws.{each-all, noted-by-sn}
+use Rattle.listing.proofs.PlacedLaws.{each-all, sns-told, places-few, noted-by-sn}
+use Rattle.listing.proofs.OrderLaws.{from-few}
 use Rattle.listing.proofs.IndexLaws.{indices-of}
 
 -- what is counted are the listed chains, as far as there is room
@@ -77,3 +80,15 @@ pub lists-told : (s : Slots) (ps : List request.Placed) → Each (Told s) ps →
 unfolding allLists
 lists-told s ps h n =
     ap (λ (l : List Placed). map (listAt s) l) (noted-by-sn ps n) ∙ lists-same s (bySn ps) (all-sorted (Told s) ps (each-all (Told s) ps h))
+
+-- there is room for all of them
+pub lists-few : (s : Slots) (ps : List Placed) → length (allLists s ps) ≤ length ps
+unfolding allLists
+lists-few s ps = omega (arith, length-map (fromSn 1 4 ps) (listAt s), from-few 1 4 ps)
+
+pub placed-lists : (s : Slots) (c : Class) (t : List ℕ) (ds : List Chain) (r : Lists) → Each (Told s) (placed c t ds) → ListsAre (allLists s (map noted (placed c t ds))) r
+    → take (r .count) (r .items) ≡ map listOf (bySn (placed c t ds))
+placed-lists s c t ds r h a =
+    let few : length (allLists s (map noted (placed c t ds))) ≤ 4 =
+    omega (arith, lists-few s (map noted (placed c t ds)), length-map (placed c t ds) noted, places-few c t ds) in
+    lists-held a ∙ (take-all 4 (allLists s (map noted (placed c t ds))) few ∙ lists-told s (placed c t ds) h (sns-told c t ds))

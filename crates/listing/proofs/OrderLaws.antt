@@ -107,7 +107,7 @@ from-more p ps (suc m) k = go (eqb (p .sn) k) refl (from-more p ps m (suc k))
               rw (of-other k p ps other) (omega (arith, length-append (ofSn k ps) (fromSn (suc k) m (p ∷ ps)), length-append (ofSn k ps) (fromSn (suc k) m ps))),
         )
 
-from-few : (k m : ℕ) (ps : List Placed) → length (fromSn k m ps) ≤ length ps
+pub from-few : (k m : ℕ) (ps : List Placed) → length (fromSn k m ps) ≤ length ps
 from-few k m [] = rw (from-none m k) (omega arith)
 from-few k m (p ∷ ps) = omega (arith, from-more p ps m k .0, from-few k m ps)
 
@@ -120,7 +120,6 @@ four-sns ps = rw (append-nil (ofSn 4 ps)) refl
 pub in-order : (l : List Placed) (count : ℕ) (x a b c r : Rising) → length l ≡ 4 → NoChains x → ChainsAdded (ofSn 1 (take count l)) x a → ChainsAdded (ofSn 2 (take count l)) a b
     → ChainsAdded (ofSn 3 (take count l)) b c → ChainsAdded (ofSn 4 (take count l)) c r → InOrder (fromSn 1 4 (take count l)) r
 in-order l count x a b c r k o u v w z =
-    let ps : List Placed = take count l in
     let s : ChainsAdded (ofSn 1 (take count l) ++ (ofSn 2 (take count l) ++ (ofSn 3 (take count l) ++ ofSn 4 (take count l)))) x r =
     added-then nowhere (ofSn 1 (take count l)) (ofSn 2 (take count l) ++ (ofSn 3 (take count l) ++ ofSn 4 (take count l))) u
     (added-then nowhere (ofSn 2 (take count l)) (ofSn 3 (take count l) ++ ofSn 4 (take count l)) v

@@ -7,8 +7,10 @@ use mathlib.Core.Bool.{true}
 use mathlib.Core.Option.{Option}
 use mathlib.Core.List.{List, [], _∷_, _++_, map, map-append}
 use lib.Dec.{ltb}
-use lib.ListN.{length, take, getD}
+use lib.ListN.{length, take, getD, length-append, length-map}
+use lib.Seq.{take-all}
 use borrow.Author.Tests.{lt-ltb}
+use Rattle.record.specs.Chain.{Chain}
 use Rattle.reading.specs.Molecule.{At, at, notesOf}
 use Rattle.reading.specs.Line.{below}
 use Rattle.reading.proofs.PartingLaws.{All, and-left, and-right, and-both}
@@ -16,8 +18,9 @@ use Rattle.chain.specs.declared.Role.{Role}
 use Rattle.chain.specs.declared.Role.the-variants.{Slot, Acyl, Base}
 use Rattle.shown.specs.declared.Site.{Site}
 use Rattle.shown.specs.Notes.{labelsOf, Digits}
+use Rattle.template.specs.declared.Class.{Class}
 use Rattle.template.specs.Request as request
-use Rattle.template.specs.Request.{siteOf, bySn, siteNote, snSites}
+use Rattle.template.specs.Request.{siteOf, placed, bySn, siteNote, snSites}
 use Rattle.template.specs.Promise.{Each}
 use Rattle.template.proofs.Sorted.{all-sorted}
 use Rattle.placed.specs.declared.Placed.{Placed}
@@ -27,8 +30,8 @@ use Rattle.placed.proofs.Laws.{gathered-more}
 use Rattle.listing.specs.declared.Sites.{Sites}
 use Rattle.listing.specs.Sites.{noSite, siteIn, siteList, allSiteList, SitesAre, SitesHeld, SitesAdded}
 use Rattle.listing.proofs.FourLaws.{added-none, filled-held}
-use Rattle.listing.proofs.OrderLaws.{all-from}
-use Rattle.listing.proofs.PlacedLaws.{each-all, Sited, noted-by-sn}
+use Rattle.listing.proofs.OrderLaws.{all-from, from-few}
+use Rattle.listing.proofs.PlacedLaws.{each-all, Sited, sns-told, places-few, sites-placed, noted-by-sn}
 
 -- what is counted are the sites, as far as there is room
 pub sites-held : {l : List Site} {r : Sites} → SitesAre l r → take (r .count) (r .items) ≡ take 4 l
@@ -130,3 +133,32 @@ unfolding allSiteList
 sites-told ps h g =
     ap (λ (l : List Placed). labelsOf (gathered siteList l)) (noted-by-sn ps h)
     ∙ labels-gathered (bySn ps) (all-sorted Sited ps (each-all Sited ps g))
+
+-- ---- the sites of a request
+
+site-one : (p : Placed) → length (siteList p) ≤ 1
+unfolding siteList
+site-one p = go (p .role)
+  where
+    go : (r : Role) → length (siteIn r (record { sn = p .sn; atom = p .site })) ≤ 1
+    go Slot = omega arith
+    go Acyl = omega arith
+    go Base = omega arith
+
+gathered-few : (ps : List Placed) → length (gathered siteList ps) ≤ length ps
+unfolding gathered
+gathered-few [] = omega arith
+gathered-few (p ∷ ps) = omega (arith, length-append (siteList p) (gathered siteList ps), site-one p, gathered-few ps)
+
+-- there is room for all of them
+pub sites-few : (ps : List Placed) → length (allSiteList ps) ≤ length ps
+unfolding allSiteList
+sites-few ps = omega (arith, gathered-few (fromSn 1 4 ps), from-few 1 4 ps)
+
+pub placed-sites : (c : Class) (t : List ℕ) (ds : List Chain) (r : Sites) → SitesAre (allSiteList (map noted (placed c t ds))) r
+    → labelsOf (take (r .count) (r .items)) ≡ snSites (bySn (placed c t ds))
+placed-sites c t ds r s =
+    let few : length (allSiteList (map noted (placed c t ds))) ≤ 4 =
+    omega (arith, sites-few (map noted (placed c t ds)), length-map (placed c t ds) noted, places-few c t ds) in
+    ap labelsOf (sites-held s ∙ take-all 4 (allSiteList (map noted (placed c t ds))) few)
+    ∙ sites-told (placed c t ds) (sns-told c t ds) (sites-placed c t ds)

@@ -1,7 +1,6 @@
 -- The listed chains, by numbers alone. Assumes nothing.
-use Prim.Native.Nat.{ℕ}
 use mathlib.Core.Path.{_≡_}
-use mathlib.Core.List.{List, [], _∷_, map}
+use mathlib.Core.List.{List, [], map}
 use lib.ListN.{length, take}
 use Rattle.template.specs.Request as request
 use Rattle.template.specs.Request.{indicesOf}

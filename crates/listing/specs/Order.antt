@@ -1,8 +1,8 @@
 -- The chains in their places by rising sn, in an array. Assumes nothing.
-use Prim.Native.Nat.{ℕ, _≤_}
+use Prim.Native.Nat.{_≤_}
 use mathlib.Core.Path.{_≡_}
 use mathlib.Core.List.{List, []}
-use lib.ListN.{length, take}
+use lib.ListN.{take}
 use Rattle.chain.specs.declared.Role.the-variants.{Slot}
 use Rattle.placed.specs.declared.Placed.{Placed}
 use Rattle.listing.specs.declared.Rising.{Rising}

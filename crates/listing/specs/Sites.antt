@@ -1,5 +1,4 @@
 -- The sn sites of chains in their places, by numbers alone. Assumes nothing.
-use Prim.Native.Nat.{ℕ}
 use mathlib.Core.Path.{_≡_}
 use mathlib.Core.List.{List, [], _∷_}
 use lib.ListN.{length, take}

@@ -1,4 +1,3 @@
-use borrow.Author.Needs.{needs}
 use Rattle.listing.proofs.FourLaws.{filled-none}
 use Rattle.listing.specs.Lists.{noList}
 use Rattle.listing.proofs.Lists.new.Statement.{statement}

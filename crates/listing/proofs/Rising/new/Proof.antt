@@ -1,4 +1,3 @@
-use borrow.Author.Needs.{needs}
 use Rattle.listing.proofs.FourLaws.{filled-none}
 use Rattle.listing.specs.Order.{nowhere}
 use Rattle.listing.proofs.Rising.new.Statement.{statement}

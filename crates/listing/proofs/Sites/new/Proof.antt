@@ -1,4 +1,3 @@
-use borrow.Author.Needs.{needs}
 use Rattle.listing.proofs.FourLaws.{filled-none}
 use Rattle.listing.specs.Sites.{noSite}
 use Rattle.listing.proofs.Sites.new.Statement.{statement}
