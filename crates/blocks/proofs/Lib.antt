@@ -1,1 +1,4 @@
 pub mod Blocks
+pub mod Sites
+pub mod Notes
+pub mod Told

@@ -2,7 +2,7 @@
 -- and how some of their blocks are written after others. Assumes nothing.
 use Prim.Native.Nat.{ℕ, _+_, _≤_, min}
 use mathlib.Core.Path.{_≡_}
-use mathlib.Core.Bool.{Bool, cond}
+use mathlib.Core.Bool.{Bool, true, cond}
 use mathlib.Core.List.{List, map}
 use lib.ListN.{length, take, drop}
 use Rattle.emit.specs.Text.{Written}
@@ -36,18 +36,26 @@ atomAt n i = min (inRoom n + i) 65535
 unfoldable pub carbonsFrom : ChainAtoms → ℕ → List ℕ
 carbonsFrom own n = map (atomAt n) (take (own .count) (own .carbons))
 
+-- an array has these atoms
+pub record CarbonsAre (own : ChainAtoms) (n : ℕ) (l : List ℕ) : Type 0 where
+  pub size : length l ≡ 256
+  pub are : take (own .count) l ≡ carbonsFrom own n
+
 -- "sites are all drawn carbons but acyl C1": how many carbons lead that are no sites
 abbrev pub skipped : Bool → ℕ
 skipped acyl = cond acyl 1 0
 
-unfoldable pub sitesOf : CxFragment → ℕ → List ℕ
+unfoldable pub sitesFrom : CxFragment → ℕ → List ℕ
 unfolding carbonsFrom
-sitesOf x n = drop (skipped (x .chain .acyl)) (carbonsFrom (x .atoms) n)
+sitesFrom x n = drop (skipped (x .chain .acyl)) (carbonsFrom (x .atoms) n)
 
 -- a site list at each floating atom
-unfoldable pub siteListsOf : CxFragment → Placed → List (At (List ℕ))
-unfolding sitesOf
-siteListsOf x p = siteLists (sitesOf x (p .first)) (inRoom (p .first) + x .atoms .floats) (branches (groupsIn (x .chain .floats)))
+unfoldable pub siteListsFrom : CxFragment → ℕ → List (At (List ℕ))
+unfolding sitesFrom
+siteListsFrom x n = siteLists (sitesFrom x n) (inRoom n + x .atoms .floats) (branches (groupsIn (x .chain .floats)))
+
+abbrev pub siteListsOf : CxFragment → Placed → List (At (List ℕ))
+siteListsOf x p = siteListsFrom x (p .first)
 
 -- ---- the chains of a line
 
@@ -56,7 +64,7 @@ unfolding gathered marksOf
 marksIn s ps = gathered (λ p. marksOf (fragmentAt s (p .sn)) p) ps
 
 unfoldable pub siteListsIn : Slots → List Placed → List (At (List ℕ))
-unfolding gathered siteListsOf
+unfolding gathered siteListsFrom
 siteListsIn s ps = gathered (λ p. siteListsOf (fragmentAt s (p .sn)) p) ps
 
 unfoldable pub sumsIn : Slots → List Placed → List Sum
@@ -69,6 +77,10 @@ sumsIn s ps = gathered (λ p. sumsOf (fragmentAt s (p .sn)) p) ps
 pub record Put (opening sep : List ℕ) (bs : List (List ℕ)) (xs : List ℕ) (a : Next) (ys : List ℕ) (b : Next) : Type 0 where
   pub text : Written xs (a .at) (shown opening sep (a .first) bs) ys (b .at)
   pub first : b .first ≡ stillFirst (a .first) bs
+
+-- a place before which there is nothing
+abbrev pub startAt : ℕ → Next
+startAt at = record { at = at; first = true }
 
 abbrev pub PutBlocks : List (List ℕ) → List ℕ → Next → List ℕ → Next → Type 0
 PutBlocks bs xs a ys b = Put (ascii " |") (ascii ",") bs xs a ys b

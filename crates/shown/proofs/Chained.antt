@@ -108,7 +108,7 @@ abbrev pub afterSwap : List (At ℕ) → Bool
 afterSwap labels = stillFirst true (swapTexts labels)
 
 -- sums stand only with marks, and `swappable` only with labels
-trailer-needs : (labels marks : List (At ℕ)) (sites : List (At (List ℕ))) (ss : List Sum) → (marks ≡ [] → ss ≡ []) → stillFirst true (blockTexts labels marks sites) ≡ true
+pub trailer-needs : (labels marks : List (At ℕ)) (sites : List (At (List ℕ))) (ss : List Sum) → (marks ≡ [] → ss ≡ []) → stillFirst true (blockTexts labels marks sites) ≡ true
     → trailerTexts labels ss ≡ []
 unfolding stillFirst blockTexts trailerTexts labelBlocks swapTexts
 trailer-needs [] [] sites ss h e = rw (h refl)
