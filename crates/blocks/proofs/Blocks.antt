@@ -1,10 +1,10 @@
 -- Laws of the blocks and the trailer, chain by chain. Assumes nothing.
-use Prim.Native.Nat.{ℕ, zero, suc, _+_, _*_, _≤_, _<_, _^_, min}
+use Prim.Native.Nat.{ℕ, _+_, _≤_, _<_, _^_, min}
 use native.Mathlib.Omega.{arith}
 use native.Mathlib.Decide.{decLe}
 use mathlib.Core.Path.{_≡_, refl, sym, ap, _∙_}
-use mathlib.Core.Bool.{Bool, true, false, cond}
-use mathlib.Core.List.{List, [], _∷_, _++_, map, map-append}
+use mathlib.Core.Bool.{Bool, false, cond}
+use mathlib.Core.List.{List, [], _++_, map, map-append}
 use lib.Dec.{eqb}
 use lib.ListN.{length, take, getD}
 use lib.Seq.{take-all}
@@ -12,7 +12,6 @@ use borrow.Author.Tests.{eq-eqb, ne-eqb}
 use Rattle.emit.specs.Text.{Written}
 use Rattle.emit.proofs.Laws.{written-length}
 use Rattle.reading.specs.Ascii.{ascii}
-use Rattle.reading.specs.Molecule.{At, Sum}
 use Rattle.reading.specs.Show.{showMark, showSites, showSum}
 use Rattle.chain.specs.Drawing.{markList}
 use Rattle.shown.specs.Chained.{shown, stillFirst}

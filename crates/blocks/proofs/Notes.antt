@@ -1,25 +1,25 @@
 -- Laws of what a line has after its text. Assumes nothing.
-use Prim.Native.Nat.{ℕ, zero, suc, _+_, _≤_, _<_, _^_}
+use Prim.Native.Nat.{ℕ, _+_, _≤_, _<_, _^_}
 use native.Mathlib.Omega.{arith}
 use mathlib.Core.Path.{_≡_, refl, sym, ap, _∙_}
 use mathlib.Core.Bool.{Bool, true, false, cond, not, _&&_}
-use mathlib.Core.List.{List, [], _∷_, _++_, map, append-assoc}
+use mathlib.Core.List.{List, [], _++_, map, append-assoc}
 use lib.Dec.{eqb, ltb}
 use lib.ListN.{length, take, length-map}
 use lib.Seq.{length-take-le}
 use borrow.Author.Tests.{lt-ltb, le-ltb}
 use Rattle.emit.specs.Text.{Written}
-use Rattle.emit.proofs.Laws.{written-append, written-length}
+use Rattle.emit.proofs.Laws.{written-append}
 use Rattle.reading.specs.Molecule.{At, at, Sum, notesOf}
 use Rattle.reading.specs.Line.{below}
 use Rattle.reading.specs.Show.{showMark, showSites, showSum, labelBlocks, swapTexts, blockTexts, trailerTexts, showLine}
 use Rattle.template.specs.Request.{labels}
 use Rattle.shown.specs.declared.Site.{Site}
-use Rattle.shown.specs.Chained.{shownBlocks, shownParts, stillFirst, blocksEnd}
+use Rattle.shown.specs.Chained.{shownBlocks, shownParts, blocksEnd}
 use Rattle.shown.specs.Notes.{labelsOf, Digits}
 use Rattle.shown.proofs.Chained.{blocks-shown, trailer-needs, still-labels, still-swaps}
 use Rattle.blocks.specs.declared.Next.{Next}
-use Rattle.blocks.specs.Blocks.{startAt, Put, PutBlocks, PutParts}
+use Rattle.blocks.specs.Blocks.{startAt, PutBlocks, PutParts}
 use Rattle.blocks.specs.Notes.{barred, notesText, labelledOf}
 use Rattle.blocks.proofs.Blocks.{put-then, put-length}
 

@@ -4,9 +4,9 @@ use native.Mathlib.Numerals.{add-one}
 use native.Mathlib.Omega.{arith}
 use native.Mathlib.Decide.{decLe}
 use mathlib.Core.Path.{_≡_, refl, sym, ap, _∙_}
-use mathlib.Core.Bool.{Bool, true, false, cond}
+use mathlib.Core.Bool.{Bool, true, false}
 use mathlib.Core.List.{List, [], _∷_, _++_, map, map-append}
-use lib.ListN.{length, take, drop, getD, set, length-set}
+use lib.ListN.{length, take, drop, getD, set}
 use lib.Seq.{take-suc, take-suc-set, take-all, take-nil}
 use Rattle.emit.specs.Text.{Written}
 use Rattle.record.specs.declared.Mod.{Mod}
@@ -19,13 +19,12 @@ use Rattle.chain.specs.Drawing.{branchPart, branches, siteLists}
 use Rattle.drawable.specs.Drawn.{Length, groupRoom, noGroup, groupsIn}
 use Rattle.atoms.specs.declared.ChainAtoms.{ChainAtoms}
 use Rattle.atoms.specs.Atoms.{Counts}
-use Rattle.shown.specs.Chained.{shown, stillFirst}
+use Rattle.shown.specs.Chained.{shown}
 use Rattle.shown.proofs.Chained.{still-one}
 use Rattle.placed.specs.declared.CxFragment.{CxFragment}
-use Rattle.placed.specs.declared.Placed.{Placed}
 use Rattle.placed.specs.Fragment.{inRoom}
 use Rattle.blocks.specs.declared.Next.{Next}
-use Rattle.blocks.specs.Blocks.{atomAt, carbonsFrom, CarbonsAre, skipped, sitesFrom, siteListsFrom, siteListsOf, Put, PutBlocks}
+use Rattle.blocks.specs.Blocks.{atomAt, carbonsFrom, CarbonsAre, skipped, sitesFrom, siteListsFrom, PutBlocks}
 use Rattle.blocks.proofs.Blocks.{put-none, put-then}
 
 -- ---- the floating atoms

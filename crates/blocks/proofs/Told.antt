@@ -1,16 +1,13 @@
 -- What is noted of the chains by numbers is what their drawings say. Assumes nothing.
-use Prim.Native.Nat.{ℕ, zero, suc, _+_, _-_, _≤_, min}
+use Prim.Native.Nat.{ℕ, zero, suc, _+_, _-_, _≤_}
 use native.Mathlib.Omega.{arith}
-use mathlib.Core.Path.{_≡_, refl, sym, ap, ap₂, _∙_}
+use mathlib.Core.Path.{_≡_, refl, sym, ap₂, _∙_}
 use mathlib.Core.List.{List, [], _∷_, _++_, map}
-use lib.ListN.{take, drop}
 use Rattle.reading.specs.Molecule.{At, Sum}
-use Rattle.reading.specs.Chain.{chainEnd}
 use Rattle.chain.specs.Lists.{valuesFrom}
 use Rattle.chain.specs.Features.{siteSkip, remaining}
-use Rattle.chain.specs.Drawing.{markList, siteLists, siteAtoms, carbonAtoms, branches}
+use Rattle.chain.specs.Drawing.{markList, siteAtoms, carbonAtoms}
 use Rattle.chain.specs.Drawing as draw
-use Rattle.drawable.specs.Drawn.{groupsIn}
 use Rattle.atoms.proofs.NumberLaws.{carbon-atoms-shift, flexible-atom-shift, chain-end-shift}
 use Rattle.template.specs.Request as request
 use Rattle.template.specs.Request.{headCarbons, indicesOf, allMarks, allSites, allSums}

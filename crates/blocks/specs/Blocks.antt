@@ -1,6 +1,6 @@
 -- What is noted of the chains of a line, by the numbers that are kept of them: their marks, site lists and sums, in the order of the text;
 -- and how some of their blocks are written after others. Assumes nothing.
-use Prim.Native.Nat.{ℕ, _+_, _≤_, min}
+use Prim.Native.Nat.{ℕ, _+_, min}
 use mathlib.Core.Path.{_≡_}
 use mathlib.Core.Bool.{Bool, true, cond}
 use mathlib.Core.List.{List, map}

@@ -3,7 +3,7 @@ use native.Mathlib.Omega.{arith}
 use Prim.Native.Nat.{_-_, _≤_}
 use mathlib.Core.Path.{_≡_, refl}
 use mathlib.Core.List.{map}
-use lib.ListN.{length, take, length-set}
+use lib.ListN.{length, take}
 use Rattle.blocks.specs.Blocks.{atomAt}
 use Rattle.blocks.proofs.Sites.{carbon-next, carbons-all}
 use Rattle.blocks.proofs.carbon_atoms.Statement.{statement}

@@ -1,4 +1,3 @@
-use borrow.Author.Needs.{needs}
 use Rattle.blocks.proofs.Blocks.{first-none, first-some}
 use Rattle.blocks.proofs.still_first.Statement.{statement}
 use Rattle.blocks.proofs.still_first.Tie as tie
