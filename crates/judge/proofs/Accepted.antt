@@ -4,7 +4,7 @@
 use Prim.Native.Nat.{ℕ, suc, _+_, _≤_, _<_}
 use native.Mathlib.Omega.{arith}
 use mathlib.Core.Path.{_≡_, refl, sym, ap, _∙_, subst}
-use mathlib.Core.Bool.{Bool, true, false, cond, false≢true}
+use mathlib.Core.Bool.{Bool, true, false, cond, not, false≢true}
 use mathlib.Core.Option.{Option, none, some}
 use mathlib.Core.List.{List, [], _∷_}
 use lib.ListN.{length, length-take}
@@ -15,7 +15,7 @@ use Rattle.record.proofs.Sound.{Every, Sound}
 use Rattle.token.specs.Request as token
 use Rattle.reading.specs.Lexer.{within}
 use Rattle.reading.proofs.ShowLex.{within-both}
-use Rattle.tail.specs.Grammar.{noRings, stands, opening, scan, isTail}
+use Rattle.tail.specs.Grammar.{noRings, stands, opening, scan, isTail, tailAtoms}
 use Rattle.tail.proofs.Alone.{TailPart, tail-alone}
 use Rattle.chain.specs.declared.Role.{Role}
 use Rattle.chain.specs.Refusals.{wrongKind, offChain, clashes, placeRefusal, groupOnCarbonyl, pinTooFar, tailTooShort, noSite, drawRefusal}
@@ -194,12 +194,12 @@ module _ (class t : List ℕ) (count : ℕ) (ss : List (List ℕ)) where
 -- ---- the tail
 
 tail-reads : (t : List ℕ) → isTail t ≡ true → TailReads t
-unfolding isTail
+unfolding isTail tailAtoms
 tail-reads t h =
     let p : TailPart t = tail-alone t h in
     record { part = p .part; is = p .is; few = go (within 1 255 (length t)) refl h }
   where
-    go : (b : Bool) → within 1 255 (length t) ≡ b → cond b (scan (stands opening [] noRings) t) false ≡ true → length t ≤ 255
+    go : (b : Bool) → within 1 255 (length t) ≡ b → not (eqb (cond b (scan (stands opening [] noRings) t) 0) 0) ≡ true → length t ≤ 255
     go true e k = within-both 1 255 (length t) e .1
     go false e k = absurd (false≢true k)
 
