@@ -5,3 +5,4 @@ pub mod Small
 pub mod Classes
 pub mod Fits
 pub mod Carried
+pub mod Line

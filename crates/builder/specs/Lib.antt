@@ -1,2 +1,3 @@
 pub mod Build
 pub mod Classes
+pub mod Line

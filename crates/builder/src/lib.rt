@@ -6,8 +6,11 @@ use drawable::Drawn;
 use placed::CxFragment;
 use placed::MAX_CHAINS;
 use placed::Placed;
+use placed::Slots;
+use template::Class;
 ghost use mathlib.Core.Path.{_≡_};
 ghost use Rattle.builder.specs.Build.{plus, inLabels, variablesFor, RingCount, Fresh, FixedPushed, FragmentPushed, Noted, ChainPushed, SlotPushed, BarePushed};
+ghost use Rattle.builder.specs.Line.{Finished, LineBuilt};
 
 // smiles.rt: the templates of the classes
 pub mod smiles;
@@ -208,4 +211,31 @@ impl Builder {
         let a = self.atoms;
         self.push_chain(out, x, sn, role, a.0)
     }
+    // What follows the text: the labels, marks and site lists, what may be exchanged, and the sums.
+    pub fn finish(mut self, out: &mut [u8], swap: bool, s: Slots) -> Builder
+        ensures { λ r. ⌜ Finished swap s (now (out .entry)) self (now (out .exit)) r ⌝ }
+    {
+        let placed = self.placed;
+        let count = self.count;
+        let sites = listing::sites_by_sn(placed, count);
+        let items = sites.items;
+        let at = blocks::put_notes(out, self.at, swap, items, sites.count, s, placed, count);
+        self.at = at;
+        self
+    }
+}
+
+// The line of a class, with the chains by sn.
+pub fn build_line(
+    out: &mut [u8],
+    class: Class,
+    swap: bool,
+    tail: &[u8],
+    tail_atoms: u16,
+    s: Slots,
+) -> Builder
+    ensures { λ r. ⌜ LineBuilt class swap (now (tail .entry)) «tail_atoms» s (now (out .entry)) (now (out .exit)) r ⌝ }
+{
+    let b = smiles::class_smiles(out, class, tail, tail_atoms, s);
+    b.finish(out, swap, s)
 }

@@ -34,7 +34,17 @@ same-length : tie.Need-same-length
 same-length c = search needs
 
 returns : tie.Need-returns
-returns c = search fragment-pushed
+returns c =
+    let counted = c .before .before .before .before in
+    let written = counted .before .before .before .before .before in
+    fragment-pushed
+    (written .before .in-labels .ensures)
+    (written .build-chain-segment .ensures)
+    (counted .plus .ensures)
+    (c .before .before .before .variables-for .ensures)
+    (c .before .before .plus2 .ensures)
+    (c .before .ring-count .ensures)
+    (c .plus3 .ensures)
 
 pub push-fragment-spec : {M : Type 1} → statement M
 push-fragment-spec =
