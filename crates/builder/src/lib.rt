@@ -211,6 +211,7 @@ impl Builder {
         let a = self.atoms;
         self.push_chain(out, x, sn, role, a.0)
     }
+
     // What follows the text: the labels, marks and site lists, what may be exchanged, and the sums.
     pub fn finish(mut self, out: &mut [u8], swap: bool, s: Slots) -> Builder
         ensures { λ r. ⌜ Finished swap s (now (out .entry)) self (now (out .exit)) r ⌝ }
