@@ -1,0 +1,88 @@
+-- The call: what is answered to a request that was judged, and the promise that is kept where it is accepted.
+-- Assumes nothing.
+use Prim.Native.Nat.{ℕ, zero, suc, _+_, _≤_, _<_}
+use native.Mathlib.Omega.{arith}
+use mathlib.Core.Path.{_≡_, refl, sym, ap, _∙_, subst}
+use mathlib.Core.Bool.{Bool, true, false, cond, not, false≢true}
+use mathlib.Core.List.{List, [], _∷_, _++_}
+use lib.ListN.{length, take, drop}
+use borrow.Author.Tests.{not-false}
+use Rattle.record.specs.Chain.{Chain}
+use Rattle.tail.specs.Grammar.{isTail, tailAtoms}
+use Rattle.template.specs.declared.Class.{Class}
+use Rattle.template.specs.Template.{hasTail}
+use Rattle.template.specs.Request.{lineOf, indexOf}
+use Rattle.template.proofs.Theorem.{promise}
+use Rattle.placed.specs.declared.Slots.{Slots}
+use Rattle.judge.specs.declared.Judged.{Judged}
+use Rattle.judge.specs.Judged.{JudgedIs}
+use Rattle.judge.specs.Verdict.{Verdict, Refused, Drawable, wrongTail, verdict, tokens}
+use Rattle.judge.proofs.Accepted.{judged-accepted, judged-fits, answer-drawable, answer-refused}
+use Rattle.forward.specs.declared.Answer.{Answer}
+use Rattle.forward.specs.Answer.{refusal, acceptance, short, answerTo, atStart, lineAfter, indexAfter}
+use Rattle.forward.specs.Call.{Answers, Kept, Called}
+use Rattle.forward.specs.Slots.{SlotsOf, SlotsDrawn}
+use Rattle.forward.proofs.Ready.{ready}
+
+-- ---- refused
+
+pub called-refused : {v : Verdict} {swap : Bool} {t xs is : List ℕ} {a : Answer} (j : Judged) → JudgedIs j v → (j .fault .number ≡ 0 → ⊥) → a ≡ refusal (j .fault .number) (j .fault .place)
+    → Called v swap t xs is xs is a
+called-refused {v} {swap} {t} {xs} {is} {a} j h n e =
+    let w : v ≡ Refused (j .fault .number) (j .fault .place) = answer-refused j v h n in
+    record {
+      answers = rw w (record { answer = e; line = refl; index = refl });
+      kept = λ z. absurd (n (sym (ap (λ (x : Answer). x .number) e) ∙ z));
+    }
+
+-- ---- accepted
+
+start-taken : (text xs : List ℕ) → take (length text) (atStart text xs) ≡ text
+unfolding atStart
+start-taken text xs = go text (drop (length text) xs)
+  where
+    go : (l r : List ℕ) → take (length l) (l ++ r) ≡ l
+    go [] r = refl
+    go (x ∷ l) r = ap (λ (z : List ℕ). x ∷ z) (go l r)
+
+-- what is accepted is not short of room
+number-of : (b : Bool) (c : Class) (swap : Bool) (t : List ℕ) (ds : List Chain) → cond b (refusal 41 0) (acceptance c swap t ds) .number ≡ 0 → b ≡ false
+unfolding acceptance
+number-of true c swap t ds e = absurd (omega (arith, e))
+number-of false c swap t ds e = refl
+
+module _ (class t : List ℕ) (count : ℕ) (sn1 sn2 sn3 sn4 : List ℕ) where
+  abbrev v : Verdict
+  v = verdict class t count (tokens count sn1 sn2 sn3 sn4)
+
+  kept-by : (c : Class) (ds : List Chain) (swap : Bool) (xs is ys js : List ℕ) (a : Answer) → v ≡ Drawable c ds → Answers (Drawable c ds) swap t xs is ys js a → a .number ≡ 0
+      → Kept v swap t ys js a
+  unfolding acceptance
+  kept-by c ds swap xs is ys js a e h z =
+      let room : short c swap t ds (length xs) (length is) ≡ false = number-of (short c swap t ds (length xs) (length is)) c swap t ds (sym (ap (λ (x : Answer). x .number) (h .answer)) ∙ z) in
+      let long : a .length ≡ length (lineOf c swap t ds) = ap (λ (x : Answer). x .length) (rw room at (h .answer)) in
+      let line : ys ≡ atStart (lineOf c swap t ds) xs = rw room at (h .line) in
+      let index : js ≡ atStart (indexOf c t ds) is = rw room at (h .index) in
+      record {
+        class = c;
+        chains = ds;
+        judged = e;
+        line = rw (long, line) (start-taken (lineOf c swap t ds) xs);
+        lists = rw index (start-taken (indexOf c t ds) is);
+        promise = promise c swap t ds (judged-accepted class t count sn1 sn2 sn3 sn4 c ds e);
+      }
+
+  right-tail : (c : Class) (ds : List Chain) → v ≡ Drawable c ds → hasTail c ≡ true → isTail t ≡ true
+  unfolding wrongTail
+  right-tail c ds e q = not-false (isTail t) (rw q at (judged-fits class t count (tokens count sn1 sn2 sn3 sn4) c ds e .tail))
+
+  pub called-drawn : {swap : Bool} {k : ℕ} {s : Slots} {xs is ys js : List ℕ} {a : Answer} (j : Judged) → JudgedIs j v → j .fault .number ≡ 0 → SlotsOf (j .chains) s → k ≡ tailAtoms t
+      → SlotsDrawn (j .class) swap t k s xs is ys js a → Called v swap t xs is ys js a
+  called-drawn {swap} {k} {s} {xs} {is} {ys} {js} {a} j h n o e g =
+      let d = answer-drawable j v h n in
+      let r = ready (j .class) t (d .chains) k (j .chains) s (judged-accepted class t count sn1 sn2 sn3 sn4 (j .class) (d .chains) (d .is)) (right-tail (j .class) (d .chains) (d .is)) (d .drawing) o e in
+      let w : Answers (Drawable (j .class) (d .chains)) swap t xs is ys js a = g .drawn (d .chains) r in
+      record {
+        answers = rw (d .is) w;
+        kept = kept-by (j .class) (d .chains) swap xs is ys js a (d .is) w;
+      }

@@ -1,0 +1,228 @@
+-- Laws of the call's parts: no chain, a chain of the request, the measuring, and what is answered.
+-- Assumes nothing.
+use Prim.Native.Nat.{ℕ, zero, suc, _+_, _*_, _≤_, _<_, _^_, min}
+use native.Mathlib.Nat.{zero-add}
+use native.Mathlib.Omega.{arith}
+use mathlib.Core.Path.{_≡_, refl, sym, ap, ap₂, _∙_, subst}
+use mathlib.Core.Bool.{Bool, true, false, cond, _||_}
+use mathlib.Core.List.{List, [], _∷_, _++_, map}
+use lib.ListN.{length, take, drop, getD, length-take, length-map}
+use lib.Seq.{getD-take, sets-eq, take-all}
+use lib.Dec.{ltb}
+use borrow.Author.Tests.{lt-ltb, le-ltb}
+use Rattle.emit.specs.Text.{Written, after}
+use Rattle.record.specs.declared.ChainPrefix.{ChainPrefix}
+use Rattle.record.specs.declared.ParsedChain.{ParsedChain}
+use Rattle.record.specs.Chain.{Chain, Holds, noFeatures}
+use Rattle.reading.specs.Molecule.{At, at}
+use Rattle.chain.specs.declared.Role.{Role}
+use Rattle.drawable.specs.declared.Drawn.{Drawn}
+use Rattle.drawable.specs.Drawn.{Draws, chainOf}
+use Rattle.shown.specs.declared.Site.{Site}
+use Rattle.shown.specs.Notes.{labelsOf}
+use Rattle.template.specs.declared.Class.{Class}
+use Rattle.template.specs.Request.{placed, bySn, snSites, lineOf, indexOf}
+use Rattle.placed.specs.declared.CxFragment.{CxFragment}
+use Rattle.placed.specs.declared.Placed.{Placed}
+use Rattle.placed.specs.declared.Slots.{Slots}
+use Rattle.placed.specs.Fragment.{FragmentOf, Told, noted}
+use Rattle.listing.specs.declared.Listed.{Listed}
+use Rattle.listing.specs.declared.Lists.{Lists}
+use Rattle.listing.specs.declared.Sites.{Sites}
+use Rattle.listing.specs.Four.{four}
+use Rattle.listing.specs.Index.{allIndexes}
+use Rattle.listing.specs.Lists.{noList, listOf, allLists, ListsAre}
+use Rattle.listing.specs.Sites.{noSite, allSiteList, SitesAre}
+use Rattle.listing.proofs.PlacedLaws.{sns-told, places-few, sites-placed}
+use Rattle.listing.proofs.IndexLaws.{placed-indices}
+use Rattle.listing.proofs.ListsLaws.{lists-told, lists-few}
+use Rattle.listing.proofs.SitesLaws.{sites-told, sites-few}
+use Rattle.builder.specs.declared.Builder.{Builder}
+use Rattle.builder.specs.Build.{placedIn}
+use Rattle.builder.specs.Line.{LineBuilt}
+use Rattle.judge.specs.declared.Chains.{Chains}
+use Rattle.judge.specs.Judged.{drawnIn}
+use Rattle.judge.specs.Verdict.{Drawable}
+use Rattle.forward.specs.declared.Answer.{Answer}
+use Rattle.forward.specs.Answer.{listsOf, sitesOf, refusal, siteOf, acceptance, short, atStart}
+use Rattle.forward.specs.Call.{Answers}
+use Rattle.forward.specs.Slots.{FragmentIs, SlotsOf, Ready, Measured, IndexMeasured, SlotsWritten, SlotsDrawn}
+
+-- ---- a refusal
+
+pub refused-is : (n p : ℕ) (l : Lists) (s : Sites) → l ≡ listsOf [] → s ≡ sitesOf []
+    → record { number = n; token = p; length = 0; lists = l; sites = s } ≡ refusal n p
+refused-is n p l s e f = rw (e, f)
+
+-- ---- a chain
+
+pub none-is : {p : ParsedChain} {prefix : ChainPrefix} {w : ℕ} {b : Bool} {r : Role} {x : Drawn} {f : CxFragment} → Holds p (noFeatures prefix w 0 b) → Draws r (chainOf p) x → FragmentOf x f
+    → f .chain .carbon ≡ 0
+unfolding chainOf
+none-is h d f = ap (λ (z : Drawn). z .carbon) (f .chain) ∙ (d .carbon ∙ h .carbon)
+
+drawn-few : (x : Chains) → length (drawnIn x) ≡ min (x .count) (length (x .items))
+unfolding drawnIn
+drawn-few x = length-take (x .count) (x .items)
+
+-- no such chain
+pub fragment-none : {x : Chains} {i : ℕ} {f : CxFragment} → length (x .items) ≡ 4 → 4 ≤ i → f .chain .carbon ≡ 0 → FragmentIs x i f
+fragment-none {x} m h e = record { chain = λ z l. absurd (omega (arith, drawn-few x)); none = λ l. e }
+
+pub fragment-past : {x : Chains} {i : ℕ} {f : CxFragment} → x .count ≤ i → f .chain .carbon ≡ 0 → FragmentIs x i f
+fragment-past {x} h e = record { chain = λ z l. absurd (omega (arith, drawn-few x)); none = λ l. e }
+
+pub fragment-of : {x : Chains} {i : ℕ} {f : CxFragment} (d : Drawn) → length (x .items) ≡ 4 → i < 4 → i < x .count → FragmentOf (getD (x .items) i d) f → FragmentIs x i f
+unfolding drawnIn
+fragment-of {x} {i} {f} d m h k g =
+    record {
+      chain = λ z l. rw (getD-take (x .count) (x .items) i z k, same z) g;
+      none = λ l. absurd (omega (arith, length-take (x .count) (x .items)));
+    }
+  where
+    same : (z : Drawn) → getD (x .items) i z ≡ getD (x .items) i d
+    same z = go (x .items) i (omega arith)
+      where
+        go : (l : List Drawn) (j : ℕ) → j < length l → getD l j z ≡ getD l j d
+        go [] j q = absurd (omega arith)
+        go (y ∷ l) zero q = refl
+        go (y ∷ l) (suc j) q = go l j (omega arith)
+
+-- ---- the measuring
+
+no-bytes : (l : List ℕ) → length l ≡ 0 → l ≡ []
+no-bytes [] h = refl
+no-bytes (x ∷ l) h = absurd (omega arith)
+
+pub measured : {c : Class} {swap : Bool} {t : List ℕ} {k : ℕ} {s : Slots} {xs ys : List ℕ} {b : Builder} → LineBuilt c swap t k s [] ys b → Measured c swap t k s xs (ys ++ xs) b
+measured {xs = xs} {ys} h =
+    record {
+      same = ap (λ (l : List ℕ). l ++ xs) (no-bytes ys (h .size));
+      length = λ ds r. h .line ds (r .tail) (r .stood) (r .fits) (r .told) .next;
+      placed = λ ds r. h .placed ds (r .tail) (r .stood) (r .fits) (r .told);
+    }
+
+pub index-measured : {s : Slots} {ps : List Placed} {xs ys : List ℕ} {n : ℕ} → length ys ≡ 0 → Written [] 0 (allIndexes s ps) ys n → IndexMeasured s ps xs (ys ++ xs) n
+index-measured {xs = xs} {ys} e w = record { same = ap (λ (l : List ℕ). l ++ xs) (no-bytes ys e); number = w .next }
+
+-- ---- what is answered
+
+-- a measured length is no more than the text has
+least : (n : ℕ) → after 0 n ≤ n
+least n = omega arith
+
+module _ (c : Class) (swap : Bool) (t : List ℕ) (ds : List Chain) where
+  short-by-line : (xs is : List ℕ) → length xs < length (lineOf c swap t ds) → short c swap t ds (length xs) (length is) ≡ true
+  unfolding short
+  short-by-line xs is h = rw (lt-ltb (length xs) (length (lineOf c swap t ds)) h)
+
+  short-by-index : (xs is : List ℕ) → length is < length (indexOf c t ds) → short c swap t ds (length xs) (length is) ≡ true
+  unfolding short
+  short-by-index xs is h = rw (lt-ltb (length is) (length (indexOf c t ds)) h) (either (ltb (length xs) (length (lineOf c swap t ds))))
+    where
+      either : (b : Bool) → (b || true) ≡ true
+      either true = refl
+      either false = refl
+
+  long-enough : (xs is : List ℕ) → length (lineOf c swap t ds) ≤ length xs → length (indexOf c t ds) ≤ length is → short c swap t ds (length xs) (length is) ≡ false
+  unfolding short
+  long-enough xs is h k = rw (le-ltb (length xs) (length (lineOf c swap t ds)) h, le-ltb (length is) (length (indexOf c t ds)) k)
+
+  -- 41: nothing is altered
+  pub short-answer : {xs is ys js : List ℕ} {a : Answer} → short c swap t ds (length xs) (length is) ≡ true → ys ≡ xs → js ≡ is → a ≡ refusal 41 0 → Answers (Drawable c ds) swap t xs is ys js a
+  short-answer e f g h = record { answer = h ∙ rw e; line = f ∙ rw e; index = g ∙ rw e }
+
+-- the indices of the chains that were measured are those of the request
+index-is : {c : Class} {swap : Bool} {t : List ℕ} {k : ℕ} {s : Slots} {xs ys : List ℕ} {b : Builder} (ds : List Chain) → Measured c swap t k s xs ys b → Ready c t k s ds
+    → allIndexes s (placedIn b) ≡ indexOf c t ds
+index-is {c} {t = t} {s = s} ds m r = ap (allIndexes s) (m .placed ds r) ∙ placed-indices s c t ds (r .told)
+
+module _ {c : Class} {swap : Bool} {t : List ℕ} {k : ℕ} {s : Slots} {xs is ys : List ℕ} {b : Builder} {a : Answer} where
+  pub line-short : Measured c swap t k s xs ys b → length ys < b .at → a ≡ refusal 41 0 → SlotsDrawn c swap t k s xs is ys is a
+  line-short m h e =
+      record {
+        drawn = λ ds r.
+            short-answer c swap t ds
+            (short-by-line c swap t ds xs is (omega (arith, ap (λ (l : List ℕ). length l) (m .same), m .length ds r, least (length (lineOf c swap t ds))))) (m .same) refl e;
+      }
+
+  pub index-short : {js : List ℕ} {n : ℕ} → Measured c swap t k s xs ys b → IndexMeasured s (take (b .count) (b .placed)) is js n → length js < n → a ≡ refusal 41 0 → SlotsDrawn c swap t k s xs is ys js a
+  unfolding placedIn
+  index-short m i h e =
+      record {
+        drawn = λ ds r.
+            short-answer c swap t ds
+            (short-by-index c swap t ds xs is
+            (omega (arith, ap (λ (l : List ℕ). length l) (i .same), i .number, ap (λ (l : List ℕ). length l) (index-is ds m r), least (length (indexOf c t ds))))) (m .same) (i .same) e;
+      }
+
+-- ---- the writing
+
+pub slots-written : {c : Class} {swap : Bool} {t : List ℕ} {k : ℕ} {s : Slots} {xs is ys js : List ℕ} {b last : Builder} {end : ℕ} {l : Lists} {z : Sites}
+    → LineBuilt c swap t k s xs ys last → Written is 0 (allIndexes s (take (b .count) (b .placed))) js end → ListsAre (allLists s (take (b .count) (b .placed))) l
+    → SitesAre (allSiteList (take (b .count) (b .placed))) z
+    → SlotsWritten c swap t k s xs is ys js b (record { number = 0; token = 0; length = b .at; lists = l; sites = z })
+unfolding placedIn
+slots-written {last = last} {end} h i l z = record { last = last; line = h; end = end; index = i; lists = l; sites = z; number = refl; token = refl; length = refl }
+
+-- a text that was written from the first place on, with room for all of it
+at-start : {xs ys ts : List ℕ} {p : ℕ} → Written xs 0 ts ys p → length ts ≤ length xs → ys ≡ atStart ts xs
+unfolding atStart
+at-start {xs} {ts = ts} w h = w .elements ∙ (rw (zero-add (length ts)) at (sets-eq ts xs 0 (omega (arith, h))))
+
+-- four places hold up to four
+four-lists : (l : List Listed) (r : Lists) → length l ≤ 4 → ListsAre l r → r ≡ listsOf l
+four-lists l r h a = ap₂ (λ (n : ℕ) (x : List Listed). record { count = n; items = x }) (a .count ∙ ap (λ (x : List Listed). length x) (take-all 4 l h)) (a .items)
+
+four-sites : (l : List Site) (r : Sites) → length l ≤ 4 → SitesAre l r → r ≡ sitesOf l
+four-sites l r h a = ap₂ (λ (n : ℕ) (x : List Site). record { count = n; items = x }) (a .count ∙ ap (λ (x : List Site). length x) (take-all 4 l h)) (a .items)
+
+-- a site and its label say the same
+site-labels : (l : List Site) → map siteOf (labelsOf l) ≡ l
+unfolding labelsOf
+site-labels [] = refl
+site-labels (x ∷ l) = ap (λ (r : List Site). x ∷ r) (site-labels l)
+
+module _ {c : Class} {t : List ℕ} {k : ℕ} {s : Slots} (ds : List Chain) (r : Ready c t k s ds) where
+  few : length (map noted (placed c t ds)) ≤ 4
+  few = omega (arith, length-map (placed c t ds) noted, places-few c t ds)
+
+  lists-are : (l : Lists) → ListsAre (allLists s (map noted (placed c t ds))) l → l ≡ listsOf (map listOf (bySn (placed c t ds)))
+  lists-are l h =
+      rw (← lists-told s (placed c t ds) (r .told) (sns-told c t ds))
+      (four-lists (allLists s (map noted (placed c t ds))) l (omega (arith, few, lists-few s (map noted (placed c t ds)))) h)
+
+  sites-are : (z : Sites) → SitesAre (allSiteList (map noted (placed c t ds))) z → z ≡ sitesOf (map siteOf (snSites (bySn (placed c t ds))))
+  sites-are z h =
+      rw (← sites-told (placed c t ds) (sns-told c t ds) (sites-placed c t ds), site-labels (allSiteList (map noted (placed c t ds))))
+      (four-sites (allSiteList (map noted (placed c t ds))) z (omega (arith, few, sites-few (map noted (placed c t ds)))) h)
+
+-- an answer, field by field
+answer-is : (a : Answer) (n : ℕ) (l : Lists) (z : Sites) → a .number ≡ 0 → a .token ≡ 0 → a .length ≡ n → a .lists ≡ l → a .sites ≡ z
+    → a ≡ record { number = 0; token = 0; length = n; lists = l; sites = z }
+answer-is a n l z e f g h i =
+    ap₂ {C = Answer} (λ x y. record { number = x; token = y; length = a .length; lists = a .lists; sites = a .sites }) e f ∙ rw (g, h, i) refl
+
+-- both slices have room
+module _ {c : Class} {swap : Bool} {t : List ℕ} {k : ℕ} {s : Slots} {xs is ys js zs ks : List ℕ} {b : Builder} {n : ℕ} {a : Answer} where
+  pub slots-drawn : length xs < 2 ^ 63 → length is < 2 ^ 63 → Measured c swap t k s xs ys b → IndexMeasured s (take (b .count) (b .placed)) is js n → b .at ≤ length ys → n ≤ length js
+      → SlotsWritten c swap t k s ys js zs ks b a → SlotsDrawn c swap t k s xs is zs ks a
+  unfolding placedIn acceptance
+  slots-drawn u v m i h g w =
+      record {
+        drawn = λ ds r.
+            let same : length ys ≡ length xs = ap (λ (l : List ℕ). length l) (m .same) in
+            let same′ : length js ≡ length is = ap (λ (l : List ℕ). length l) (i .same) in
+            let indices : allIndexes s (placedIn b) ≡ indexOf c t ds = index-is ds m r in
+            let at : b .at ≡ length (lineOf c swap t ds) = omega (arith, u, same, h, m .length ds r) in
+            let line : length (lineOf c swap t ds) ≤ length xs = omega (arith, same, at, h) in
+            let index : length (indexOf c t ds) ≤ length is = omega (arith, v, same′, g, i .number, ap (λ (l : List ℕ). length l) indices) in
+            let long = long-enough c swap t ds xs is line index in
+            let l : a .lists ≡ listsOf (map listOf (bySn (placed c t ds))) = lists-are ds r (a .lists) (rw (m .placed ds r) at (w .lists)) in
+            let z : a .sites ≡ sitesOf (map siteOf (snSites (bySn (placed c t ds)))) = sites-are ds r (a .sites) (rw (m .placed ds r) at (w .sites)) in
+            record {
+              answer = rw long (answer-is a (length (lineOf c swap t ds)) (listsOf (map listOf (bySn (placed c t ds)))) (sitesOf (map siteOf (snSites (bySn (placed c t ds))))) (w .number) (w .token) (w .length ∙ at) l z);
+              line = rw long (rw (m .same) at (at-start (w .line .line ds (r .tail) (r .stood) (r .fits) (r .told)) (omega (arith, same, line))));
+              index = rw long (rw (i .same, indices) at (at-start (w .index) (omega (arith, same′, index, ap (λ (l : List ℕ). length l) indices))));
+            };
+      }

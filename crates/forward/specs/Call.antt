@@ -1,0 +1,34 @@
+-- THE CONTRACT OF THE CALL. Demands 1 and 2: which definition the answer and both slices equal, for every request. Demand 3: where a request
+-- is accepted, the promise of `template`, about the very bytes and numbers that stand in the slices. Assumes nothing.
+use Prim.Native.Nat.{ℕ}
+use mathlib.Core.Path.{_≡_}
+use mathlib.Core.Bool.{Bool}
+use mathlib.Core.List.{List}
+use lib.ListN.{length, take}
+use Rattle.record.specs.Chain.{Chain}
+use Rattle.template.specs.declared.Class.{Class}
+use Rattle.template.specs.Request.{lineOf, indexOf}
+use Rattle.template.specs.Promise.{Promise}
+use Rattle.judge.specs.Verdict.{Verdict, Drawable}
+use Rattle.forward.specs.declared.Answer.{Answer}
+use Rattle.forward.specs.Answer.{answerTo, lineAfter, indexAfter}
+
+-- the answer and both slices, ys and js, where the slices were xs and is
+pub record Answers (v : Verdict) (swap : Bool) (t xs is ys js : List ℕ) (a : Answer) : Type 0 where
+  pub answer : a ≡ answerTo v swap t (length xs) (length is)
+  pub line : ys ≡ lineAfter v swap t xs is
+  pub index : js ≡ indexAfter v swap t xs is
+
+-- what is kept where the request is accepted: it has a class and chains, the line and the lists that stand in the slices are theirs, and
+-- the promise holds of them
+pub record Kept (v : Verdict) (swap : Bool) (t ys js : List ℕ) (a : Answer) : Type 0 where
+  pub class : Class
+  pub chains : List Chain
+  pub judged : v ≡ Drawable class chains
+  pub line : take (a .length) ys ≡ lineOf class swap t chains
+  pub lists : take (length (indexOf class t chains)) js ≡ indexOf class t chains
+  pub promise : Promise class swap t chains
+
+pub record Called (v : Verdict) (swap : Bool) (t xs is ys js : List ℕ) (a : Answer) : Type 0 where
+  pub answers : Answers v swap t xs is ys js a
+  pub kept : a .number ≡ 0 → Kept v swap t ys js a

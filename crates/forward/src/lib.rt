@@ -1,0 +1,204 @@
+// The call: a class, a swap flag, a tail and up to four tokens to one line and the index lists of its chains. Every request has an answer,
+// and a request that is refused leaves both slices as they were. What is answered and written is said by specs/Answer.antt, and what an
+// accepted line promises by specs/Call.antt.
+use builder::Builder;
+use chain::Role;
+use judge::Chains;
+use listing::Listed;
+use listing::Lists;
+use listing::Sites;
+use placed::CxFragment;
+use placed::MAX_CHAINS;
+use placed::Placed;
+use placed::Slots;
+use record::ChainPrefix;
+use record::ParsedChain;
+use shown::MAX_SITES;
+use shown::Site;
+use template::Class;
+ghost use mathlib.Core.Path.{_≡_};
+ghost use mathlib.Core.List.{[]};
+ghost use lib.ListN.{take};
+ghost use Rattle.judge.specs.Verdict.{verdict, tokens};
+ghost use Rattle.forward.specs.Answer.{listsOf, sitesOf, refusal};
+ghost use Rattle.forward.specs.Call.{Called};
+ghost use Rattle.forward.specs.Slots.{FragmentIs, SlotsOf, Measured, IndexMeasured, SlotsWritten, SlotsDrawn};
+
+// A slice is shorter than needed.
+pub const SHORT_SLICE: u16 = 41;
+
+// The answer. Accepted: number 0, the line's length, the listed chains and the sites, each by rising sn. Refused: the number and the token's
+// place, and zero everywhere else.
+pub struct Answer {
+    pub number: u16,
+    pub token: usize,
+    pub length: usize,
+    pub lists: Lists,
+    pub sites: Sites,
+}
+
+// No lists and no sites.
+fn no_lists() -> Lists
+    ensures { λ r. ⌜ r ≡ listsOf [] ⌝ }
+{
+    let none = Listed { sn: 0, count: 0 };
+    let items = [none; MAX_CHAINS];
+    Lists { count: 0, items }
+}
+
+fn no_sites() -> Sites
+    ensures { λ r. ⌜ r ≡ sitesOf [] ⌝ }
+{
+    let none = Site { sn: 0, atom: 0 };
+    let items = [none; MAX_SITES];
+    Sites { count: 0, items }
+}
+
+fn refused(number: u16, token: usize) -> Answer
+    ensures { λ r. ⌜ r ≡ refusal number token ⌝ }
+{
+    let lists = no_lists();
+    let sites = no_sites();
+    Answer {
+        number,
+        token,
+        length: 0,
+        lists,
+        sites,
+    }
+}
+
+// A chain without carbons, for an sn that has none.
+fn no_fragment() -> CxFragment
+    ensures { λ r. ⌜ r .chain .carbon ≡ 0 ⌝ }
+{
+    let none = ParsedChain::new(ChainPrefix::Acyl, 0, 0, false);
+    let drawn = drawable::drawn_as(Role::Slot, none);
+    placed::build_chain_fragment(drawn)
+}
+
+// A chain of the request with its counts; one without carbons where the request has no such chain.
+fn fragment_at(chains: Chains, i: usize) -> CxFragment
+    ensures { λ r. ⌜ FragmentIs chains i r ⌝ }
+{
+    let n = chains.count;
+    if MAX_CHAINS <= i {
+        return no_fragment();
+    }
+    if n <= i {
+        return no_fragment();
+    }
+    let x = chains.items[i];
+    placed::build_chain_fragment(x)
+}
+
+fn slots_of(chains: Chains) -> Slots
+    ensures { λ r. ⌜ SlotsOf chains r ⌝ }
+{
+    let s1 = fragment_at(chains, 0);
+    let s2 = fragment_at(chains, 1);
+    let s3 = fragment_at(chains, 2);
+    let s4 = fragment_at(chains, 3);
+    Slots { s1, s2, s3, s4 }
+}
+
+// The line is built on no bytes at all: its length, and where its chains stand.
+fn measure_line(
+    line: &mut [u8],
+    class: Class,
+    swap: bool,
+    tail: &[u8],
+    tail_atoms: u16,
+    s: Slots,
+) -> Builder
+    ensures { λ r. ⌜ Measured class swap (now (tail .entry)) «tail_atoms» s (now (line .entry)) (now (line .exit)) r ⌝ }
+{
+    builder::build_line(&mut line[0..0], class, swap, tail, tail_atoms, s)
+}
+
+// How many indices there are.
+fn measure_index(index: &mut [u16], s: Slots, placed: [Placed; MAX_CHAINS], count: usize) -> usize
+    ensures { λ r. ⌜ IndexMeasured s (take count placed) (now (index .entry)) (now (index .exit)) r ⌝ }
+{
+    listing::write_indices(&mut index[0..0], s, placed, count)
+}
+
+// The line and the indices are written, and the answer says where.
+fn write_slots(
+    line: &mut [u8],
+    index: &mut [u16],
+    class: Class,
+    swap: bool,
+    tail: &[u8],
+    tail_atoms: u16,
+    s: Slots,
+    measured: Builder,
+) -> Answer
+    ensures { λ r. ⌜ SlotsWritten class swap (now (tail .entry)) «tail_atoms» s (now (line .entry)) (now (index .entry)) (now (line .exit)) (now (index .exit)) measured r ⌝ }
+{
+    let placed = measured.placed;
+    let count = measured.count;
+    let built = builder::build_line(line, class, swap, tail, tail_atoms, s);
+    let end = listing::write_indices(index, s, placed, count);
+    let lists = listing::lists_by_sn(s, placed, count);
+    let sites = listing::sites_by_sn(placed, count);
+    Answer {
+        number: 0,
+        token: 0,
+        length: measured.at,
+        lists,
+        sites,
+    }
+}
+
+// Both slices are measured first: nothing is written where one is too short.
+fn draw_slots(
+    line: &mut [u8],
+    index: &mut [u16],
+    class: Class,
+    swap: bool,
+    tail: &[u8],
+    tail_atoms: u16,
+    s: Slots,
+) -> Answer
+    ensures { λ r. ⌜ SlotsDrawn class swap (now (tail .entry)) «tail_atoms» s (now (line .entry)) (now (index .entry)) (now (line .exit)) (now (index .exit)) r ⌝ }
+{
+    let measured = measure_line(line, class, swap, tail, tail_atoms, s);
+    if line.len() < measured.at {
+        return refused(SHORT_SLICE, 0);
+    }
+    let placed = measured.placed;
+    let indices = measure_index(index, s, placed, measured.count);
+    if index.len() < indices {
+        return refused(SHORT_SLICE, 0);
+    }
+    write_slots(line, index, class, swap, tail, tail_atoms, s, measured)
+}
+
+// A request: refused with a number of document 01 and the place of the token, or drawn.
+pub fn draw<'a>(
+    class: &[u8],
+    swap: bool,
+    tail: &[u8],
+    count: usize,
+    sn1: &'a [u8],
+    sn2: &'a [u8],
+    sn3: &'a [u8],
+    sn4: &'a [u8],
+    line: &mut [u8],
+    index: &mut [u16],
+) -> Answer
+    ensures { λ r. ⌜ Called (verdict (now (class .entry)) (now (tail .entry)) count (tokens count (now (sn1 .entry)) (now (sn2 .entry)) (now (sn3 .entry)) (now (sn4 .entry)))) swap (now (tail .entry)) (now (line .entry)) (now (index .entry)) (now (line .exit)) (now (index .exit)) r ⌝ }
+{
+    let judged = judge::judge(class, tail, count, sn1, sn2, sn3, sn4);
+    let fault = judged.fault;
+    let number = fault.number;
+    if number != 0 {
+        return refused(number, fault.place);
+    }
+    let kind = judged.class;
+    let chains = judged.chains;
+    let s = slots_of(chains);
+    let atoms = tail::tail_atoms(tail);
+    draw_slots(line, index, kind, swap, tail, atoms, s)
+}
