@@ -1,0 +1,59 @@
+use borrow.Author.Needs.{needs}
+use Prim.Native.Nat.{_-_}
+use mathlib.Core.Path.{_≡_, refl}
+use lib.ListN.{drop}
+use Rattle.chain.specs.Lists.{anyOf}
+use Rattle.chain.specs.Refusals.{epoxideOn}
+use Rattle.drawable.specs.Drawn.{bondsIn, ringsIn}
+use Rattle.drawable.proofs.Through.{any-here, any-next, any-none}
+use Rattle.clash.proofs.any_epoxide_on.Statement.{statement}
+use Rattle.clash.proofs.any_epoxide_on.Tie as tie
+
+abbrev Inv-loop : tie.InvT-loop
+Inv-loop rings bonds n i₀ i = anyOf (epoxideOn (bondsIn bonds)) (ringsIn rings) ≡ anyOf (epoxideOn (bondsIn bonds)) (drop i (ringsIn rings))
+
+abbrev μ-loop : tie.MeasureT-loop
+μ-loop rings bonds n i₀ i = n - i
+
+len-requires : tie.Need-len-requires Inv-loop μ-loop
+len-requires c κs = search needs
+
+loop-holds : tie.Need-loop-holds Inv-loop μ-loop
+loop-holds c = refl
+
+at-requires : tie.Need-at-requires Inv-loop μ-loop
+at-requires c κs = search needs
+
+epoxide-on-requires : tie.Need-epoxide-on-requires Inv-loop μ-loop
+epoxide-on-requires c κs = search needs
+
+returns : tie.Need-returns Inv-loop μ-loop
+returns c = search any-here
+
+add-i : tie.Need-add-i Inv-loop μ-loop
+add-i c = search needs
+
+loop-less : tie.Need-loop-less Inv-loop μ-loop
+loop-less c = search needs
+
+loop-again : tie.Need-loop-again Inv-loop μ-loop
+loop-again c = search any-next
+
+returns-2 : tie.Need-returns-2 Inv-loop μ-loop
+returns-2 c = search any-none
+
+pub any-epoxide-on-spec : {M : Type 1} → statement M
+any-epoxide-on-spec =
+    tie.close
+    (tie.spec
+    Inv-loop
+    μ-loop
+    len-requires
+    loop-holds
+    at-requires
+    epoxide-on-requires
+    returns
+    add-i
+    loop-less
+    loop-again
+    returns-2)

@@ -1,0 +1,140 @@
+// 32: a feature off the chain that is drawn. What that is, is said by the definitions of the crate `chain`.
+use drawable::Bonds;
+use drawable::Drawn;
+use drawable::Groups;
+use drawable::Rings;
+use record::DbPos;
+use record::Mod;
+use record::Ring;
+ghost use mathlib.Core.Path.{_≡_};
+ghost use Rattle.chain.specs.Lists.{anyOf};
+ghost use Rattle.chain.specs.Refusals.{doubleOff, groupOff, ringOff, offChain};
+ghost use Rattle.drawable.specs.Drawn.{bondsIn, groupsIn, ringsIn, Says};
+
+// Whether a double bond is outside of the carbons from `first` up to, not including, `carbon`.
+fn bond_off(bond: DbPos, first: u16, carbon: u16) -> bool
+    ensures { λ r. ⌜ r ≡ doubleOff first carbon bond ⌝ }
+{
+    let p = bond.pos;
+    if p < first as u32 {
+        return true;
+    }
+    if carbon as u32 <= p {
+        return true;
+    }
+    false
+}
+
+// Whether a group is outside of the carbons from `first` to `carbon`.
+fn group_off(group: Mod, first: u16, carbon: u16) -> bool
+    ensures { λ r. ⌜ r ≡ groupOff first carbon group ⌝ }
+{
+    let p = group.pos;
+    let past = carbon as u32 + 1;
+    if p < first as u32 {
+        return true;
+    }
+    if past <= p {
+        return true;
+    }
+    false
+}
+
+// Whether a ring starts before `first`, or at the carbonyl of an acyl chain.
+fn ring_off(ring: Ring, first: u16, acyl: bool) -> bool
+    ensures { λ r. ⌜ r ≡ ringOff first acyl ring ⌝ }
+{
+    let start = ring.start;
+    if start < first {
+        return true;
+    }
+    if !acyl {
+        return false;
+    }
+    if start == 1 {
+        return true;
+    }
+    false
+}
+
+// Whether some double bond is off the chain.
+fn any_bond_off(bonds: Bonds, first: u16, carbon: u16) -> bool
+    ensures { λ r. ⌜ r ≡ anyOf (doubleOff first carbon) (bondsIn bonds) ⌝ }
+{
+    let n = bonds.len();
+    let mut i = 0;
+    while i < n {
+        let bond = bonds.at(i);
+        if bond_off(bond, first, carbon) {
+            return true;
+        }
+        i += 1;
+    }
+    false
+}
+
+// Whether some group is off the chain.
+fn any_group_off(groups: Groups, first: u16, carbon: u16) -> bool
+    ensures { λ r. ⌜ r ≡ anyOf (groupOff first carbon) (groupsIn groups) ⌝ }
+{
+    let n = groups.len();
+    let mut i = 0;
+    while i < n {
+        let group = groups.at(i);
+        if group_off(group, first, carbon) {
+            return true;
+        }
+        i += 1;
+    }
+    false
+}
+
+// Whether some ring starts off the chain.
+fn any_ring_off(rings: Rings, first: u16, acyl: bool) -> bool
+    ensures { λ r. ⌜ r ≡ anyOf (ringOff first acyl) (ringsIn rings) ⌝ }
+{
+    let n = rings.len();
+    let mut i = 0;
+    while i < n {
+        let ring = rings.at(i);
+        if ring_off(ring, first, acyl) {
+            return true;
+        }
+        i += 1;
+    }
+    false
+}
+
+// 32: whether a feature is off the drawn chain. A located group on a chain without carbons is off it, so only those that float are left to
+// be asked about there.
+pub fn off_chain(x: Drawn) -> bool
+    ensures { λ r. ⌜ Says x r offChain ⌝ }
+{
+    let first = x.first;
+    let carbon = x.carbon;
+    let acyl = x.acyl;
+    let ether_base = x.ether_base;
+    let bonds = x.bonds;
+    let groups = x.groups;
+    let floats = x.floats;
+    let rings = x.rings;
+    if any_bond_off(bonds, first, carbon) {
+        return true;
+    }
+    if any_group_off(groups, first, carbon) {
+        return true;
+    }
+    if any_ring_off(rings, first, acyl) {
+        return true;
+    }
+    if ether_base {
+        return true;
+    }
+    if carbon > 0 {
+        return false;
+    }
+    if floats.len() == 0 {
+        return false;
+    }
+    true
+}

@@ -1,0 +1,56 @@
+use borrow.Author.Needs.{needs}
+use Prim.Native.Nat.{_-_}
+use mathlib.Core.Path.{_≡_, refl}
+use mathlib.Core.List.{map}
+use lib.ListN.{drop}
+use lib.Dec.{ltb}
+use Rattle.chain.specs.Lists.{allOf}
+use Rattle.drawable.specs.Drawn.{groupsIn, groupPin}
+use Rattle.drawable.proofs.Through.{past-not, past-next, past-all}
+use Rattle.pins.proofs.groups_past.Statement.{statement}
+use Rattle.pins.proofs.groups_past.Tie as tie
+
+abbrev Inv-loop : tie.InvT-loop
+Inv-loop groups bound n i₀ i = allOf (ltb bound) (map groupPin (groupsIn groups)) ≡ allOf (ltb bound) (map groupPin (drop i (groupsIn groups)))
+
+abbrev μ-loop : tie.MeasureT-loop
+μ-loop groups bound n i₀ i = n - i
+
+len-requires : tie.Need-len-requires Inv-loop μ-loop
+len-requires c κs = search needs
+
+loop-holds : tie.Need-loop-holds Inv-loop μ-loop
+loop-holds c = refl
+
+at-requires : tie.Need-at-requires Inv-loop μ-loop
+at-requires c κs = search needs
+
+returns : tie.Need-returns Inv-loop μ-loop
+returns c = search past-not
+
+add-i : tie.Need-add-i Inv-loop μ-loop
+add-i c = search needs
+
+loop-less : tie.Need-loop-less Inv-loop μ-loop
+loop-less c = search needs
+
+loop-again : tie.Need-loop-again Inv-loop μ-loop
+loop-again c = search past-next
+
+returns-2 : tie.Need-returns-2 Inv-loop μ-loop
+returns-2 c = search past-all
+
+pub groups-past-spec : {M : Type 1} → statement M
+groups-past-spec =
+    tie.close
+    (tie.spec
+    Inv-loop
+    μ-loop
+    len-requires
+    loop-holds
+    at-requires
+    returns
+    add-i
+    loop-less
+    loop-again
+    returns-2)
