@@ -1,3 +1,4 @@
 pub mod Fronts
+pub mod Left
 pub mod BondLaws
 pub mod TokenLaws

@@ -1,4 +1,3 @@
-pub mod Left
 pub mod TextLaws
 pub mod RangeLaws
 pub mod SegmentLaws

@@ -1,40 +1,41 @@
 -- The text that is written is that of the drawing.
 -- Assumes nothing.
 use Prim.Native.Nat.{ℕ, zero, suc, _+_, _-_, _^_, _≤_, _<_, min, max}
-use native.Mathlib.Numerals.{add-one}
 use native.Mathlib.Omega.{arith}
 use mathlib.Core.Path.{_≡_, refl, sym, ap, _∙_}
-use mathlib.Core.Bool.{Bool, true, false, cond, _||_}
-use mathlib.Core.List.{List, [], _∷_, _++_, append-nil, append-assoc, map}
+use mathlib.Core.Bool.{Bool, true, false, cond}
+use mathlib.Core.List.{List, [], _∷_, _++_, append-assoc, map}
 use lib.Dec.{eqb}
 use lib.ListN.{length, take, getD}
 use lib.Seq.{getD-take}
-use borrow.Author.Tests.{eq-eqb, ne-eqb}
+use borrow.Author.Tests.{ne-eqb}
 use Rattle.emit.specs.Text.{Written}
 use Rattle.emit.proofs.Laws.{written-length}
 use Rattle.record.specs.declared.DbPos.{DbPos}
 use Rattle.record.specs.declared.Mod.{Mod}
 use Rattle.record.specs.declared.Ring.{Ring as Closed}
 use Rattle.record.specs.Chain as read
-use Rattle.reading.specs.Piece.{Piece, show}
-use Rattle.reading.specs.Chain.{Ring, ring, Carbon, labelsAt, chainPieces, floatPieces}
+use Rattle.reading.specs.Piece.{show}
+use Rattle.reading.specs.Chain.{Carbon, labelsAt, chainPieces, floatPieces}
 use Rattle.reading.specs.Template.{itemPieces, chain}
 use Rattle.reading.proofs.ShowLex.{show-append}
 use Rattle.chain.specs.declared.Role.{Role}
 use Rattle.chain.specs.declared.Role.the-variants.{Slot, Acyl, Base}
 use Rattle.chain.specs.Lists.{largest, valuesFrom}
-use Rattle.chain.specs.Features.{firstDrawn, isAcyl, doubles, groupsOn, floating, prefixEnd, literalEnd}
+use Rattle.chain.specs.Features.{firstDrawn, doubles, groupsOn, prefixEnd, literalEnd}
 use Rattle.chain.specs.Bonds.{bondsOf, bondAt, markOf}
-use Rattle.chain.specs.Drawing.{branches, carbonyl, groupsAt, carbonAt, literal, flexible, carbons, ringPairs, floats, chainDrawn}
+use Rattle.chain.specs.Drawing.{carbonyl, groupsAt, carbonAt, literal, flexible, carbons, ringPairs, floats, chainDrawn}
 use Rattle.drawable.specs.declared.Drawn.{Drawn}
 use Rattle.drawable.specs.Drawn.{groupsIn, ringsIn, Draws}
 use Rattle.carbons.specs.declared.ChainTokens.{ChainTokens}
-use Rattle.fragment.specs.Text.{sitting, floatsText, carbonylOf, carbonOf, carbonsText, flexibleText}
+use Rattle.branches.specs.Text.{sitting, floatsText, carbonylOf}
+use Rattle.backbone.specs.Text.{flexibleText}
+use Rattle.fragment.specs.Text.{carbonOf, carbonsText}
 use Rattle.carbons.specs.Tokens.{TokensOf}
 use Rattle.fragment.specs.Segment.{segmentText, RingsOn, Readable, Segment}
-use Rattle.fragment.proofs.Left.{written-three}
+use Rattle.carbons.proofs.Left.{written-three}
 use Rattle.carbons.proofs.TokenLaws.{length-values, values-same}
-use Rattle.fragment.proofs.RangeLaws.{chain-append, unlabelled}
+use Rattle.backbone.proofs.Laws.{chain-append, unlabelled}
 
 -- ---- what holds of every chain that x draws
 

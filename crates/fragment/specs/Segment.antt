@@ -13,7 +13,9 @@ use Rattle.chain.specs.Drawing.{chainDrawn}
 use Rattle.drawable.specs.declared.Drawn.{Drawn}
 use Rattle.drawable.specs.Drawn.{groupsIn, ringsIn, Draws}
 use Rattle.carbons.specs.declared.ChainTokens.{ChainTokens}
-use Rattle.fragment.specs.Text.{carbonsText, flexibleText, floatsText}
+use Rattle.branches.specs.Text.{floatsText}
+use Rattle.backbone.specs.Text.{flexibleText}
+use Rattle.fragment.specs.Text.{carbonsText}
 
 -- the literal carbons, the flexible tail and the groups without a position
 unfoldable pub segmentText : Drawn → ChainTokens → ℕ → List ℕ

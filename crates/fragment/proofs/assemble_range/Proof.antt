@@ -4,7 +4,7 @@ use mathlib.Core.Path.{_≡_}
 use native.Mathlib.Omega.{arith}
 use Rattle.drawable.specs.Drawn.{groupsIn, ringsIn}
 use Rattle.fragment.specs.Text.{carbonsText}
-use Rattle.fragment.proofs.Left.{Left, left-all, left-length}
+use Rattle.carbons.proofs.Left.{Left, left-all, left-length}
 use Rattle.fragment.proofs.RangeLaws.{carbon-busy, carbon-bare, carbons-end}
 use Rattle.fragment.proofs.assemble_range.Statement.{statement}
 use Rattle.fragment.proofs.assemble_range.Tie as tie

@@ -1,5 +1,5 @@
 use native.Mathlib.Omega.{arith}
-use Rattle.fragment.proofs.Left.{written-three}
+use Rattle.carbons.proofs.Left.{written-three}
 use borrow.Author.Needs.{needs}
 use Rattle.fragment.proofs.put_busy.Statement.{statement}
 use Rattle.fragment.proofs.put_busy.Tie as tie

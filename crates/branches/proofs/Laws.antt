@@ -1,0 +1,160 @@
+-- Laws of the writers of groups: bytes written are the pieces shown.
+-- Assumes nothing.
+use Prim.Native.Nat.{ℕ, _+_, _-_, _^_, _≤_, _<_}
+use native.Mathlib.Nat.{sub-zero}
+use native.Mathlib.Omega.{arith}
+use mathlib.Core.Path.{_≡_, refl, sym, ap, _∙_}
+use mathlib.Core.Bool.{Bool, true, false}
+use mathlib.Core.List.{List, [], _∷_, _++_, append-nil, map}
+use lib.ListN.{length, take, drop, getD, List·getD-map}
+use borrow.Author.Tests.{eq-eqb, ne-eqb}
+use Rattle.emit.specs.Text.{Written}
+use Rattle.emit.proofs.Laws.{written-nil}
+use Rattle.groups.specs.declared.Row.{Row}
+use Rattle.groups.specs.Groups.{Entry, entries, blank, entryAt, entryOf, RowIs}
+use Rattle.record.specs.declared.Mod.{Mod}
+use Rattle.reading.specs.Ascii.{ascii}
+use Rattle.reading.specs.Piece.{Piece, atom, dot, lpar, rpar, show}
+use Rattle.reading.specs.Part.{Part, partOf}
+use Rattle.reading.specs.Chain.{partPieces, floatPieces}
+use Rattle.reading.proofs.ShowLex.{show-append}
+use Rattle.chain.specs.Lists.{only}
+use Rattle.chain.specs.Drawing.{orNone, branchPart, branches}
+use Rattle.branches.specs.Text.{branchText, groupText, sitting, groupsText, floatText, floatsText, carbonylOf, carbonylText}
+use Rattle.drawable.specs.Drawn.{Length, groupRoom, noGroup}
+use Rattle.carbons.proofs.Fronts.{next-of, none-left}
+use Rattle.carbons.proofs.Left.{Left, left-less, left-same, left-none, written-three}
+
+-- ---- the branches of the table, by one computed test over all of it
+
+abbrev shown : Entry → List ℕ
+shown e = show (orNone (partOf (e .branch)) .pieces)
+
+abbrev sized : Entry → ℕ
+sized e = orNone (partOf (e .branch)) .size
+
+table-shown : map shown entries ≡ map (λ (e : Entry). e .branch) entries
+unfolding entries show partOf
+table-shown = refl
+
+table-sized : map sized entries ≡ map (λ (e : Entry). e .atoms) entries
+unfolding entries partOf
+table-sized = refl
+
+blank-shown : shown blank ≡ []
+unfolding show partOf
+blank-shown = refl
+
+blank-sized : sized blank ≡ 0
+unfolding partOf
+blank-sized = refl
+
+-- a branch is written as the table has it
+pub branch-text : (row : ℕ) → branchText row ≡ entryAt row .branch
+unfolding branchText branchPart entryAt
+branch-text row =
+    sym (List·getD-map shown entries row blank) ∙ (rw (blank-shown, table-shown) (List·getD-map (λ (e : Entry). e .branch) entries row blank))
+
+-- its atoms are as many as the table says
+pub branch-size : (row : ℕ) → branchPart row .size ≡ entryAt row .atoms
+unfolding branchPart entryAt
+branch-size row =
+    sym (List·getD-map sized entries row blank) ∙ (rw (blank-sized, table-sized) (List·getD-map (λ (e : Entry). e .atoms) entries row blank))
+
+module _ {row : ℕ} {g : Row} (w : RowIs row g) where
+  pub branch-within : (l : List ℕ) → length l ≡ 12 → g .«branch_len» ≤ length l
+  branch-within l e = omega (arith, w .branch-fits)
+
+  pub branch-written : {xs ys : List ℕ} {at p : ℕ} → Written xs at (take (g .«branch_len» - 0) (g .branch)) ys p → Written xs at (branchText row) ys p
+  unfolding entryOf
+  branch-written v = rw (branch-text row, ← ap (λ (e : Entry). e .branch) (w .entry-is), ← sub-zero (g .«branch_len»)) v
+
+-- ---- groups
+
+pub parts-cons : (p : Part) (ps : List Part) → show (partPieces (p ∷ ps)) ≡ show (partPieces (p ∷ [])) ++ show (partPieces ps)
+unfolding partPieces
+parts-cons p ps =
+    show-append (lpar ∷ p .pieces ++ rpar ∷ []) (partPieces ps)
+    ∙ ap (λ (us : List Piece). show us ++ show (partPieces ps)) (sym (append-nil (lpar ∷ p .pieces ++ rpar ∷ [])))
+
+pub floats-cons : (p : Part) (ps : List Part) → show (floatPieces (p ∷ ps)) ≡ show (floatPieces (p ∷ [])) ++ show (floatPieces ps)
+unfolding floatPieces ascii
+floats-cons p ps =
+    show-append (dot ∷ atom (ascii "*") [] ∷ p .pieces) (floatPieces ps)
+    ∙ ap (λ (us : List Piece). show us ++ show (floatPieces ps)) (sym (append-nil (dot ∷ atom (ascii "*") [] ∷ p .pieces)))
+
+group-joined : (row : ℕ) → groupText row ≡ (40 ∷ []) ++ (branchText row ++ (41 ∷ []))
+unfolding groupText branchText partPieces show
+group-joined row =
+    ap show (append-nil (lpar ∷ branchPart row .pieces ++ rpar ∷ [])) ∙ ap (λ (t : List ℕ). 40 ∷ t) (show-append (branchPart row .pieces) (rpar ∷ []))
+
+float-joined : (row : ℕ) → floatText row ≡ (46 ∷ []) ++ ((42 ∷ []) ++ branchText row)
+unfolding floatText branchText floatPieces show ascii
+float-joined row = ap show (append-nil (dot ∷ atom (ascii "*") [] ∷ branchPart row .pieces))
+
+module _ {xs ys zs ws : List ℕ} {at p q r : ℕ} (row : ℕ) (h : length xs < 2 ^ 64) where
+  pub group-written : Written xs at (40 ∷ []) ys p → Written ys p (branchText row) zs q → Written zs q (41 ∷ []) ws r → Written xs at (groupText row) ws r
+  group-written u v w = rw (group-joined row) (written-three h u v w)
+
+  pub float-written : Written xs at (46 ∷ []) ys p → Written ys p (42 ∷ []) zs q → Written zs q (branchText row) ws r → Written xs at (floatText row) ws r
+  float-written u v w = rw (float-joined row) (written-three h u v w)
+
+sitting-here : (k : ℕ) (g : Mod) (gs : List Mod) → g .pos ≡ k → groupsText (sitting k (g ∷ gs)) ≡ groupText (g .row) ++ groupsText (sitting k gs)
+unfolding groupsText groupText sitting only branches
+sitting-here k g gs e = rw (eq-eqb (g .pos) k e) (parts-cons (branchPart (g .row)) (branches (sitting k gs)))
+
+pub sitting-past : (k : ℕ) (g : Mod) (gs : List Mod) → (g .pos ≡ k → ⊥) → sitting k (g ∷ gs) ≡ sitting k gs
+unfolding sitting only
+sitting-past k g gs e = rw (ne-eqb (g .pos) k e)
+
+sitting-none : (k : ℕ) → groupsText (sitting k []) ≡ []
+unfolding groupsText sitting only branches partPieces show
+sitting-none k = refl
+
+-- a turn of the loop through the groups, and its end
+module _ {xs ys ts : List ℕ} {at p n : ℕ} {gs : List Mod} (i k : ℕ) (s : Length groupRoom gs n) (v : Left xs at ts ys p (groupsText (sitting k (drop i gs)))) where
+  pub group-here : {zs : List ℕ} {q : ℕ} (g : Mod) → length xs < 2 ^ 64 → i < n → g ≡ getD gs i noGroup → g .pos ≡ k → Written ys p (groupText (g .row)) zs q
+      → Left xs at ts zs q (groupsText (sitting k (drop (i + 1) gs)))
+  group-here g h t e f w =
+      left-less _ h v (ap (λ (us : List Mod). groupsText (sitting k us)) (next-of s noGroup g i e t) ∙ sitting-here k g (drop (i + 1) gs) f) w
+
+  pub group-past : (g : Mod) → i < n → g ≡ getD gs i noGroup → (g .pos ≡ k → ⊥) → Left xs at ts ys p (groupsText (sitting k (drop (i + 1) gs)))
+  group-past g t e f =
+      left-same v (ap (λ (us : List Mod). groupsText (sitting k us)) (next-of s noGroup g i e t) ∙ ap groupsText (sitting-past k g (drop (i + 1) gs) f))
+
+  pub groups-end : n ≤ i → Written xs at ts ys p
+  groups-end t = left-none v (ap (λ (us : List Mod). groupsText (sitting k us)) (none-left s i t) ∙ sitting-none k)
+
+-- ---- the groups without a position
+
+floats-none : floatsText [] ≡ []
+unfolding floatsText branches floatPieces show
+floats-none = refl
+
+floats-next : (g : Mod) (gs : List Mod) → floatsText (g ∷ gs) ≡ floatText (g .row) ++ floatsText gs
+unfolding floatsText floatText branches
+floats-next g gs = floats-cons (branchPart (g .row)) (branches gs)
+
+module _ {xs ys ts : List ℕ} {at p n : ℕ} {gs : List Mod} (i : ℕ) (s : Length groupRoom gs n) (v : Left xs at ts ys p (floatsText (drop i gs))) where
+  pub float-next : {zs : List ℕ} {q : ℕ} (g : Mod) → length xs < 2 ^ 64 → i < n → g ≡ getD gs i noGroup → Written ys p (floatText (g .row)) zs q
+      → Left xs at ts zs q (floatsText (drop (i + 1) gs))
+  float-next g h t e w = left-less _ h v (ap floatsText (next-of s noGroup g i e t) ∙ floats-next g (drop (i + 1) gs)) w
+
+  pub floats-end : n ≤ i → Written xs at ts ys p
+  floats-end t = left-none v (ap floatsText (none-left s i t) ∙ floats-none)
+
+-- ---- the carbonyl
+
+module _ {xs ys : List ℕ} {at p : ℕ} (acyl : Bool) (k : ℕ) where
+  pub carbonyl-there : acyl ≡ true → k ≡ 1 → Written xs at (groupText 12) ys p → Written xs at (carbonylText acyl k) ys p
+  unfolding carbonylText carbonylOf groupText
+  carbonyl-there e f w = rw (e, eq-eqb k 1 f) w
+
+module _ (xs : List ℕ) (at : ℕ) (acyl : Bool) (k : ℕ) (h : at < 2 ^ 64) where
+  pub carbonyl-later : acyl ≡ true → (k ≡ 1 → ⊥) → Written xs at (carbonylText acyl k) xs at
+  unfolding carbonylText carbonylOf partPieces show
+  carbonyl-later e f = rw (e, ne-eqb k 1 f) (written-nil xs at h)
+
+  pub carbonyl-no : acyl ≡ false → Written xs at (carbonylText acyl k) xs at
+  unfolding carbonylText carbonylOf partPieces show
+  carbonyl-no e = rw e (written-nil xs at h)

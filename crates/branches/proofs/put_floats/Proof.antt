@@ -1,0 +1,59 @@
+use borrow.Author.Needs.{needs}
+use Prim.Native.Nat.{_-_}
+use native.Mathlib.Omega.{arith}
+use lib.ListN.{drop}
+use Rattle.drawable.specs.Drawn.{Length, groupRoom, groupsIn}
+use Rattle.branches.specs.Text.{floatsText}
+use Rattle.carbons.proofs.Left.{Left, left-all, left-length}
+use Rattle.branches.proofs.Laws.{float-next, floats-end}
+use Rattle.branches.proofs.put_floats.Statement.{statement}
+use Rattle.branches.proofs.put_floats.Tie as tie
+
+abbrev Inv-loop : tie.InvT-loop
+Inv-loop out₀ at floats n p₀ i₀ out p i = Length groupRoom (groupsIn floats) n × Left out₀ at (floatsText (groupsIn floats)) out p (floatsText (drop i (groupsIn floats)))
+
+abbrev μ-loop : tie.MeasureT-loop
+μ-loop out₀ at floats n p₀ i₀ out p i = n - i
+
+len-requires : tie.Need-len-requires Inv-loop μ-loop
+len-requires c κs = search needs
+
+loop-holds : tie.Need-loop-holds Inv-loop μ-loop
+loop-holds c = (search needs, left-all _ _ _ (omega arith))
+
+at-requires : tie.Need-at-requires Inv-loop μ-loop
+at-requires c κs = search needs
+
+put-float-requires : tie.Need-put-float-requires Inv-loop μ-loop
+put-float-requires c κs = search needs
+
+add-i : tie.Need-add-i Inv-loop μ-loop
+add-i c = search needs
+
+loop-less : tie.Need-loop-less Inv-loop μ-loop
+loop-less c = search needs
+
+loop-again : tie.Need-loop-again Inv-loop μ-loop
+loop-again c = (search needs, search (float-next, arith))
+
+same-length : tie.Need-same-length Inv-loop μ-loop
+same-length c = search left-length
+
+returns : tie.Need-returns Inv-loop μ-loop
+returns c = search (floats-end, arith)
+
+pub put-floats-spec : {M : Type 1} → statement M
+put-floats-spec =
+    tie.close
+    (tie.spec
+    Inv-loop
+    μ-loop
+    len-requires
+    loop-holds
+    at-requires
+    put-float-requires
+    add-i
+    loop-less
+    loop-again
+    same-length
+    returns)

@@ -1,0 +1,81 @@
+// The groups of a chain, written at a place of a lent slice: those on a carbon, the carbonyl's O, and those without a position.
+use drawable::Groups;
+ghost use Rattle.emit.specs.Text.{Written};
+ghost use Rattle.drawable.specs.Drawn.{groupsIn};
+ghost use Rattle.branches.specs.Text.{branchText, groupText, sitting, groupsText, floatText, floatsText, carbonylText};
+
+// The branch of a group, by its row of the table.
+fn put_branch(out: &mut [u8], at: usize, row: u8) -> usize
+    ensures { λ r. ⌜ Written (now (out .entry)) at (branchText row) (now (out .exit)) r ⌝ }
+{
+    let group = groups::row_at(row);
+    let n = group.branch_len;
+    let branch = group.branch;
+    emit::put_text(out, at, &branch[0..n])
+}
+
+// A group on its carbon: `(branch)`.
+fn put_group(out: &mut [u8], at: usize, row: u8) -> usize
+    ensures { λ r. ⌜ Written (now (out .entry)) at (groupText row) (now (out .exit)) r ⌝ }
+{
+    let p = emit::put_byte(out, at, b'(');
+    let q = put_branch(out, p, row);
+    emit::put_byte(out, q, b')')
+}
+
+// A group without a position: `.*branch`.
+fn put_float(out: &mut [u8], at: usize, row: u8) -> usize
+    ensures { λ r. ⌜ Written (now (out .entry)) at (floatText row) (now (out .exit)) r ⌝ }
+{
+    let p = emit::put_byte(out, at, b'.');
+    let q = emit::put_byte(out, p, b'*');
+    put_branch(out, q, row)
+}
+
+// The groups of carbon k, in token order.
+pub fn put_groups(out: &mut [u8], at: usize, groups: Groups, k: u32) -> usize
+    ensures { λ r. ⌜ Written (now (out .entry)) at (groupsText (sitting k (groupsIn groups))) (now (out .exit)) r ⌝ }
+{
+    let n = groups.len();
+    let mut p = at;
+    let mut i = 0;
+    while i < n {
+        let g = groups.at(i);
+        if g.pos == k {
+            let row = g.row;
+            p = put_group(out, p, row);
+            i += 1;
+            continue;
+        }
+        i += 1;
+    }
+    p
+}
+
+// The groups without a position.
+pub fn put_floats(out: &mut [u8], at: usize, floats: Groups) -> usize
+    ensures { λ r. ⌜ Written (now (out .entry)) at (floatsText (groupsIn floats)) (now (out .exit)) r ⌝ }
+{
+    let n = floats.len();
+    let mut p = at;
+    let mut i = 0;
+    while i < n {
+        let g = floats.at(i);
+        p = put_float(out, p, g.row);
+        i += 1;
+    }
+    p
+}
+
+// The doubly bonded O of an acyl C1.
+pub fn put_carbonyl(out: &mut [u8], at: usize, acyl: bool, k: u16) -> usize
+    ensures { λ r. ⌜ Written (now (out .entry)) at (carbonylText acyl k) (now (out .exit)) r ⌝ }
+{
+    if acyl {
+        if k == 1 {
+            return put_group(out, at, groups::KETO);
+        }
+        return at;
+    }
+    at
+}
