@@ -20,7 +20,7 @@ use Rattle.record.specs.Chain.{Chain, Keeps, Holds, Within, maxBonds, maxGroups
 use Rattle.chain.specs.declared.Role.{Role}
 use Rattle.chain.specs.declared.Role.the-variants.{Slot, Acyl, Base}
 use Rattle.chain.specs.Lists.{anyOf}
-use Rattle.chain.specs.Features.{isAcyl, alkenylBond, doubles, located, unlocated, oxygenAt, triolOxygen, baseOxygens, groupsOn, floating}
+use Rattle.chain.specs.Features.{alkenylBond, doubles, located, unlocated, oxygenAt, triolOxygen, baseOxygens, groupsOn, floating}
 use Rattle.groups.specs.Groups.{hydroxy}
 use Rattle.drawable.specs.Drawn.{groupsIn, ringsIn, noBond, noGroup, Length, groupAt, chainOf}
 use Rattle.drawable.proofs.Through.{only-skip, only-push, only-all}
@@ -37,17 +37,6 @@ held-chain {c} {d} k w =
     simp (k .prefix, k .written, k .carbon, k .branched, k .unlocated, k .oxygens, kept maxBonds (c .bonds) (c .«bond_count») (d .bonds) (k .bonds) (w .bonds), kept maxGroups (c .groups) (c .«group_count») (d .groups) (k .groups) (w .groups), kept maxRings (c .rings) (c .«ring_count») (d .rings) (k .rings) (w .rings))
 
 -- ---- an acyl place is as a slot
-
-pub acyl-as-slot : (p : ChainPrefix) → isAcyl Slot p ≡ isAcyl Acyl p
-unfolding isAcyl
-acyl-as-slot prefix.Acyl = refl
-acyl-as-slot prefix.EtherAlkyl = refl
-acyl-as-slot prefix.EtherAlkenyl = refl
-acyl-as-slot prefix.SphingoidD = refl
-acyl-as-slot prefix.SphingoidT = refl
-
-pub acyl-slot : (r : Role) (p : ChainPrefix) (a : Bool) → r ≡ Acyl → a ≡ isAcyl Slot p → a ≡ isAcyl r p
-acyl-slot r p a h e = rw h (e ∙ acyl-as-slot p)
 
 alkenyl-as-slot : (p : ChainPrefix) → alkenylBond Slot p ≡ alkenylBond Acyl p
 unfolding alkenylBond

@@ -19,8 +19,7 @@ ghost use Prim.Native.Nat.{min};
 ghost use lib.ListN.{take, getD};
 ghost use Rattle.chain.specs.declared.Role.the-variants.{Slot, Base};
 ghost use Rattle.chain.specs.Lists.{anyOf};
-ghost use Rattle.chain.specs.Features.{firstDrawn, isAcyl, alkenylBond, doubles, located, unlocated, oxygenAt, baseOxygens};
-ghost use Rattle.chain.specs.Refusals.{isEther, etherBase};
+ghost use Rattle.chain.specs.Features.{alkenylBond, doubles, located, unlocated, oxygenAt, baseOxygens};
 ghost use Rattle.drawable.specs.Drawn.{bondsIn, groupsIn, ringsIn, noBond, noGroup, noRing, bondRoom, groupRoom, ringRoom, Length, chainOf, groupAt, Draws};
 
 // draw.rt: how far the chain is drawn as it is written
@@ -177,64 +176,6 @@ impl Rings {
             end: 0,
             bridge: Bridge::Epoxide,
         }
-    }
-}
-
-// The first drawn carbon.
-fn first_drawn(role: Role) -> u16
-    ensures { λ r. ⌜ r ≡ firstDrawn role ⌝ }
-{
-    match role {
-        Role::Slot => 1,
-        Role::Acyl => 1,
-        Role::Base => 3,
-    }
-}
-
-// Whether a chain that is no base has no prefix.
-fn is_unprefixed(prefix: ChainPrefix) -> bool
-    ensures { λ r. ⌜ r ≡ isAcyl Slot prefix ⌝ }
-{
-    match prefix {
-        ChainPrefix::Acyl => true,
-        ChainPrefix::EtherAlkyl => false,
-        ChainPrefix::EtherAlkenyl => false,
-        ChainPrefix::SphingoidD => false,
-        ChainPrefix::SphingoidT => false,
-    }
-}
-
-// Whether C1 carries a doubly bonded O.
-pub fn is_acyl(role: Role, prefix: ChainPrefix) -> bool
-    ensures { λ r. ⌜ r ≡ isAcyl role prefix ⌝ }
-{
-    match role {
-        Role::Slot => is_unprefixed(prefix),
-        Role::Acyl => is_unprefixed(prefix),
-        Role::Base => false,
-    }
-}
-
-fn is_ether(prefix: ChainPrefix) -> bool
-    ensures { λ r. ⌜ r ≡ isEther prefix ⌝ }
-{
-    match prefix {
-        ChainPrefix::Acyl => false,
-        ChainPrefix::EtherAlkyl => true,
-        ChainPrefix::EtherAlkenyl => true,
-        ChainPrefix::SphingoidD => false,
-        ChainPrefix::SphingoidT => false,
-    }
-}
-
-// Whether `O-` or `P-` stands on a base.
-fn is_ether_base(role: Role, prefix: ChainPrefix) -> bool
-    ensures { λ r. ⌜ r ≡ etherBase role prefix ⌝ }
-{
-    match role {
-        Role::Slot => false,
-        Role::Acyl => false,
-        Role::Base => is_ether(prefix),
     }
 }
 
@@ -402,9 +343,9 @@ pub fn drawn_as(role: Role, chain: ParsedChain) -> Drawn
 {
     let prefix = chain.prefix;
     let all = written_groups(chain);
-    let first = first_drawn(role);
-    let acyl = is_acyl(role, prefix);
-    let ether_base = is_ether_base(role, prefix);
+    let first = kind::first_drawn(role);
+    let acyl = kind::is_acyl(role, prefix);
+    let ether_base = kind::is_ether_base(role, prefix);
     let bonds = double_bonds(role, chain);
     let groups = drawn_groups(role, prefix, located_groups(all));
     let floats = floating_groups(all);

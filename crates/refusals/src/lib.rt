@@ -3,11 +3,10 @@
 // crates of their own. What each answer is, is said by the definitions of the crate `chain`.
 use chain::Role;
 use drawable::Drawn;
-use record::ChainPrefix;
 use record::ParsedChain;
 ghost use mathlib.Core.Path.{_≡_};
 ghost use mathlib.Core.Bool.{cond};
-ghost use Rattle.chain.specs.Refusals.{isSphingoid, wrongKind, placeRefusal, groupOnCarbonyl, tailTooShort, noSite, drawRefusal};
+ghost use Rattle.chain.specs.Refusals.{wrongKind, placeRefusal, groupOnCarbonyl, tailTooShort, noSite, drawRefusal};
 ghost use Rattle.drawable.specs.Drawn.{chainOf, Says};
 
 // A feature off the drawn chain.
@@ -23,19 +22,6 @@ pub const TAIL_TOO_SHORT: u16 = 14;
 // An unlocated group with no site.
 pub const NO_SITE: u16 = 15;
 
-// d or t.
-fn is_sphingoid(prefix: ChainPrefix) -> bool
-    ensures { λ r. ⌜ r ≡ isSphingoid prefix ⌝ }
-{
-    match prefix {
-        ChainPrefix::Acyl => false,
-        ChainPrefix::EtherAlkyl => false,
-        ChainPrefix::EtherAlkenyl => false,
-        ChainPrefix::SphingoidD => true,
-        ChainPrefix::SphingoidT => true,
-    }
-}
-
 // 22: whether a chain is of the wrong kind for its place. A slot takes any chain but d and t with carbons, an acyl place an acyl chain with
 // carbons, and a base's place any chain of 4 carbons or more.
 pub fn wrong_kind(role: Role, chain: ParsedChain) -> bool
@@ -45,13 +31,13 @@ pub fn wrong_kind(role: Role, chain: ParsedChain) -> bool
     let carbon = chain.carbon;
     match role {
         Role::Slot => {
-            if is_sphingoid(prefix) {
+            if kind::is_sphingoid(prefix) {
                 return carbon > 0;
             }
             false
         }
         Role::Acyl => {
-            if drawable::is_acyl(role, prefix) {
+            if kind::is_acyl(role, prefix) {
                 return carbon == 0;
             }
             true

@@ -1,7 +1,7 @@
 use Rattle.chain.specs.Features.{isAcyl}
 use borrow.Author.Needs.{needs}
-use Rattle.drawable.proofs.is_unprefixed.Statement.{statement}
-use Rattle.drawable.proofs.is_unprefixed.Tie as tie
+use Rattle.kind.proofs.is_unprefixed.Statement.{statement}
+use Rattle.kind.proofs.is_unprefixed.Tie as tie
 
 enum-told : tie.Need-enum-told
 enum-told c = search needs

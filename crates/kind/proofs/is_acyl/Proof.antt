@@ -1,8 +1,8 @@
 use Rattle.chain.specs.Features.{isAcyl}
-use Rattle.drawable.proofs.Drawing.{acyl-slot}
+use Rattle.kind.proofs.Laws.{acyl-slot}
 use borrow.Author.Needs.{needs}
-use Rattle.drawable.proofs.is_acyl.Statement.{statement}
-use Rattle.drawable.proofs.is_acyl.Tie as tie
+use Rattle.kind.proofs.is_acyl.Statement.{statement}
+use Rattle.kind.proofs.is_acyl.Tie as tie
 
 enum-told : tie.Need-enum-told
 enum-told c = search needs
