@@ -1,3 +1,4 @@
 pub mod Answer
 pub mod Call
 pub mod Slots
+pub mod Cases

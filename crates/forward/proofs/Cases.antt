@@ -1,0 +1,51 @@
+-- The starred cases of 01 are met, and FA 4:0 is accepted: so the call's promise is due, and is not empty. Every definition that is computed
+-- is named.
+-- Assumes nothing.
+use mathlib.Core.Path.{_≡_, refl}
+use mathlib.Core.Bool.{true}
+use Rattle.chain.specs.Lists.{allOf}
+use Rattle.scan.specs.Number as scanNumber
+use Rattle.scan.specs.Part as scanPart
+use Rattle.emit.specs.Text as emitText
+use Rattle.groups.specs.Groups as groupsGroups
+use Rattle.record.specs.Chain as recordChain
+use Rattle.form.specs.Form as formForm
+use Rattle.form.specs.Numbers as formNumbers
+use Rattle.form.specs.Parts as formParts
+use Rattle.positions.specs.Each as positionsEach
+use Rattle.positions.specs.Positions as positionsPositions
+use Rattle.features.specs.Features as featuresFeatures
+use Rattle.ring.specs.Ring as ringRing
+use Rattle.segment.specs.Segment as segmentSegment
+use Rattle.opening.specs.Opening as openingOpening
+use Rattle.seats.specs.Seats as seatsSeats
+use Rattle.token.specs.Request as tokenRequest
+use Rattle.token.specs.Token as tokenToken
+use Rattle.chain.specs.Bonds as chainBonds
+use Rattle.chain.specs.Counts as chainCounts
+use Rattle.chain.specs.Drawing as chainDrawing
+use Rattle.chain.specs.Features as chainFeatures
+use Rattle.chain.specs.Lists as chainLists
+use Rattle.chain.specs.Refusals as chainRefusals
+use Rattle.reading.specs.Ascii as readingAscii
+use Rattle.reading.specs.Blocks as readingBlocks
+use Rattle.reading.specs.Chain as readingChain
+use Rattle.reading.specs.Lexer as readingLexer
+use Rattle.reading.specs.Machine as readingMachine
+use Rattle.reading.specs.Molecule as readingMolecule
+use Rattle.reading.specs.Names as readingNames
+use Rattle.reading.specs.Numeral as readingNumeral
+use Rattle.reading.specs.Part as readingPart
+use Rattle.reading.specs.Parting as readingParting
+use Rattle.reading.specs.Piece as readingPiece
+use Rattle.reading.specs.Show as readingShow
+use Rattle.reading.specs.Template as readingTemplate
+use Rattle.tail.specs.Grammar as tailGrammar
+use Rattle.template.specs.Request as templateRequest
+use Rattle.template.specs.Template as templateTemplate
+use Rattle.judge.specs.Verdict as judgeVerdict
+use Rattle.forward.specs.Cases.{oneSum, holds, met, cases}
+
+pub starred : allOf met cases ≡ true
+unfolding met cases holds oneSum scanNumber.afterPlus scanNumber.allDigits scanNumber.checked scanNumber.digitsUpTo scanNumber.isDigit scanNumber.numberUpTo scanNumber.valueFrom scanPart.ending scanPart.endingAfter scanPart.firstByte scanPart.indexOfText scanPart.sameBytes scanPart.startsWith scanPart.trimmed emitText.decimal emitText.digits groupsGroups.aliasRingSize groupsGroups.entries groupsGroups.entryAt groupsGroups.lookupFrom groupsGroups.substituentOf recordChain.countsOf recordChain.withBond recordChain.withGroup recordChain.withOxygens recordChain.withRing recordChain.withUnlocated formForm.afterOpening formForm.beforeClosing formForm.endsInParenthesis formForm.formOf formForm.groupForm formForm.segmentText formForm.spanForm formNumbers.leadingPosition formNumbers.numberOrOne formNumbers.ringCount formNumbers.trimmedNumber formParts.listParts formParts.partsAt positionsEach.each positionsPositions.bondAt positionsPositions.bondList positionsPositions.geometryOf positionsPositions.numbered positionsPositions.positionOf positionsPositions.ringBondAt positionsPositions.ringBondList featuresFeatures.bridgeOf featuresFeatures.featureOf featuresFeatures.itemAt featuresFeatures.listedAs featuresFeatures.oxygenCount featuresFeatures.oxygensIn featuresFeatures.partOf featuresFeatures.repeatedOf featuresFeatures.ringAt featuresFeatures.ringOf ringRing.closedOr11 ringRing.ringBonds ringRing.ringList ringRing.ringListed ringRing.ringSegment ringRing.ringSized segmentSegment.commaParts segmentSegment.copies segmentSegment.listedAt segmentSegment.listedSegment segmentSegment.manyTimes segmentSegment.modification segmentSegment.partAt segmentSegment.plainList segmentSegment.segmentAt segmentSegment.segments openingOpening.beforeDigit openingOpening.branchOf openingOpening.branched openingOpening.carbonsOf openingOpening.openingOf openingOpening.prefixOf openingOpening.sphingoidOf seatsSeats.also seatsSeats.among seatsSeats.firstFree seatsSeats.firstStart seatsSeats.free seatsSeats.positions seatsSeats.seatFrom seatsSeats.seated seatsSeats.seatsFrom tokenRequest.tokensFrom tokenRequest.tokensOf tokenToken.afterCount tokenToken.allPrintable tokenToken.bareOxygens tokenToken.bondsOf tokenToken.countedList tokenToken.listedOf tokenToken.missingOf tokenToken.namedChain tokenToken.printable tokenToken.restOf tokenToken.tokenOf tokenToken.trimmedOf chainBonds.bondAt chainBonds.bondsOf chainBonds.closeMark chainBonds.geometryAt chainBonds.markBond chainBonds.markFrom chainBonds.markOf chainBonds.openMark chainBonds.opensDown chainBonds.plainBond chainBonds.plainBonds chainCounts.copies chainDrawing.atomsEnd chainDrawing.branchPart chainDrawing.branches chainDrawing.carbonAt chainDrawing.carbonAtoms chainDrawing.carbons chainDrawing.carbonyl chainDrawing.chainDrawn chainDrawing.flexible chainDrawing.flexibleAtom chainDrawing.floats chainDrawing.groupsAt chainDrawing.literal chainDrawing.markList chainDrawing.marks chainDrawing.pairs chainDrawing.ringPairs chainDrawing.siteAtoms chainDrawing.siteLists chainDrawing.sites chainDrawing.sums chainDrawing.variables chainFeatures.alkenylBond chainFeatures.baseOxygens chainFeatures.doubles chainFeatures.drawnCount chainFeatures.flexibleCount chainFeatures.floating chainFeatures.groupsOn chainFeatures.isAcyl chainFeatures.literalEnd chainFeatures.located chainFeatures.oxygenAt chainFeatures.pins chainFeatures.prefixEnd chainFeatures.remaining chainFeatures.siteSkip chainFeatures.triolOxygen chainFeatures.unlocated chainLists.allOf chainLists.anyOf chainLists.anyTwo chainLists.isEmpty chainLists.largest chainLists.only chainLists.valuesFrom chainRefusals.clashes chainRefusals.doubleOff chainRefusals.drawRefusal chainRefusals.epoxideOn chainRefusals.groupOff chainRefusals.groupOnCarbonyl chainRefusals.noSite chainRefusals.offChain chainRefusals.pinTooFar chainRefusals.placeRefusal chainRefusals.ringOff chainRefusals.sameBond chainRefusals.sameRing chainRefusals.smallRing chainRefusals.tailTooShort chainRefusals.wrongKind readingAscii.ascii readingBlocks.markOf readingChain.atomFrom readingChain.atomOf readingChain.bridgeEnd readingChain.bridgeLast readingChain.bridgePieces readingChain.bridgeRows readingChain.carbonEnd readingChain.carbonLast readingChain.carbonRows readingChain.chainEnd readingChain.chainLast readingChain.chainPieces readingChain.chainRows readingChain.floatEnd readingChain.floatLast readingChain.floatPieces readingChain.floatRows readingChain.labelsAt readingChain.markPieces readingChain.partPieces readingChain.partRows readingChain.partsEnd readingChain.ringLinks readingLexer.before readingLexer.begin readingLexer.bracketed readingLexer.ended readingLexer.feed readingLexer.lex readingLexer.marks readingLexer.memb readingLexer.onFed readingLexer.organic readingLexer.pairs readingLexer.piecesOf readingLexer.second readingLexer.within readingMachine.among readingMachine.andLabels readingMachine.andThen readingMachine.close readingMachine.found readingMachine.joins readingMachine.label readingMachine.labels readingMachine.lookup readingMachine.placed readingMachine.plainly readingMachine.prepend readingMachine.remove readingMachine.run readingMachine.step readingMachine.whole readingMolecule.before readingMolecule.bondKey readingMolecule.bondsFrom readingMolecule.bondsOf readingMolecule.bondsTo readingMolecule.insert readingMolecule.look readingMolecule.notesOf readingMolecule.setOf readingNames.nameBelow readingNames.nameOf readingNames.small readingNames.variable readingNumeral.leads readingNumeral.number readingNumeral.valueOf readingPart.alone readingPart.hung readingPart.partLexed readingPart.partOf readingPart.partRead readingParting.each readingParting.follows readingParting.joined readingParting.led readingParting.onFirst readingParting.parted readingPiece.show readingPiece.showLabel readingPiece.showLabels readingPiece.showPiece readingShow.blockTexts readingShow.entries readingShow.labelBlock readingShow.labelBlocks readingShow.showBlocks readingShow.showEntry readingShow.showLabel readingShow.showLine readingShow.showMark readingShow.showSites readingShow.showSum readingShow.showSwap readingShow.showTrailer readingShow.swapTexts readingShow.trailerTexts readingShow.upToLast readingTemplate.draw readingTemplate.drawChain readingTemplate.drawPart readingTemplate.itemPieces readingTemplate.nextLabel readingTemplate.templatePieces tailGrammar.atomBegins tailGrammar.bondOrAtom tailGrammar.bonded tailGrammar.bracketOn tailGrammar.branchCloses tailGrammar.branchOpens tailGrammar.clashes tailGrammar.digitOr tailGrammar.done tailGrammar.finished tailGrammar.goesOn tailGrammar.isTail tailGrammar.noneOpen tailGrammar.scan tailGrammar.step tailGrammar.tailAtoms tailGrammar.withDigit templateRequest.allIndices templateRequest.allItems templateRequest.allMarks templateRequest.allSites templateRequest.allSums templateRequest.atomsOfPiece templateRequest.atomsOfPieces templateRequest.bySn templateRequest.chainAt templateRequest.fixedPieces templateRequest.indexOf templateRequest.indicesOf templateRequest.insertBySn templateRequest.itemsOf templateRequest.labels templateRequest.lineOf templateRequest.nonempty templateRequest.placed templateRequest.placedFrom templateRequest.slotOxygen templateRequest.snSites templateRequest.tailPart templateRequest.textOf templateTemplate.classOf templateTemplate.elements templateTemplate.glycerol judgeVerdict.firstOf judgeVerdict.judgeChains judgeVerdict.judgeDrawn judgeVerdict.judgeTokens judgeVerdict.kindRefusal judgeVerdict.orElse judgeVerdict.verdict judgeVerdict.wrongCount judgeVerdict.wrongTail
+starred = refl
