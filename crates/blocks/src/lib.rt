@@ -55,7 +55,7 @@ fn put_chain_marks(out: &mut [u8], next: Next, x: CxFragment, p: Placed) -> Next
     let first = next.first;
     let atom = in_room(p.first) + own.flexible as u32;
     let v = in_room(p.variable);
-    let at = shown::put_marks(out, next.at, first, atom, v, n as u32);
+    let at = marks::put_marks(out, next.at, first, atom, v, n as u32);
     Next {
         at,
         first: still_first(first, n),
@@ -92,7 +92,7 @@ fn put_chain_sum(out: &mut [u8], next: Next, x: CxFragment, p: Placed) -> Next
     let n = chain.unlocated;
     let first = next.first;
     let v = in_room(p.variable);
-    let at = shown::put_sum(out, next.at, first, v, n as u32, x.total as u32);
+    let at = sums::put_sum(out, next.at, first, v, n as u32, x.total as u32);
     Next {
         at,
         first: still_first(first, n),
@@ -133,7 +133,7 @@ fn branch_atoms(row: u8) -> u32
 fn put_float(out: &mut [u8], next: Next, atom: u32, sites: &[u16]) -> Next
     ensures { λ r. ⌜ PutBlocks (showSites (noted atom (now (sites .entry))) ∷ []) (now (out .entry)) next (now (out .exit)) r ⌝ }
 {
-    let at = shown::put_sites(out, next.at, next.first, atom, sites);
+    let at = sites::put_sites(out, next.at, next.first, atom, sites);
     Next { at, first: false }
 }
 
@@ -271,7 +271,7 @@ fn put_labels(out: &mut [u8], at: usize, sites: [Site; MAX_SITES], n: usize) -> 
     requires { ⌜ Digits (take n sites) ⌝ }
     ensures { λ r. ⌜ PutBlocks (labelBlocks (labelsOf (take n sites))) (now (out .entry)) (startAt at) (now (out .exit)) r ⌝ }
 {
-    let next = shown::put_label_block(out, at, true, sites, n);
+    let next = sn::put_label_block(out, at, true, sites, n);
     Next {
         at: next,
         first: n == 0,
@@ -284,7 +284,7 @@ fn put_swaps(out: &mut [u8], at: usize, sites: [Site; MAX_SITES], n: usize) -> N
     requires { ⌜ Digits (take n sites) ⌝ }
     ensures { λ r. ⌜ PutParts (swapTexts (labelsOf (take n sites))) (now (out .entry)) (startAt at) (now (out .exit)) r ⌝ }
 {
-    let next = shown::put_swappable(out, at, true, sites, n);
+    let next = swappable::put_swappable(out, at, true, sites, n);
     Next {
         at: next,
         first: n == 0,

@@ -1,0 +1,146 @@
+// The labels of the sn: the list of entries, `$;;sn2;;;sn1$`. Writers of the kind of `shown`.
+ghost use mathlib.Core.Path.{_≡_};
+ghost use mathlib.Core.List.{map};
+ghost use Prim.Native.Nat.{_+_, _<_, _≤_, min, max};
+ghost use lib.Dec.{ltb};
+ghost use lib.ListN.{take};
+ghost use Rattle.emit.specs.Text.{Written};
+ghost use Rattle.reading.specs.Parting.{joined};
+ghost use Rattle.reading.specs.Molecule.{look};
+ghost use Rattle.reading.specs.Show.{showLabel, showEntry, entries, upToLast, labelBlock, labelBlocks};
+ghost use Rattle.shown.specs.Chained.{shownBlocks, listed};
+ghost use Rattle.shown.specs.Notes.{maxSites, labelsOf, Digits};
+use emit::put_byte;
+use emit::put_text;
+use shown::MAX_SITES;
+use shown::Site;
+use shown::put_block_lead;
+use shown::put_parting;
+
+// A label, `sn` and its digit.
+pub fn put_label(out: &mut [u8], at: usize, sn: u8) -> usize
+    requires { ⌜ sn < 10 ⌝ }
+    ensures { λ r. ⌜ Written (now (out .entry)) at (showLabel sn) (now (out .exit)) r ⌝ }
+{
+    let p = put_text(out, at, b"sn");
+    put_byte(out, p, 48 + sn)
+}
+
+// How many of the sites count: a larger number stands for all of them.
+pub fn counted(count: usize) -> usize
+    ensures { λ r. ⌜ r ≡ min count maxSites ⌝ }
+{
+    if count < MAX_SITES { count } else { MAX_SITES }
+}
+
+// How many atoms there are up to this one.
+fn past(atom: u32) -> usize
+    ensures { λ r. ⌜ r ≡ atom + 1 ⌝ }
+{
+    atom as usize + 1
+}
+
+fn larger(a: usize, b: usize) -> usize
+    ensures { λ r. ⌜ r ≡ max a b ⌝ }
+{
+    if a < b { b } else { a }
+}
+
+// How many atoms there are up to the last with a label.
+fn label_end(sites: [Site; MAX_SITES], count: usize) -> usize
+    requires { ⌜ count ≤ maxSites ⌝ }
+    ensures { λ r. ⌜ r ≡ upToLast (labelsOf (take count sites)) ⌝ }
+{
+    let mut end = 0;
+    let mut i = 0;
+    while i < count {
+        let site = sites[i];
+        end = larger(end, past(site.atom));
+        i += 1;
+    }
+    end
+}
+
+// The label of an atom, if it has one.
+fn put_entry(
+    out: &mut [u8],
+    at: usize,
+    sites: [Site; MAX_SITES],
+    count: usize,
+    atom: usize,
+) -> usize
+    requires { ⌜ count ≤ maxSites ⌝ }
+    requires { ⌜ Digits (take count sites) ⌝ }
+    ensures { λ r. ⌜ Written (now (out .entry)) at (showEntry (look atom (labelsOf (take count sites)))) (now (out .exit)) r ⌝ }
+{
+    let mut i = 0;
+    while i < count {
+        let site = sites[i];
+        if site.atom as usize == atom {
+            return put_label(out, at, site.sn);
+        }
+        i += 1;
+    }
+    at
+}
+
+// An entry of the list of labels.
+fn put_next_entry(
+    out: &mut [u8],
+    at: usize,
+    sites: [Site; MAX_SITES],
+    count: usize,
+    atom: usize,
+) -> usize
+    requires { ⌜ count ≤ maxSites ⌝ }
+    requires { ⌜ Digits (take count sites) ⌝ }
+    ensures { λ r. ⌜ Written (now (out .entry)) at (listed (ltb 0 atom) 59 (showEntry (look atom (labelsOf (take count sites))))) (now (out .exit)) r ⌝ }
+{
+    let p = put_parting(out, at, 0 < atom, b';');
+    put_entry(out, p, sites, count, atom)
+}
+
+// The entries of the atoms below n.
+fn put_entries(out: &mut [u8], at: usize, sites: [Site; MAX_SITES], count: usize, n: usize) -> usize
+    requires { ⌜ count ≤ maxSites ⌝ }
+    requires { ⌜ Digits (take count sites) ⌝ }
+    ensures { λ r. ⌜ Written (now (out .entry)) at (joined 59 (map showEntry (entries n 0 (labelsOf (take count sites))))) (now (out .exit)) r ⌝ }
+{
+    let mut p = at;
+    let mut atom = 0;
+    while atom < n {
+        p = put_next_entry(out, p, sites, count, atom);
+        atom += 1;
+    }
+    p
+}
+
+fn put_label_text(out: &mut [u8], at: usize, sites: [Site; MAX_SITES], count: usize) -> usize
+    requires { ⌜ count ≤ maxSites ⌝ }
+    requires { ⌜ Digits (take count sites) ⌝ }
+    ensures { λ r. ⌜ Written (now (out .entry)) at (labelBlock (labelsOf (take count sites))) (now (out .exit)) r ⌝ }
+{
+    let n = label_end(sites, count);
+    let p = put_byte(out, at, b'$');
+    let q = put_entries(out, p, sites, count, n);
+    put_byte(out, q, b'$')
+}
+
+// The labels of the first `count` sites at their atoms, where there are some. One pass over the atoms up to the last with a label.
+pub fn put_label_block(
+    out: &mut [u8],
+    at: usize,
+    first: bool,
+    sites: [Site; MAX_SITES],
+    count: usize,
+) -> usize
+    requires { ⌜ Digits (take count sites) ⌝ }
+    ensures { λ r. ⌜ Written (now (out .entry)) at (shownBlocks first (labelBlocks (labelsOf (take count sites)))) (now (out .exit)) r ⌝ }
+{
+    let n = counted(count);
+    if n == 0 {
+        return at;
+    }
+    let p = put_block_lead(out, at, first);
+    put_label_text(out, p, sites, n)
+}

@@ -1,0 +1,71 @@
+// The labels that may be exchanged: `swappable(sn1,sn2)`. Writers of the kind of `shown`.
+ghost use mathlib.Core.List.{map};
+ghost use Prim.Native.Nat.{_<_, _≤_};
+ghost use lib.ListN.{take};
+ghost use Rattle.emit.specs.Text.{Written};
+ghost use Rattle.reading.specs.Parting.{joined};
+ghost use Rattle.reading.specs.Molecule.{notesOf};
+ghost use Rattle.reading.specs.Show.{showLabel, showSwap, swapTexts};
+ghost use Rattle.shown.specs.Chained.{shownParts, listed};
+ghost use Rattle.shown.specs.Notes.{maxSites, labelsOf, Digits};
+use emit::put_byte;
+use emit::put_text;
+use shown::MAX_SITES;
+use shown::Site;
+use shown::put_part_lead;
+use shown::put_parting;
+use sn::counted;
+use sn::put_label;
+
+// A label of the list of labels that may be exchanged.
+fn put_next_label(out: &mut [u8], at: usize, more: bool, sn: u8) -> usize
+    requires { ⌜ sn < 10 ⌝ }
+    ensures { λ r. ⌜ Written (now (out .entry)) at (listed more 44 (showLabel sn)) (now (out .exit)) r ⌝ }
+{
+    let p = put_parting(out, at, more, b',');
+    put_label(out, p, sn)
+}
+
+fn put_labels(out: &mut [u8], at: usize, sites: [Site; MAX_SITES], count: usize) -> usize
+    requires { ⌜ count ≤ maxSites ⌝ }
+    requires { ⌜ Digits (take count sites) ⌝ }
+    ensures { λ r. ⌜ Written (now (out .entry)) at (joined 44 (map showLabel (notesOf (labelsOf (take count sites))))) (now (out .exit)) r ⌝ }
+{
+    let mut p = at;
+    let mut i = 0;
+    while i < count {
+        let site = sites[i];
+        p = put_next_label(out, p, 0 < i, site.sn);
+        i += 1;
+    }
+    p
+}
+
+fn put_swap_text(out: &mut [u8], at: usize, sites: [Site; MAX_SITES], count: usize) -> usize
+    requires { ⌜ count ≤ maxSites ⌝ }
+    requires { ⌜ Digits (take count sites) ⌝ }
+    ensures { λ r. ⌜ Written (now (out .entry)) at (showSwap (notesOf (labelsOf (take count sites)))) (now (out .exit)) r ⌝ }
+{
+    let p = put_text(out, at, b"swappable(");
+    let q = put_labels(out, p, sites, count);
+    put_byte(out, q, b')')
+}
+
+// The labels of the first `count` sites as those that may be exchanged, where there are some.
+pub fn put_swappable(
+    out: &mut [u8],
+    at: usize,
+    first: bool,
+    sites: [Site; MAX_SITES],
+    count: usize,
+) -> usize
+    requires { ⌜ Digits (take count sites) ⌝ }
+    ensures { λ r. ⌜ Written (now (out .entry)) at (shownParts first (swapTexts (labelsOf (take count sites)))) (now (out .exit)) r ⌝ }
+{
+    let n = counted(count);
+    if n == 0 {
+        return at;
+    }
+    let p = put_part_lead(out, at, first);
+    put_swap_text(out, p, sites, n)
+}
