@@ -14,6 +14,7 @@ use Rattle.chain.specs.declared.Role.the-variants.{Acyl, Base}
 use Rattle.template.specs.declared.Class.{Class}
 use Rattle.template.specs.declared.Class.the-variants.{Fa, Gl1, Gl2, Gl3, Gp, Cl, Sb, Sa}
 use Rattle.template.specs.Template.{classOf, roleOf}
+use Rattle.class.specs.Class.{laterClass}
 
 pub first-base : (sn : ℕ) → sn ≡ 1 → Base ≡ roleOf Sa sn
 first-base sn e = rw (eq-eqb sn 1 e)
@@ -44,26 +45,30 @@ module _ (s : List ℕ) (a₁ : Bool) (e₁ : a₁ ≡ sameBytes s (70 ∷ 65 �
         unfolding classOf ascii
         is-gl3 t = rw (sym e₁ ∙ n₁, sym e₂ ∙ n₂, sym e₃ ∙ n₃, sym e₄ ∙ t)
 
-        module _ (n₄ : a₄ ≡ false) (a₅ : Bool) (e₅ : a₅ ≡ sameBytes s (71 ∷ 80 ∷ [])) where
-          pub is-gp : a₅ ≡ true → some Gp ≡ classOf s
-          unfolding classOf ascii
-          is-gp t = rw (sym e₁ ∙ n₁, sym e₂ ∙ n₂, sym e₃ ∙ n₃, sym e₄ ∙ n₄, sym e₅ ∙ t)
+        pub is-later : (r : Option Class) → a₄ ≡ false → r ≡ laterClass s → r ≡ classOf s
+        unfolding classOf laterClass ascii
+        is-later r t e = rw (sym e₁ ∙ n₁, sym e₂ ∙ n₂, sym e₃ ∙ n₃, sym e₄ ∙ t) e
 
-          module _ (n₅ : a₅ ≡ false) (a₆ : Bool) (e₆ : a₆ ≡ sameBytes s (67 ∷ 76 ∷ [])) where
-            pub is-cl : a₆ ≡ true → some Cl ≡ classOf s
-            unfolding classOf ascii
-            is-cl t = rw (sym e₁ ∙ n₁, sym e₂ ∙ n₂, sym e₃ ∙ n₃, sym e₄ ∙ n₄, sym e₅ ∙ n₅, sym e₆ ∙ t)
+module _ (s : List ℕ) (a₅ : Bool) (e₅ : a₅ ≡ sameBytes s (71 ∷ 80 ∷ [])) where
+  pub is-gp : a₅ ≡ true → some Gp ≡ laterClass s
+  unfolding laterClass ascii
+  is-gp t = rw (sym e₅ ∙ t)
 
-            module _ (n₆ : a₆ ≡ false) (a₇ : Bool) (e₇ : a₇ ≡ sameBytes s (83 ∷ 66 ∷ [])) where
-              pub is-sb : a₇ ≡ true → some Sb ≡ classOf s
-              unfolding classOf ascii
-              is-sb t = rw (sym e₁ ∙ n₁, sym e₂ ∙ n₂, sym e₃ ∙ n₃, sym e₄ ∙ n₄, sym e₅ ∙ n₅, sym e₆ ∙ n₆, sym e₇ ∙ t)
+  module _ (n₅ : a₅ ≡ false) (a₆ : Bool) (e₆ : a₆ ≡ sameBytes s (67 ∷ 76 ∷ [])) where
+    pub is-cl : a₆ ≡ true → some Cl ≡ laterClass s
+    unfolding laterClass ascii
+    is-cl t = rw (sym e₅ ∙ n₅, sym e₆ ∙ t)
 
-              module _ (n₇ : a₇ ≡ false) (a₈ : Bool) (e₈ : a₈ ≡ sameBytes s (83 ∷ 65 ∷ [])) where
-                pub is-sa : a₈ ≡ true → some Sa ≡ classOf s
-                unfolding classOf ascii
-                is-sa t = rw (sym e₁ ∙ n₁, sym e₂ ∙ n₂, sym e₃ ∙ n₃, sym e₄ ∙ n₄, sym e₅ ∙ n₅, sym e₆ ∙ n₆, sym e₇ ∙ n₇, sym e₈ ∙ t)
+    module _ (n₆ : a₆ ≡ false) (a₇ : Bool) (e₇ : a₇ ≡ sameBytes s (83 ∷ 66 ∷ [])) where
+      pub is-sb : a₇ ≡ true → some Sb ≡ laterClass s
+      unfolding laterClass ascii
+      is-sb t = rw (sym e₅ ∙ n₅, sym e₆ ∙ n₆, sym e₇ ∙ t)
 
-                pub is-none : a₈ ≡ false → none ≡ classOf s
-                unfolding classOf ascii
-                is-none t = rw (sym e₁ ∙ n₁, sym e₂ ∙ n₂, sym e₃ ∙ n₃, sym e₄ ∙ n₄, sym e₅ ∙ n₅, sym e₆ ∙ n₆, sym e₇ ∙ n₇, sym e₈ ∙ t)
+      module _ (n₇ : a₇ ≡ false) (a₈ : Bool) (e₈ : a₈ ≡ sameBytes s (83 ∷ 65 ∷ [])) where
+        pub is-sa : a₈ ≡ true → some Sa ≡ laterClass s
+        unfolding laterClass ascii
+        is-sa t = rw (sym e₅ ∙ n₅, sym e₆ ∙ n₆, sym e₇ ∙ n₇, sym e₈ ∙ t)
+
+        pub is-none : a₈ ≡ false → none ≡ laterClass s
+        unfolding laterClass ascii
+        is-none t = rw (sym e₅ ∙ n₅, sym e₆ ∙ n₆, sym e₇ ∙ n₇, sym e₈ ∙ t)

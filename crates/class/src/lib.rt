@@ -5,7 +5,7 @@ use template::Class;
 ghost use mathlib.Core.Path.{_≡_};
 ghost use Rattle.template.specs.Template.{classOf, fewest as fewestOf, most as mostOf, roleOf, hasTail};
 ghost use Rattle.template.specs.declared.Class.the-variants.{Sa};
-ghost use Rattle.class.specs.Class.{read};
+ghost use Rattle.class.specs.Class.{read, laterClass};
 
 // A class code as it was read.
 pub enum Code {
@@ -29,6 +29,13 @@ pub fn class_of(s: &[u8]) -> Code
     if scan::same(s, b"GL3") {
         return Code::Known(Class::Gl3);
     }
+    later_class(s)
+}
+
+// The class with a code of a phospholipid or a sphingolipid.
+fn later_class(s: &[u8]) -> Code
+    ensures { λ r. ⌜ read r ≡ laterClass (now (s .entry)) ⌝ }
+{
     if scan::same(s, b"GP") {
         return Code::Known(Class::Gp);
     }
