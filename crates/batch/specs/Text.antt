@@ -1,0 +1,36 @@
+-- What the batch program prints, as bytes. 01, Batch program: "Out come the header line shown below, then per row: answer, token, line,
+-- chains as sn:indices (dots, `;` between chains)." Bytes: tab 9, LF 10, dot 46, `:` 58, `;` 59. Assumes nothing.
+use Prim.Native.Nat.{ℕ}
+use mathlib.Core.List.{List, [], _∷_, _++_, map}
+use Rattle.emit.specs.Text.{decimal}
+use Rattle.reading.specs.Ascii.{ascii}
+use Rattle.reading.specs.Parting.{joined}
+
+-- a text and the byte after it
+unfoldable pub ended : List ℕ → ℕ → List ℕ
+ended text b = text ++ b ∷ []
+
+-- parts with a tab between each two, and LF at the end
+unfoldable pub tabbed : List (List ℕ) → List ℕ
+tabbed parts = ended (joined 9 parts) 10
+
+-- the header line
+unfoldable pub titles : List ℕ
+titles = tabbed (ascii "answer" ∷ ascii "at" ∷ ascii "line" ∷ ascii "carbons" ∷ [])
+
+-- the carbons of a chain: its sn, and their indices from C1 on
+pub record Carbons : Type 0 where
+  pub sn : ℕ
+  pub indices : List ℕ
+
+-- "sn:indices (dots"
+unfoldable pub chainText : Carbons → List ℕ
+chainText c = decimal (c .sn) ++ 58 ∷ joined 46 (map decimal (c .indices))
+
+-- "`;` between chains"
+unfoldable pub chainsText : List Carbons → List ℕ
+chainsText cs = joined 59 (map chainText cs)
+
+-- "per row: answer, token, line, chains"
+unfoldable pub rowText : ℕ → ℕ → List ℕ → List Carbons → List ℕ
+rowText answer token line cs = tabbed (decimal answer ∷ decimal token ∷ line ∷ chainsText cs ∷ [])
