@@ -3,13 +3,16 @@
 // specs/Counts.antt.
 ghost use mathlib.Core.Path.{_≡_};
 ghost use mathlib.Core.List.{map};
+ghost use Prim.Native.Nat.{min};
+ghost use lib.ListN.{length, take};
 ghost use Rattle.emit.specs.Text.{Written, after, decimal};
 ghost use Rattle.reading.specs.Parting.{joined};
 ghost use Rattle.shown.specs.Chained.{parting, listed};
-ghost use Rattle.batch.specs.Text.{ended, titles, chainText};
+ghost use Rattle.batch.specs.Text.{ended, titles, chainText, chainsText, carbonsOf, headText, rowText};
 ghost use Rattle.batch.specs.Counts.{noTimes, withAnswer, countLine, countLines};
 use emit::put_byte;
 use emit::put_text;
+use listing::Lists;
 
 // The decimal digits of n, most significant first, with no leading zero.
 fn put_decimal(out: &mut [u8], at: usize, n: u64) -> usize
@@ -77,6 +80,36 @@ fn put_next_chain(out: &mut [u8], at: usize, more: bool, sn: u8, indices: &[u16]
     put_chain(out, p, sn, indices)
 }
 
+// How many of a chain's indices there are.
+fn within(count: u16, indices: &[u16]) -> usize
+    ensures { λ r. ⌜ r ≡ min count (length (now (indices .entry))) ⌝ }
+{
+    let n = count as usize;
+    if n < indices.len() {
+        return n;
+    }
+    indices.len()
+}
+
+// The listed chains, whose indices stand end to end.
+fn put_chains(out: &mut [u8], at: usize, lists: Lists, index: &[u16]) -> usize
+    ensures { λ r. ⌜ Written (now (out .entry)) at (chainsText (carbonsOf (take (lists .count) (lists .items)) (now (index .entry)))) (now (out .exit)) r ⌝ }
+{
+    let n = placed::in_places(lists.count);
+    let items = lists.items;
+    let mut t = index;
+    let mut p = at;
+    let mut i = 0;
+    while i < n {
+        let list = items[i];
+        let k = within(list.count, t);
+        p = put_next_chain(out, p, 0 < i, list.sn, &t[0..k]);
+        t = &t[k..];
+        i += 1;
+    }
+    p
+}
+
 // A number and a tab.
 fn put_number_cell(out: &mut [u8], at: usize, n: u64) -> usize
     ensures { λ r. ⌜ Written (now (out .entry)) at (ended (decimal n) 9) (now (out .exit)) r ⌝ }
@@ -91,6 +124,32 @@ fn put_text_cell(out: &mut [u8], at: usize, text: &[u8]) -> usize
 {
     let p = put_text(out, at, text);
     put_byte(out, p, b'\t')
+}
+
+// The answer and the token's place.
+fn put_head(out: &mut [u8], at: usize, answer: u16, token: usize) -> usize
+    ensures { λ r. ⌜ Written (now (out .entry)) at (headText answer token) (now (out .exit)) r ⌝ }
+{
+    let p = put_number_cell(out, at, answer as u64);
+    put_number_cell(out, p, token as u64)
+}
+
+// A row of the output.
+fn put_row(
+    out: &mut [u8],
+    at: usize,
+    answer: u16,
+    token: usize,
+    line: &[u8],
+    lists: Lists,
+    index: &[u16],
+) -> usize
+    ensures { λ r. ⌜ Written (now (out .entry)) at (rowText answer token (now (line .entry)) (carbonsOf (take (lists .count) (lists .items)) (now (index .entry)))) (now (out .exit)) r ⌝ }
+{
+    let p = put_head(out, at, answer, token);
+    let q = put_text_cell(out, p, line);
+    let r = put_chains(out, q, lists, index);
+    put_byte(out, r, b'\n')
 }
 
 // The answers, which are numbers from 0 to 42.
