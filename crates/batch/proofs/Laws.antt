@@ -20,8 +20,13 @@ use Rattle.scan.proofs.Laws.{to-end}
 use Rattle.shown.specs.Chained.{listed}
 use Rattle.shown.proofs.Laws.{part-more}
 use Rattle.listing.specs.declared.Listed.{Listed}
+use Rattle.batch.specs.declared.Counts.{Counts}
+use Rattle.batch.specs.declared.Stage.the-variants.{Header}
+use Rattle.batch.specs.declared.Batch.{Batch}
+use Rattle.sheet.specs.Sheet.{noPlan}
+use Rattle.batch.specs.Batch.{noBatch}
 use Rattle.batch.specs.Text.{ended, tabbed, titles, Carbons, chainText, chainsText, carbonsOf, headText, rowText}
-use Rattle.batch.specs.Counts.{withAnswer, countLine, countLinesFrom, countLines}
+use Rattle.batch.specs.Counts.{counting, noTimes, withAnswer, countLine, countLinesFrom, countLines}
 
 -- ---- texts
 
@@ -65,7 +70,7 @@ carbons-length [] index = refl
 carbons-length (l ∷ ls) index = ap suc (carbons-length ls (drop (l .count) index))
 
 module _ (t : List ℕ) (n k : ℕ) (e : k ≡ min n (length t)) where
-  part-taken : take (k - 0) t ≡ take n t
+  pub part-taken : take (k - 0) t ≡ take n t
   part-taken = rw sub-zero (go (decLe n (length t)))
     where
       go : Dec (n ≤ length t) → take k t ≡ take n t
@@ -131,10 +136,10 @@ row-text answer token line cs g w u v t =
 
 -- ---- counts
 
-pub count-past : (times : List ℕ) (n : ℕ) → 43 ≤ n → length times ≡ 43 → times ≡ withAnswer times n
-count-past times n h l = sym (set-out times n _ (omega arith))
+pub count-past : (c : Counts) (n : ℕ) → 43 ≤ n → length (c .times) ≡ 43 → c ≡ counting (withAnswer (c .times) n)
+count-past c n h l = ap counting (sym (set-out (c .times) n _ (omega arith)))
 
-pub count-more : (times : List ℕ) (n k : ℕ) → k ≡ after (getD times n 0) 1 → set times n k ≡ withAnswer times n
+pub count-more : (times : List ℕ) (n k : ℕ) → k ≡ after (getD times n 0) 1 → counting (set times n k) ≡ counting (withAnswer times n)
 count-more times n k e = rw e
 
 pub count-none : (n times : ℕ) (xs : List ℕ) (a : ℕ) → times ≡ 0 → a < 2 ^ 64 → Written xs a (countLine n times) xs a
@@ -162,3 +167,6 @@ pub lines-all : {xs ys : List ℕ} {a p : ℕ} (times : List ℕ) (n : ℕ) → 
     → Written xs a (countLines times) ys p
 unfolding countLines
 lines-all times n l h w = rw (take-all n times (omega arith)) at w
+
+pub new-batch : (c : Counts) → c ≡ counting noTimes → _≡_ {A = Batch} (record { stage = Header; plan = noPlan; counts = c }) noBatch
+new-batch c e = ap (λ (d : Counts). record { stage = Header; plan = noPlan; counts = d }) e

@@ -8,6 +8,7 @@ use lib.ListN.{length, getD, set, replicate}
 use lib.Dec.{eqb}
 use Rattle.emit.specs.Text.{decimal, after}
 use Rattle.reading.specs.Ascii.{ascii}
+use Rattle.batch.specs.declared.Counts.{Counts}
 use Rattle.batch.specs.Text.{tabbed}
 
 -- the answers, with the largest
@@ -17,6 +18,9 @@ answers = 43
 -- no answer met
 abbrev pub noTimes : List ℕ
 noTimes = replicate answers 0
+
+abbrev pub counting : List ℕ → Counts
+counting times = record { times = times }
 
 -- one more answer n; the times stay at the largest number that a `u64` holds
 abbrev pub withAnswer : List ℕ → ℕ → List ℕ

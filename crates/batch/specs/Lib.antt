@@ -1,2 +1,4 @@
 pub mod Text
 pub mod Counts
+pub mod Reply
+pub mod Batch

@@ -9,10 +9,18 @@ ghost use Rattle.emit.specs.Text.{Written, after, decimal};
 ghost use Rattle.reading.specs.Parting.{joined};
 ghost use Rattle.shown.specs.Chained.{parting, listed};
 ghost use Rattle.batch.specs.Text.{ended, titles, chainText, chainsText, carbonsOf, headText, rowText};
-ghost use Rattle.batch.specs.Counts.{noTimes, withAnswer, countLine, countLines};
+ghost use Rattle.judge.specs.Verdict.{verdict};
+ghost use Rattle.forward.specs.Call.{Called};
+ghost use Rattle.sheet.specs.Sheet.{cellOf, snCells, requestOf};
+ghost use Rattle.batch.specs.Reply.{answerText, UnreadableWritten, RowAnswered};
+ghost use Rattle.batch.specs.declared.Stage.the-variants.{Rows};
+ghost use Rattle.batch.specs.Batch.{noBatch, heldAfter, before, staged, Holds, HeaderAnswered, LinesAnswered};
+ghost use Rattle.batch.specs.Counts.{counting, noTimes, withAnswer, countLine, countLines};
 use emit::put_byte;
 use emit::put_text;
+use forward::Answer;
 use listing::Lists;
+use sheet::Plan;
 
 // The decimal digits of n, most significant first, with no leading zero.
 fn put_decimal(out: &mut [u8], at: usize, n: u64) -> usize
@@ -152,6 +160,97 @@ fn put_row(
     put_byte(out, r, b'\n')
 }
 
+// How much of the line slice is the line.
+fn in_line(size: usize, line: &[u8]) -> usize
+    ensures { λ r. ⌜ r ≡ min size (length (now (line .entry))) ⌝ }
+{
+    if size < line.len() {
+        return size;
+    }
+    line.len()
+}
+
+// A row of the output, from an answer and the slices with its line and its indices.
+fn put_answer(out: &mut [u8], at: usize, answer: Answer, line: &[u8], index: &[u16]) -> usize
+    ensures { λ r. ⌜ Written (now (out .entry)) at (answerText answer (now (line .entry)) (now (index .entry))) (now (out .exit)) r ⌝ }
+{
+    let n = in_line(answer.length, line);
+    let lists = answer.lists;
+    put_row(
+        out,
+        at,
+        answer.number,
+        answer.token,
+        &line[0..n],
+        lists,
+        index,
+    )
+}
+
+// The answer to a row that is unreadable.
+pub const UNREADABLE_ROW: u16 = 42;
+
+// An answer that was written: its number, and the place after its row.
+pub struct Answered {
+    pub number: u16,
+    pub next: usize,
+}
+
+// The row of an unreadable row.
+fn put_unreadable(out: &mut [u8], at: usize) -> Answered
+    ensures { λ r. ⌜ UnreadableWritten (now (out .entry)) at (now (out .exit)) r ⌝ }
+{
+    let p = put_head(out, at, UNREADABLE_ROW, 0);
+    let next = put_text(out, p, b"\t\n");
+    Answered {
+        number: UNREADABLE_ROW,
+        next,
+    }
+}
+
+// A row that is readable, drawn.
+fn draw_row(
+    plan: Plan,
+    row: &[u8],
+    swap: bool,
+    count: usize,
+    line: &mut [u8],
+    index: &mut [u16],
+) -> Answer
+    ensures { λ r. ⌜ Called (verdict (cellOf plan 0 (now (row .entry))) (cellOf plan 2 (now (row .entry))) count (take count (snCells plan (now (row .entry))))) swap (cellOf plan 2 (now (row .entry))) (now (line .entry)) (now (index .entry)) (now (line .exit)) (now (index .exit)) r ⌝ }
+{
+    let class = sheet::cell(plan, row, sheet::CLASS);
+    let tail = sheet::cell(plan, row, sheet::TAIL);
+    let sn1 = sheet::cell(plan, row, sheet::SN1);
+    let sn2 = sheet::cell(plan, row, sheet::SN2);
+    let sn3 = sheet::cell(plan, row, sheet::SN3);
+    let sn4 = sheet::cell(plan, row, sheet::SN4);
+    forward::draw(class, swap, tail, count, sn1, sn2, sn3, sn4, line, index)
+}
+
+// A row of the sheet: its answer, written at a place of the output.
+pub fn answer_row(
+    plan: Plan,
+    row: &[u8],
+    line: &mut [u8],
+    index: &mut [u16],
+    out: &mut [u8],
+    at: usize,
+) -> Answered
+    ensures { λ r. ⌜ RowAnswered (requestOf plan (now (row .entry))) (now (line .entry)) (now (index .entry)) (now (out .entry)) at (now (line .exit)) (now (index .exit)) (now (out .exit)) r ⌝ }
+{
+    let asked = sheet::read_row(plan, row);
+    if !asked.readable {
+        return put_unreadable(out, at);
+    }
+    let answer = draw_row(plan, row, asked.swap, asked.count, line, index);
+    let next = put_answer(out, at, answer, line, index);
+    Answered {
+        number: answer.number,
+        next,
+    }
+}
+
 // The answers, which are numbers from 0 to 42.
 pub const ANSWERS: usize = 43;
 
@@ -169,7 +268,7 @@ pub struct Counts {
 
 impl Counts {
     pub fn new() -> Counts
-        ensures { λ r. ⌜ r .times ≡ noTimes ⌝ }
+        ensures { λ r. ⌜ r ≡ counting noTimes ⌝ }
     {
         let times = [0u64; ANSWERS];
         Counts { times }
@@ -177,7 +276,7 @@ impl Counts {
 
     // One more answer.
     pub fn count(mut self, answer: u16) -> Counts
-        ensures { λ r. ⌜ r .times ≡ withAnswer (self .times) answer ⌝ }
+        ensures { λ r. ⌜ r ≡ counting (withAnswer (self .times) answer) ⌝ }
     {
         let at = answer as usize;
         if ANSWERS <= at {
@@ -214,4 +313,165 @@ pub fn put_count_lines(out: &mut [u8], at: usize, counts: Counts) -> usize
         answer += 1;
     }
     p
+}
+
+// Where a sheet is: before its header, among its rows, or after a header that ends the batch.
+pub enum Stage {
+    Header,
+    Rows,
+    Over,
+}
+
+// A batch between two lines.
+pub struct Batch {
+    pub stage: Stage,
+    pub plan: Plan,
+    pub counts: Counts,
+}
+
+impl Batch {
+    pub fn new() -> Batch
+        ensures { λ r. ⌜ r ≡ noBatch ⌝ }
+    {
+        let places = [0usize; sheet::COLUMNS];
+        let plan = Plan {
+            readable: false,
+            cells: 0,
+            places,
+        };
+        let counts = Counts::new();
+        Batch {
+            stage: Stage::Header,
+            plan,
+            counts,
+        }
+    }
+}
+
+// A batch after a line, and the place after what was written.
+pub struct Lined {
+    pub batch: Batch,
+    pub next: usize,
+}
+
+// A batch after some lines, how much of their text they are, the place after what was written, and whether no LF is left in the text.
+pub struct Lines {
+    pub batch: Batch,
+    pub used: usize,
+    pub next: usize,
+    pub whole: bool,
+}
+
+// The header of the sheet.
+fn answer_header(batch: Batch, header: &[u8], out: &mut [u8], at: usize) -> Lined
+    ensures { λ r. ⌜ HeaderAnswered batch (now (header .entry)) (now (out .entry)) at (now (out .exit)) r ⌝ }
+{
+    let plan = sheet::plan_of(header);
+    let counts = batch.counts;
+    if plan.readable {
+        let next = Batch {
+            stage: Stage::Rows,
+            plan,
+            counts,
+        };
+        return Lined {
+            batch: next,
+            next: at,
+        };
+    }
+    let answered = put_unreadable(out, at);
+    let counted = counts.count(answered.number);
+    let next = Batch {
+        stage: Stage::Over,
+        plan,
+        counts: counted,
+    };
+    Lined {
+        batch: next,
+        next: answered.next,
+    }
+}
+
+// A row, answered and counted.
+fn count_row(
+    batch: Batch,
+    row: &[u8],
+    line: &mut [u8],
+    index: &mut [u16],
+    out: &mut [u8],
+    at: usize,
+) -> Lined
+    ensures { λ r. ⌜ Holds (now (out .entry)) at (heldAfter (before (staged Rows batch) (now (line .entry)) (now (index .entry))) (now (row .entry))) (r .batch) (now (line .exit)) (now (index .exit)) (now (out .exit)) (r .next) ⌝ }
+{
+    let plan = batch.plan;
+    let counts = batch.counts;
+    let answered = answer_row(plan, row, line, index, out, at);
+    let counted = counts.count(answered.number);
+    let next = Batch {
+        stage: Stage::Rows,
+        plan,
+        counts: counted,
+    };
+    Lined {
+        batch: next,
+        next: answered.next,
+    }
+}
+
+// A line of the sheet, without its LF.
+pub fn answer_line(
+    batch: Batch,
+    text: &[u8],
+    line: &mut [u8],
+    index: &mut [u16],
+    out: &mut [u8],
+    at: usize,
+) -> Lined
+    ensures { λ r. ⌜ Holds (now (out .entry)) at (heldAfter (before batch (now (line .entry)) (now (index .entry))) (now (text .entry))) (r .batch) (now (line .exit)) (now (index .exit)) (now (out .exit)) (r .next) ⌝ }
+{
+    let stage = batch.stage;
+    match stage {
+        Stage::Header => answer_header(batch, text, out, at),
+        Stage::Rows => count_row(batch, text, line, index, out, at),
+        Stage::Over => Lined { batch, next: at },
+    }
+}
+
+// The lines of a text that end in LF, one by one, until what is written passes a limit.
+pub fn answer_lines(
+    batch: Batch,
+    text: &[u8],
+    line: &mut [u8],
+    index: &mut [u16],
+    out: &mut [u8],
+    at: usize,
+    limit: usize,
+) -> Lines
+    ensures { λ r. ⌜ LinesAnswered batch (now (text .entry)) (now (line .entry)) (now (index .entry)) (now (out .entry)) at limit (now (line .exit)) (now (index .exit)) (now (out .exit)) r ⌝ }
+{
+    let mut b = batch;
+    let mut t = text;
+    let mut p = at;
+    while p <= limit {
+        let n = scan::find(t, b'\n');
+        if n == t.len() {
+            return Lines {
+                batch: b,
+                used: text.len() - t.len(),
+                next: p,
+                whole: true,
+            };
+        }
+        let lined = answer_line(b, &t[0..n], line, index, out, p);
+        let after = lined.batch;
+        b = after;
+        p = lined.next;
+        t = &t[n + 1..];
+    }
+    Lines {
+        batch: b,
+        used: text.len() - t.len(),
+        next: p,
+        whole: false,
+    }
 }

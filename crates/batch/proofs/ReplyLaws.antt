@@ -1,0 +1,113 @@
+-- Laws of the answer to a row: what is written of an answer of the call is the reply to the row.
+-- Assumes nothing.
+use Prim.Native.Nat.{ℕ, zero, suc, _+_, _-_, _^_, _≤_, _<_, min}
+use native.Mathlib.Omega.{arith}
+use mathlib.Core.Path.{_≡_, refl, sym, ap, _∙_, subst}
+use mathlib.Core.Bool.{Bool, true, false, cond, not}
+use mathlib.Core.List.{List, [], _∷_, _++_, map, append-assoc, append-nil}
+use lib.ListN.{length, take, drop, replicate, length-map}
+use lib.Seq.{take-take, take-append-seam, drop-append-seam}
+use lib.Dec.{leb}
+use Rattle.emit.specs.Text.{Written, decimal}
+use Rattle.emit.proofs.Laws.{written-append}
+use Rattle.reading.specs.Parting.{joined, led}
+use Rattle.record.specs.Chain.{Chain}
+use Rattle.template.specs.declared.Class.{Class}
+use Rattle.template.specs.Request.{Placed, placed, insertBySn, bySn, indicesOf, allIndices, indexOf, lineOf}
+use Rattle.judge.specs.Verdict.{Verdict, Refused, Drawable, verdict, tokens}
+use Rattle.listing.specs.declared.Listed.{Listed}
+use Rattle.listing.specs.Four.{four}
+use Rattle.listing.specs.Lists.{noList, listOf}
+use Rattle.listing.proofs.PlacedLaws.{places-few}
+use Rattle.forward.specs.declared.Answer.{Answer}
+use Rattle.forward.specs.Answer.{listsOf, refusal, acceptance, short, answerTo, atStart, lineAfter, indexAfter}
+use Rattle.forward.specs.Call.{Answers, Called}
+use Rattle.batch.specs.declared.Answered.{Answered}
+use Rattle.batch.specs.Text.{ended, tabbed, Carbons, chainsText, carbonsOf, headText, rowText}
+use Rattle.batch.specs.Reply.{Reply, refused, carbonsIn, accepted, replyTo, replyText, answerText, UnreadableWritten}
+use Rattle.batch.proofs.Laws.{part-taken}
+
+-- ---- what is written of an answer
+
+pub answer-text : {xs ys : List ℕ} {at p : ℕ} (a : Answer) (line index : List ℕ) (n : ℕ) → n ≡ min (a .length) (length line)
+    → Written xs at (rowText (a .number) (a .token) (take (n - 0) line) (carbonsOf (take (a .lists .count) (a .lists .items)) index)) ys p
+    → Written xs at (answerText a line index) ys p
+answer-text a line index n e w = rw (part-taken line (a .length) n e) at w
+
+pub unreadable-text : {xs ys zs : List ℕ} {at p q : ℕ} → length xs < 2 ^ 64 → Written xs at (headText 42 0) ys p → Written ys p (9 ∷ 10 ∷ []) zs q
+    → UnreadableWritten xs at zs (record { number = 42; next = q })
+unfolding replyText rowText headText tabbed ended joined led chainsText
+unreadable-text g w u = record { text = simp append-assoc (simp append-assoc at (written-append g w u)); answer = refl }
+
+-- ---- the chains of an accepted request
+
+carbons-told : (ps : List Placed) (rest : List ℕ) → carbonsOf (map listOf ps) (allIndices ps ++ rest) ≡ map carbonsIn ps
+unfolding carbonsOf allIndices listOf carbonsIn
+carbons-told [] rest = refl
+carbons-told (p ∷ ps) rest =
+    rw (append-assoc (indicesOf p) (allIndices ps) rest, take-append-seam (indicesOf p) (allIndices ps ++ rest), drop-append-seam (indicesOf p) (allIndices ps ++ rest), carbons-told ps rest)
+
+four-held : (l : List Listed) → length l ≤ 4 → take (length l) (four noList l) ≡ l
+unfolding four
+four-held l h = take-take (length l) 4 (l ++ replicate 4 noList) h ∙ take-append-seam l (replicate 4 noList)
+
+length-insert : (p : Placed) (ps : List Placed) → length (insertBySn p ps) ≡ suc (length ps)
+unfolding insertBySn
+length-insert p [] = refl
+length-insert p (q ∷ qs) = go (leb (p .sn) (q .sn)) (length-insert p qs)
+  where
+    go : (b : Bool) → length (insertBySn p qs) ≡ suc (length qs) → length (cond b (p ∷ q ∷ qs) (q ∷ insertBySn p qs)) ≡ suc (suc (length qs))
+    go true e = refl
+    go false e = ap suc e
+
+length-sorted : (ps : List Placed) → length (bySn ps) ≡ length ps
+unfolding bySn
+length-sorted [] = refl
+length-sorted (p ∷ ps) = length-insert p (bySn ps) ∙ ap suc (length-sorted ps)
+
+chains-told : (c : Class) (t : List ℕ) (ds : List Chain) (rest : List ℕ)
+    → carbonsOf (take (length (map listOf (bySn (placed c t ds)))) (four noList (map listOf (bySn (placed c t ds))))) (indexOf c t ds ++ rest)
+    ≡ map carbonsIn (bySn (placed c t ds))
+unfolding indexOf
+chains-told c t ds rest =
+    let ps = bySn (placed c t ds) in
+    let few : length (map listOf ps) ≤ 4 = omega (arith, length-map ps listOf, length-sorted (placed c t ds), places-few c t ds) in
+    rw (four-held (map listOf ps) few) (carbons-told ps rest)
+
+-- ---- the reply
+
+refused-told : (n p : ℕ) (ys js : List ℕ) → answerText (refusal n p) ys js ≡ replyText (refused n p)
+unfolding replyText carbonsOf
+refused-told n p ys js = refl
+
+accepted-told : (c : Class) (swap : Bool) (t : List ℕ) (ds : List Chain) (xs is : List ℕ)
+    → answerText (acceptance c swap t ds) (atStart (lineOf c swap t ds) xs) (atStart (indexOf c t ds) is) ≡ replyText (accepted c swap t ds)
+unfolding replyText acceptance accepted atStart
+accepted-told c swap t ds xs is =
+    rw (take-append-seam (lineOf c swap t ds) (drop (length (lineOf c swap t ds)) xs), chains-told c t ds (drop (length (indexOf c t ds)) is))
+
+module _ (swap : Bool) (t xs is : List ℕ) where
+  told-by : (v : Verdict) → answerText (answerTo v swap t (length xs) (length is)) (lineAfter v swap t xs is) (indexAfter v swap t xs is)
+      ≡ replyText (replyTo v swap t (length xs) (length is))
+  told-by (Refused n p) = refused-told n p xs is
+  told-by (Drawable c ds) = go (short c swap t ds (length xs) (length is))
+    where
+      go : (b : Bool) → answerText (cond b (refusal 41 0) (acceptance c swap t ds)) (cond b xs (atStart (lineOf c swap t ds) xs)) (cond b is (atStart (indexOf c t ds) is))
+          ≡ replyText (cond b (refused 41 0) (accepted c swap t ds))
+      go true = refused-told 41 0 xs is
+      go false = accepted-told c swap t ds xs is
+
+  number-by : (v : Verdict) → answerTo v swap t (length xs) (length is) .number ≡ replyTo v swap t (length xs) (length is) .number
+  unfolding acceptance accepted
+  number-by (Refused n p) = refl
+  number-by (Drawable c ds) = go (short c swap t ds (length xs) (length is))
+    where
+      go : (b : Bool) → cond b (refusal 41 0) (acceptance c swap t ds) .number ≡ cond b (refused 41 0) (accepted c swap t ds) .number
+      go true = refl
+      go false = refl
+
+  pub answer-told : (v : Verdict) (a : Answer) (ys js : List ℕ) → Answers v swap t xs is ys js a → answerText a ys js ≡ replyText (replyTo v swap t (length xs) (length is))
+  answer-told v a ys js h = rw (h .answer, h .line, h .index) (told-by v)
+
+  pub number-told : (v : Verdict) (a : Answer) (ys js : List ℕ) → Answers v swap t xs is ys js a → a .number ≡ replyTo v swap t (length xs) (length is) .number
+  number-told v a ys js h = ap (λ (b : Answer). b .number) (h .answer) ∙ number-by v

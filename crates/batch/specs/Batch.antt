@@ -1,0 +1,162 @@
+-- The whole batch, and the same line by line. 01, Batch program: "a header with an unknown or doubled name or no class, which ends the batch
+-- after that answer. Lines end in LF, the last at will." Byte: LF 10. Assumes nothing.
+use Prim.Native.Nat.{ℕ, _≤_, _<_}
+use mathlib.Core.Path.{_≡_}
+use mathlib.Core.Bool.{Bool, true, false, cond}
+use mathlib.Core.List.{List, [], _∷_, _++_, map}
+use lib.ListN.{length, drop}
+use Rattle.emit.specs.Text.{Written}
+use Rattle.form.specs.Parts.{partsAt}
+use Rattle.sheet.specs.declared.Plan.{Plan}
+use Rattle.sheet.specs.Sheet.{noPlan, planOf, requestOf}
+use Rattle.batch.specs.declared.Stage.{Stage}
+use Rattle.batch.specs.declared.Stage.the-variants.{Header, Rows, Over}
+use Rattle.batch.specs.declared.Batch.{Batch}
+use Rattle.batch.specs.declared.Lined.{Lined}
+use Rattle.batch.specs.declared.Lines.{Lines}
+use Rattle.batch.specs.Text.{titles}
+use Rattle.batch.specs.Counts.{counting, noTimes, timesFrom, timesOf, countLines}
+use Rattle.batch.specs.Reply.{Reply, refused, replyOf, replyText, lineIn, indexIn}
+
+-- ---- the whole batch
+
+-- an empty last part is no line
+abbrev pub unlessBlank : List ℕ → List (List ℕ)
+unlessBlank [] = []
+unlessBlank (x ∷ xs) = (x ∷ xs) ∷ []
+
+unfoldable pub rowsOf : List (List ℕ) → List (List ℕ)
+rowsOf [] = []
+rowsOf (l ∷ []) = unlessBlank l
+rowsOf (l ∷ k ∷ ls) = l ∷ rowsOf (k ∷ ls)
+
+-- the replies to a header and its rows, for a line slice and an index slice of these lengths
+unfoldable pub repliesTo : List ℕ → List (List ℕ) → ℕ → ℕ → List Reply
+repliesTo header rows line index =
+    cond (planOf header .readable) (map (λ row. replyOf (requestOf (planOf header) row) line index) rows) (refused 42 0 ∷ [])
+
+-- "Lines end in LF, the last at will": the first line is the header, of no bytes where the input has none
+abbrev pub repliesIn : List (List ℕ) → ℕ → ℕ → List Reply
+repliesIn [] line index = []
+repliesIn (header ∷ ls) line index = repliesTo header (rowsOf ls) line index
+
+unfoldable pub textsOf : List Reply → List ℕ
+textsOf [] = []
+textsOf (r ∷ rs) = replyText r ++ textsOf rs
+
+unfoldable pub numbersOf : List Reply → List ℕ
+numbersOf rs = map (λ r. r .number) rs
+
+-- what is printed
+unfoldable pub batchText : List ℕ → ℕ → ℕ → List ℕ
+batchText sheet line index =
+    let rs = repliesIn (partsAt 10 sheet) line index in
+    titles ++ (textsOf rs ++ countLines (timesOf (numbersOf rs)))
+
+-- ---- line by line
+
+-- the replies to a line
+abbrev pub repliesAt : Stage → Plan → List ℕ → ℕ → ℕ → List Reply
+repliesAt Header plan l line index = cond (planOf l .readable) [] (refused 42 0 ∷ [])
+repliesAt Rows plan l line index = replyOf (requestOf plan l) line index ∷ []
+repliesAt Over plan l line index = []
+
+-- what follows it
+abbrev pub stageAfter : Stage → List ℕ → Stage
+stageAfter Header l = cond (planOf l .readable) Rows Over
+stageAfter Rows l = Rows
+stageAfter Over l = Over
+
+abbrev pub planAfter : Stage → Plan → List ℕ → Plan
+planAfter Header plan l = planOf l
+planAfter Rows plan l = plan
+planAfter Over plan l = plan
+
+-- what it leaves in the lent slices
+abbrev pub lineAt : Stage → Plan → List ℕ → List ℕ → List ℕ → List ℕ
+lineAt Header plan l line index = line
+lineAt Rows plan l line index = lineIn (requestOf plan l) line index
+lineAt Over plan l line index = line
+
+abbrev pub indexAt : Stage → Plan → List ℕ → List ℕ → List ℕ → List ℕ
+indexAt Header plan l line index = index
+indexAt Rows plan l line index = indexIn (requestOf plan l) line index
+indexAt Over plan l line index = index
+
+-- a batch with its lent slices and what it has written
+pub record Held : Type 0 where
+  pub batch : Batch
+  pub line : List ℕ
+  pub index : List ℕ
+  pub text : List ℕ
+
+-- after one more line
+unfoldable pub batchAfter : Batch → List ℕ → ℕ → ℕ → Batch
+batchAfter b l line index =
+    record {
+      stage = stageAfter (b .stage) l;
+      plan = planAfter (b .stage) (b .plan) l;
+      counts = counting (timesFrom (b .counts .times) (numbersOf (repliesAt (b .stage) (b .plan) l line index)));
+    }
+
+unfoldable pub heldAfter : Held → List ℕ → Held
+heldAfter h l =
+    record {
+      batch = batchAfter (h .batch) l (length (h .line)) (length (h .index));
+      line = lineAt (h .batch .stage) (h .batch .plan) l (h .line) (h .index);
+      index = indexAt (h .batch .stage) (h .batch .plan) l (h .line) (h .index);
+      text = h .text ++ textsOf (repliesAt (h .batch .stage) (h .batch .plan) l (length (h .line)) (length (h .index)));
+    }
+
+-- after some lines
+unfoldable pub heldFrom : Held → List (List ℕ) → Held
+heldFrom h [] = h
+heldFrom h (l ∷ ls) = heldFrom (heldAfter h l) ls
+
+-- what follows the last LF is a line where it has bytes, or where it is the header
+abbrev pub isLine : Stage → List ℕ → Bool
+isLine Header l = true
+isLine Rows [] = false
+isLine Rows (x ∷ l) = true
+isLine Over l = false
+
+-- after the lines of all parts of what is left of the input
+unfoldable pub heldEnd : Held → List (List ℕ) → Held
+heldEnd h [] = h
+heldEnd h (l ∷ []) = cond (isLine (h .batch .stage) l) (heldAfter h l) h
+heldEnd h (l ∷ k ∷ ls) = heldEnd (heldAfter h l) (k ∷ ls)
+
+-- the batch before its header
+abbrev pub noBatch : Batch
+noBatch = record { stage = Header; plan = noPlan; counts = counting noTimes }
+
+-- ---- contracts
+
+-- h is what some output, ps after os, and the slices hold
+pub record Holds (os : List ℕ) (at : ℕ) (h : Held) (b : Batch) (ys js ps : List ℕ) (next : ℕ) : Type 0 where
+  pub batch : b ≡ h .batch
+  pub line : ys ≡ h .line
+  pub index : js ≡ h .index
+  pub text : Written os at (h .text) ps next
+
+abbrev pub before : Batch → List ℕ → List ℕ → Held
+before b xs is = record { batch = b; line = xs; index = is; text = [] }
+
+-- a batch in another stage
+abbrev pub staged : Stage → Batch → Batch
+staged s b = record { stage = s; plan = b .plan; counts = b .counts }
+
+-- the header, which leaves the lent slices as they were
+pub record HeaderAnswered (b : Batch) (l os : List ℕ) (at : ℕ) (ps : List ℕ) (r : Lined) : Type 0 where
+  pub batch : r .batch ≡ batchAfter (staged Header b) l 0 0
+  pub text : Written os at (textsOf (repliesAt Header (b .plan) l 0 0)) ps (r .next)
+
+-- some lines of a text were answered: those before the place `used`, after which its other parts begin; there is only one where no line was
+-- left
+pub record LinesAnswered (b : Batch) (text xs is os : List ℕ) (at limit : ℕ) (ys js ps : List ℕ) (r : Lines) : Type 0 where
+  pub lines : List (List ℕ)
+  pub parts : partsAt 10 text ≡ lines ++ partsAt 10 (drop (r .used) text)
+  pub holds : Holds os at (heldFrom (before b xs is) lines) (r .batch) ys js ps (r .next)
+  pub within : r .used ≤ length text
+  pub all : r .whole ≡ true → partsAt 10 (drop (r .used) text) ≡ drop (r .used) text ∷ []
+  pub some : r .whole ≡ false → limit < r .next
