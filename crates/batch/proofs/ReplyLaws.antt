@@ -22,9 +22,13 @@ use Rattle.listing.proofs.PlacedLaws.{places-few}
 use Rattle.forward.specs.declared.Answer.{Answer}
 use Rattle.forward.specs.Answer.{listsOf, refusal, acceptance, short, answerTo, atStart, lineAfter, indexAfter}
 use Rattle.forward.specs.Call.{Answers, Called}
+use Rattle.sheet.specs.declared.Plan.{Plan}
+use Rattle.sheet.specs.declared.Asked.{Asked}
+use Rattle.sheet.specs.Sheet.{cellOf, snCells, requestOf, told}
+use Rattle.sheet.proofs.Requested.{asked-nothing, asked-request, asked-count}
 use Rattle.batch.specs.declared.Answered.{Answered}
 use Rattle.batch.specs.Text.{ended, tabbed, Carbons, chainsText, carbonsOf, headText, rowText}
-use Rattle.batch.specs.Reply.{Reply, refused, carbonsIn, accepted, replyTo, replyText, answerText, UnreadableWritten}
+use Rattle.batch.specs.Reply.{Reply, refused, carbonsIn, accepted, replyTo, replyText, answerText, UnreadableWritten, RowAnswered}
 use Rattle.batch.proofs.Laws.{part-taken}
 
 -- ---- what is written of an answer
@@ -111,3 +115,31 @@ module _ (swap : Bool) (t xs is : List ℕ) where
 
   pub number-told : (v : Verdict) (a : Answer) (ys js : List ℕ) → Answers v swap t xs is ys js a → a .number ≡ replyTo v swap t (length xs) (length is) .number
   number-told v a ys js h = ap (λ (b : Answer). b .number) (h .answer) ∙ number-by v
+
+-- ---- a row
+
+pub drawn-row : (p : Plan) (row class t s1 s2 s3 s4 : List ℕ) (count : ℕ) (swap : Bool) (xs is ys js : List ℕ) (a : Answer) → class ≡ cellOf p 0 row
+    → t ≡ cellOf p 2 row → s1 ≡ cellOf p 3 row → s2 ≡ cellOf p 4 row → s3 ≡ cellOf p 5 row → s4 ≡ cellOf p 6 row
+    → Called (verdict class t count (tokens count s1 s2 s3 s4)) swap t xs is ys js a
+    → Called (verdict (cellOf p 0 row) (cellOf p 2 row) count (take count (snCells p row))) swap (cellOf p 2 row) xs is ys js a
+drawn-row p row class t s1 s2 s3 s4 count swap xs is ys js a e f g h i j k = rw (e, f, g, h, i, j) at k
+
+module _ (p : Plan) (row : List ℕ) (k : Asked) (e : k ≡ told (requestOf p row)) (xs is os : List ℕ) (at : ℕ) where
+  pub row-unreadable : (ps : List ℕ) (r : Answered) → not (k .readable) ≡ true → UnreadableWritten os at ps r → RowAnswered (requestOf p row) xs is os at xs is ps r
+  row-unreadable ps r h w = rw (asked-nothing p row k e h) (record { text = w .text; answer = w .answer; line = refl; index = refl })
+
+  pub row-drawn : {ys js ps : List ℕ} {q : ℕ} (a : Answer) → not (k .readable) ≡ false
+      → Called (verdict (cellOf p 0 row) (cellOf p 2 row) (k .count) (take (k .count) (snCells p row))) (k .swap) (cellOf p 2 row) xs is ys js a
+      → Written os at (answerText a ys js) ps q → RowAnswered (requestOf p row) xs is os at ys js ps (record { number = a .number; next = q })
+  row-drawn {ys} {js} {ps} {q} a h d w =
+      let ts : List (List ℕ) = take (k .count) (snCells p row) in
+      let v : Verdict = verdict (cellOf p 0 row) (cellOf p 2 row) (length ts) ts in
+      let c : Called v (k .swap) (cellOf p 2 row) xs is ys js a
+      = subst (λ (n : ℕ). Called (verdict (cellOf p 0 row) (cellOf p 2 row) n ts) (k .swap) (cellOf p 2 row) xs is ys js a) (asked-count p row k e h) d in
+      rw (asked-request p row k e h)
+      (record {
+        text = (rw (answer-told (k .swap) (cellOf p 2 row) xs is v a ys js (c .answers)) at w);
+        answer = number-told (k .swap) (cellOf p 2 row) xs is v a ys js (c .answers);
+        line = c .answers .line;
+        index = c .answers .index;
+      })

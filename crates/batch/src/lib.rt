@@ -462,11 +462,12 @@ pub fn answer_lines(
                 whole: true,
             };
         }
+        let rest = &t[n + 1..];
         let lined = answer_line(b, &t[0..n], line, index, out, p);
         let after = lined.batch;
         b = after;
         p = lined.next;
-        t = &t[n + 1..];
+        t = rest;
     }
     Lines {
         batch: b,

@@ -1,0 +1,171 @@
+-- Laws of the lines of a sheet: each stage of a batch, and a turn and the ways out of the loop over the lines of a text.
+-- Assumes nothing.
+use Prim.Native.Nat.{ℕ, zero, suc, _+_, _-_, _^_, _≤_, _<_}
+use native.Mathlib.Nat.{sub-zero}
+use native.Mathlib.Omega.{arith}
+use mathlib.Core.Path.{_≡_, refl, sym, ap, _∙_, subst}
+use mathlib.Core.Bool.{Bool, true, false, cond, true≢false}
+use mathlib.Core.List.{List, [], _∷_, _++_, append-assoc, append-nil}
+use lib.ListN.{length, take, drop, length-drop, length-take}
+use lib.Seq.{take-all, drop-drop}
+use Rattle.scan.specs.Part.{Place, indexOf}
+use Rattle.scan.proofs.Laws.{to-end}
+use Rattle.emit.specs.Text.{Written}
+use Rattle.emit.proofs.Laws.{written-append, written-nil}
+use Rattle.form.specs.Parts.{partsAt}
+use Rattle.form.proofs.Laws.{parts-last, parts-more}
+use Rattle.sheet.specs.declared.Plan.{Plan}
+use Rattle.sheet.specs.Sheet.{planOf, requestOf}
+use Rattle.batch.specs.declared.Counts.{Counts}
+use Rattle.batch.specs.declared.Answered.{Answered}
+use Rattle.batch.specs.declared.Stage.{Stage}
+use Rattle.batch.specs.declared.Stage.the-variants.{Header, Rows, Over}
+use Rattle.batch.specs.declared.Batch.{Batch}
+use Rattle.batch.specs.declared.Lined.{Lined}
+use Rattle.batch.specs.declared.Lines.{Lines}
+use Rattle.batch.specs.Counts.{counting, withAnswer, timesFrom}
+use Rattle.batch.specs.Reply.{Reply, refused, replyOf, replyText, UnreadableWritten, RowAnswered}
+use Rattle.batch.specs.Batch.{repliesAt, stageAfter, planAfter, textsOf, numbersOf, Held, batchAfter, heldAfter, heldFrom, before, staged, Holds, HeaderAnswered, LinesAnswered}
+
+-- ---- the header
+
+module _ (b : Batch) (l os : List ℕ) (at : ℕ) (plan : Plan) (e : plan ≡ planOf l) where
+  -- the batch after a header that is readable or not
+  made : Bool → Plan → Batch
+  made r q = record { stage = cond r Rows Over; plan = q; counts = counting (timesFrom (b .counts .times) (numbersOf (cond r [] (refused 42 0 ∷ [])))) }
+
+  made-is : (r : Bool) → planOf l .readable ≡ r → made r plan ≡ batchAfter (staged Header b) l 0 0
+  unfolding made batchAfter
+  made-is r t = ap (λ (s : Bool). made s plan) (sym t) ∙ ap (made (planOf l .readable)) e
+
+  pub header-rows : plan .readable ≡ true → at < 2 ^ 64
+      → HeaderAnswered b l os at os (record { batch = record { stage = Rows; plan = plan; counts = b .counts }; next = at })
+  unfolding made textsOf numbersOf timesFrom
+  header-rows h g =
+      let t : planOf l .readable ≡ true = sym (ap (λ (q : Plan). q .readable) e) ∙ h in
+      record { batch = made-is true t; text = (rw t (written-nil os at g)) }
+
+  pub header-over : (counted : Counts) (ps : List ℕ) (a : Answered) → plan .readable ≡ false → UnreadableWritten os at ps a
+      → counted ≡ counting (withAnswer (b .counts .times) (a .number))
+      → HeaderAnswered b l os at ps (record { batch = record { stage = Over; plan = plan; counts = counted }; next = a .next })
+  unfolding made textsOf numbersOf timesFrom
+  header-over counted ps a h w c =
+      let t : planOf l .readable ≡ false = sym (ap (λ (q : Plan). q .readable) e) ∙ h in
+      record { batch = (rw (c, w .answer) (made-is false t)); text = (rw (t, append-nil) (w .text)) }
+
+-- ---- a row
+
+pub row-counted : (b : Batch) (l xs is os : List ℕ) (at : ℕ) (ys js ps : List ℕ) (a : Answered) (counted : Counts)
+    → RowAnswered (requestOf (b .plan) l) xs is os at ys js ps a → counted ≡ counting (withAnswer (b .counts .times) (a .number))
+    → Holds os at (heldAfter (before (staged Rows b) xs is) l) (record { stage = Rows; plan = b .plan; counts = counted }) ys js ps (a .next)
+unfolding heldAfter batchAfter textsOf numbersOf timesFrom
+row-counted b l xs is os at ys js ps a counted w c =
+    record {
+      batch = (rw (c, w .answer));
+      line = w .line;
+      index = w .index;
+      text = (rw append-nil (w .text));
+    }
+
+-- ---- a line
+
+module _ (b : Batch) (l xs is os : List ℕ) (at : ℕ) where
+  pub line-header : (ps : List ℕ) (r : Lined) → b .stage ≡ Header → HeaderAnswered b l os at ps r
+      → Holds os at (heldAfter (before b xs is) l) (r .batch) xs is ps (r .next)
+  unfolding heldAfter batchAfter
+  line-header ps r e w = rw e (record { batch = w .batch; line = refl; index = refl; text = w .text })
+
+  pub line-row : (ys js ps : List ℕ) (r : Lined) → b .stage ≡ Rows → Holds os at (heldAfter (before (staged Rows b) xs is) l) (r .batch) ys js ps (r .next)
+      → Holds os at (heldAfter (before b xs is) l) (r .batch) ys js ps (r .next)
+  unfolding heldAfter batchAfter
+  line-row ys js ps r e w = rw e w
+
+  pub line-over : b .stage ≡ Over → at < 2 ^ 64 → Holds os at (heldAfter (before b xs is) l) b xs is os at
+  unfolding heldAfter batchAfter textsOf numbersOf timesFrom
+  line-over e g =
+      let q : b ≡ staged Over b = ap (λ (s : Stage). staged s b) e in
+      subst (λ (x : Batch). Holds os at (heldAfter (before x xs is) l) x xs is os at) (sym q) (record { batch = refl; line = refl; index = refl; text = written-nil os at g })
+
+-- ---- the lines of a text
+
+held-snoc : (h : Held) (ls : List (List ℕ)) (l : List ℕ) → heldFrom h (ls ++ l ∷ []) ≡ heldAfter (heldFrom h ls) l
+unfolding heldFrom
+held-snoc h [] l = refl
+held-snoc h (k ∷ ls) l = held-snoc (heldAfter h k) ls l
+
+-- the lines so far, and the text t that is left
+pub record Turned (b₀ : Batch) (text xs is os : List ℕ) (at : ℕ) (ys js ps : List ℕ) (b : Batch) (t : List ℕ) (p : ℕ) : Type 0 where
+  pub lines : List (List ℕ)
+  pub parts : partsAt 10 text ≡ lines ++ partsAt 10 t
+  pub holds : Holds os at (heldFrom (before b₀ xs is) lines) b ys js ps p
+  pub rest : t ≡ drop (length text - length t) text
+  pub within : length t ≤ length text
+
+pub turn-start : (b : Batch) (text xs is os : List ℕ) (at : ℕ) → at < 2 ^ 64 → Turned b text xs is os at xs is os b text at
+unfolding heldFrom
+turn-start b text xs is os at g =
+    record {
+      lines = [];
+      parts = refl;
+      holds = record { batch = refl; line = refl; index = refl; text = written-nil os at g };
+      rest = (let z : length text - length text ≡ 0 = omega arith in rw z);
+      within = omega arith;
+    }
+
+-- one line after others
+held-more : (os : List ℕ) (at : ℕ) (h : Held) (b : Batch) (ys js ps : List ℕ) (p : ℕ) (l : List ℕ) (c : Batch) (zs ks qs : List ℕ) (q : ℕ) → length os < 2 ^ 64
+    → Holds os at h b ys js ps p → Holds ps p (heldAfter (before b ys js) l) c zs ks qs q → Holds os at (heldAfter h l) c zs ks qs q
+unfolding heldAfter
+held-more os at h b ys js ps p l c zs ks qs q g v w =
+    let e : b ≡ h .batch = v .batch in
+    let f : ys ≡ h .line = v .line in
+    let i : js ≡ h .index = v .index in
+    record {
+      batch = (rw (e, f, i) at (w .batch));
+      line = (rw (e, f, i) at (w .line));
+      index = (rw (e, f, i) at (w .index));
+      text = written-append g (v .text) (rw (e, f, i) at (w .text));
+    }
+
+module _ (b₀ : Batch) (text xs is os : List ℕ) (at : ℕ) (ys js ps : List ℕ) (b : Batch) (t : List ℕ) (p n : ℕ) (h : Turned b₀ text xs is os at ys js ps b t p)
+    (f : Place t (indexOf 10 t) n) where
+  pub turn-more : (c : Batch) (zs ks qs : List ℕ) (q : ℕ) → length os < 2 ^ 64 → (n ≡ length t → ⊥)
+      → Holds ps p (heldAfter (before b ys js) (take (n - 0) t)) c zs ks qs q
+      → Turned b₀ text xs is os at zs ks qs c (take (length t - (n + 1)) (drop (n + 1) t)) q
+  turn-more c zs ks qs q g d w =
+      let s : length (drop (n + 1) t) ≡ length t - (n + 1) = length-drop (n + 1) t in
+      let r : t ≡ drop (length text - length t) text = h .rest in
+      let i : n < length t = omega (arith, f .within, d) in
+      let k : length text - length t + (n + 1) ≡ length text - length (drop (n + 1) t) = omega (arith, s, h .within, i) in
+      record {
+        lines = h .lines ++ take (n - 0) t ∷ [];
+        parts = h .parts ∙ ap (λ (l : List (List ℕ)). h .lines ++ l) (parts-more 10 t n f d) ∙ sym (append-assoc (h .lines) (take (n - 0) t ∷ []) (partsAt 10 (take (length t - (n + 1)) (drop (n + 1) t))));
+        holds = (rw held-snoc (held-more os at (heldFrom (before b₀ xs is) (h .lines)) b ys js ps p (take (n - 0) t) c zs ks qs q g (h .holds) w));
+        rest = (rw (to-end (n + 1) t) (ap (λ (u : List ℕ). drop (n + 1) u) r ∙ drop-drop (n + 1) (length text - length t) text ∙ ap (λ (m : ℕ). drop m text) k));
+        within = (rw (to-end (n + 1) t) (omega (arith, s, h .within)));
+      }
+
+  pub turn-last : (limit : ℕ) → n ≡ length t → LinesAnswered b₀ text xs is os at limit ys js ps (record { batch = b; used = length text - length t; next = p; whole = true })
+  turn-last limit e =
+      let r : t ≡ drop (length text - length t) text = h .rest in
+      let w : partsAt 10 t ≡ t ∷ [] = parts-last 10 t n f e ∙ ap (λ (l : List ℕ). l ∷ []) (rw sub-zero (take-all n t (omega arith))) in
+      record {
+        lines = h .lines;
+        parts = (subst (λ (u : List ℕ). partsAt 10 text ≡ h .lines ++ partsAt 10 u) r (h .parts));
+        holds = h .holds;
+        within = omega arith;
+        all = λ z. subst (λ (u : List ℕ). partsAt 10 u ≡ u ∷ []) r w;
+        some = λ z. absurd (true≢false z);
+      }
+
+pub turn-full : (b₀ : Batch) (text xs is os : List ℕ) (at : ℕ) (ys js ps : List ℕ) (b : Batch) (t : List ℕ) (p limit : ℕ) → Turned b₀ text xs is os at ys js ps b t p
+    → limit < p → LinesAnswered b₀ text xs is os at limit ys js ps (record { batch = b; used = length text - length t; next = p; whole = false })
+turn-full b₀ text xs is os at ys js ps b t p limit h g =
+    record {
+      lines = h .lines;
+      parts = (subst (λ (u : List ℕ). partsAt 10 text ≡ h .lines ++ partsAt 10 u) (h .rest) (h .parts));
+      holds = h .holds;
+      within = omega arith;
+      all = λ z. absurd (true≢false (sym z));
+      some = λ z. g;
+    }

@@ -1,0 +1,49 @@
+use Rattle.batch.proofs.ReplyLaws.{drawn-row}
+use borrow.Author.Needs.{needs}
+use Rattle.batch.proofs.draw_row.Statement.{statement}
+use Rattle.batch.proofs.draw_row.Tie as tie
+
+cell-requires : tie.Need-cell-requires
+cell-requires c κs = search needs
+
+cell-requires-2 : tie.Need-cell-requires-2
+cell-requires-2 c κs = search needs
+
+cell-requires-3 : tie.Need-cell-requires-3
+cell-requires-3 c κs = search needs
+
+cell-requires-4 : tie.Need-cell-requires-4
+cell-requires-4 c κs = search needs
+
+cell-requires-5 : tie.Need-cell-requires-5
+cell-requires-5 c κs = search needs
+
+cell-requires-6 : tie.Need-cell-requires-6
+cell-requires-6 c κs = search needs
+
+draw-requires : tie.Need-draw-requires
+draw-requires c κs = search needs
+
+same-length : tie.Need-same-length
+same-length c = search needs
+
+same-length-2 : tie.Need-same-length-2
+same-length-2 c = search needs
+
+returns : tie.Need-returns
+returns c = search drawn-row
+
+pub draw-row-spec : {M : Type 1} → statement M
+draw-row-spec =
+    tie.close
+    (tie.spec
+    cell-requires
+    cell-requires-2
+    cell-requires-3
+    cell-requires-4
+    cell-requires-5
+    cell-requires-6
+    draw-requires
+    same-length
+    same-length-2
+    returns)
