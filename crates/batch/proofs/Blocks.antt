@@ -11,11 +11,11 @@ use lib.Dec.{eqb}
 use Rattle.form.specs.Parts.{onto, partsAt}
 use Rattle.sheet.specs.declared.Plan.{Plan}
 use Rattle.sheet.specs.Sheet.{planOf, requestOf}
-use Rattle.sheet.proofs.Long.{kept, cut-header, cut-row}
+use Rattle.sheet.proofs.Long.{cut-header, cut-row}
 use Rattle.batch.specs.declared.Stage.{Stage}
 use Rattle.batch.specs.declared.Stage.the-variants.{Header, Rows, Over}
 use Rattle.batch.specs.Reply.{Reply}
-use Rattle.batch.specs.Batch.{repliesAt, stageAfter, planAfter, lineAt, indexAt, textsOf, Held, batchAfter, heldAfter, heldFrom, isLine, heldEnd}
+use Rattle.batch.specs.Batch.{repliesAt, stageAfter, planAfter, lineAt, indexAt, textsOf, Held, batchAfter, heldAfter, heldFrom, isHeader, isLine, heldLast, heldEnd, kept}
 
 -- ---- the parts of bytes that are joined
 
@@ -123,8 +123,8 @@ module _ (l k : List ℕ) (e : planOf l ≡ planOf k) (f : (p : Plan) → reques
         same-index (h .batch .stage) (h .batch .plan) (h .line) (h .index),
       )
 
-  same-end : (h : Held) (qs : List (List ℕ)) → isLine (h .batch .stage) l ≡ isLine (h .batch .stage) k → heldEnd h (l ∷ qs) ≡ heldEnd h (k ∷ qs)
-  unfolding heldEnd
+  same-end : (h : Held) (qs : List (List ℕ)) → isLine (isHeader (h .batch .stage)) l ≡ isLine (isHeader (h .batch .stage)) k → heldEnd h (l ∷ qs) ≡ heldEnd h (k ∷ qs)
+  unfolding heldEnd heldLast
   same-end h [] g = rw (g, same-after h)
   same-end h (q ∷ qs) g = rw (same-after h)
 
@@ -167,15 +167,13 @@ clear-part zero xs h = refl
 clear-part (suc n) [] h = refl
 clear-part (suc n) (x ∷ xs) h = let c = clear-first x xs h in rw (c .0, clear-part n xs (c .1))
 
-same-kept : (s : Stage) (xs ys : List ℕ) → isLine s (take kept xs ++ ys) ≡ isLine s (xs ++ ys)
-same-kept Header xs ys = refl
-same-kept Rows [] ys = refl
-same-kept Rows (x ∷ xs) ys = refl
-same-kept Over xs ys = refl
+same-kept : (header : Bool) (xs ys : List ℕ) → isLine header (take kept xs ++ ys) ≡ isLine header (xs ++ ys)
+same-kept header [] ys = refl
+same-kept header (x ∷ xs) ys = refl
 
 cut-end : (h : Held) (rest : List ℕ) (qs : List (List ℕ)) → Some qs → heldEnd h (glue (rest ∷ []) qs) ≡ heldEnd h (glue (take kept rest ∷ []) qs)
 cut-end h rest qs (some q os) =
-    sym (same-end (take kept rest ++ q) (rest ++ q) (cut-header rest q) (λ p. cut-row p rest q) h os (same-kept (h .batch .stage) rest q))
+    sym (same-end (take kept rest ++ q) (rest ++ q) (cut-header rest q) (λ p. cut-row p rest q) h os (same-kept (isHeader (h .batch .stage)) rest q))
 
 pub fed-cut : {s h : Held} {done rest : List ℕ} → partsAt 10 rest ≡ rest ∷ [] → Fed s done rest h → Fed s done (take kept rest) h
 fed-cut {s} {h} {done} {rest} e f =

@@ -19,7 +19,7 @@ use Rattle.batch.specs.declared.Batch.{Batch}
 use Rattle.batch.specs.Text.{titles}
 use Rattle.batch.specs.Counts.{counting, noTimes, timesFrom, timesOf, countLines}
 use Rattle.batch.specs.Reply.{Reply, refused, replyOf, replyText, lineIn, indexIn}
-use Rattle.batch.specs.Batch.{unlessBlank, rowsOf, repliesTo, repliesIn, textsOf, numbersOf, batchText, Held, batchAfter, heldAfter, heldEnd, noBatch, before}
+use Rattle.batch.specs.Batch.{unlessBlank, rowsOf, repliesTo, repliesIn, textsOf, numbersOf, batchText, Held, batchAfter, heldAfter, heldLast, heldEnd, noBatch, before}
 
 -- ---- the slices keep their lengths
 
@@ -77,7 +77,7 @@ record RowsTold (p : Plan) (parts : List (List ℕ)) (ts xs is w : List ℕ) : T
   times : heldEnd (among p ts xs is w) parts .batch .counts .times ≡ timesFrom ts (numbersOf (replies p (rowsOf parts) (length xs) (length is)))
 
 rows-told : (p : Plan) (parts : List (List ℕ)) (ts xs is w : List ℕ) → RowsTold p parts ts xs is w
-unfolding heldEnd heldAfter batchAfter textsOf numbersOf rowsOf timesFrom
+unfolding heldEnd heldLast heldAfter batchAfter textsOf numbersOf rowsOf timesFrom
 rows-told p [] ts xs is w = record { text = sym (append-nil w); times = refl }
 rows-told p ([] ∷ []) ts xs is w = record { text = sym (append-nil w); times = refl }
 rows-told p ((x ∷ l) ∷ []) ts xs is w = record { text = refl; times = refl }
@@ -103,9 +103,10 @@ rows-told p (l ∷ k ∷ ls) ts xs is w = go (rows-told p (k ∷ ls) (timesFrom 
 over-told : (p : Plan) (parts : List (List ℕ)) (ts xs is w : List ℕ)
     → heldEnd (record { batch = record { stage = Over; plan = p; counts = counting ts }; line = xs; index = is; text = w }) parts
     ≡ record { batch = record { stage = Over; plan = p; counts = counting ts }; line = xs; index = is; text = w }
-unfolding heldEnd heldAfter batchAfter textsOf numbersOf timesFrom
+unfolding heldEnd heldLast heldAfter batchAfter textsOf numbersOf timesFrom
 over-told p [] ts xs is w = refl
-over-told p (l ∷ []) ts xs is w = refl
+over-told p ([] ∷ []) ts xs is w = refl
+over-told p ((x ∷ l) ∷ []) ts xs is w = rw (append-nil w)
 over-told p (l ∷ k ∷ ls) ts xs is w = rw (append-nil w) (over-told p (k ∷ ls) ts xs is w)
 
 -- ---- the whole batch
@@ -139,9 +140,10 @@ headed-times true l parts xs is = rows-told (planOf l) parts noTimes xs is [] .t
 headed-times false l parts xs is = ap (λ (h : Held). h .batch .counts .times) (over-told (planOf l) parts (timesFrom noTimes (42 ∷ [])) xs is (textsOf (refused 42 0 ∷ [])))
 
 pub whole-told : (parts : List (List ℕ)) (xs is : List ℕ) → WholeTold parts xs is
-unfolding heldEnd heldAfter batchAfter textsOf numbersOf timesFrom timesOf repliesTo rowsOf
+unfolding heldEnd heldLast heldAfter batchAfter textsOf numbersOf timesFrom timesOf repliesTo rowsOf
 whole-told [] xs is = record { text = refl; times = refl }
-whole-told (l ∷ []) xs is = record { text = refl; times = refl }
+whole-told ([] ∷ []) xs is = record { text = refl; times = refl }
+whole-told ((x ∷ l) ∷ []) xs is = record { text = refl; times = refl }
 whole-told (l ∷ k ∷ ls) xs is =
     record {
       text = headed-text (planOf l .readable) l (k ∷ ls) xs is;

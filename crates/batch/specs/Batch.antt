@@ -4,9 +4,11 @@ use Prim.Native.Nat.{ℕ, _≤_, _<_}
 use mathlib.Core.Path.{_≡_}
 use mathlib.Core.Bool.{Bool, true, false, cond}
 use mathlib.Core.List.{List, [], _∷_, _++_, map}
-use lib.ListN.{length, drop}
+use lib.ListN.{length, take, drop}
 use Rattle.emit.specs.Text.{Written}
+use Rattle.scan.specs.Part.{part}
 use Rattle.form.specs.Parts.{partsAt}
+use Rattle.forward.specs.Answer.{atStart}
 use Rattle.sheet.specs.declared.Plan.{Plan}
 use Rattle.sheet.specs.Sheet.{noPlan, planOf, requestOf}
 use Rattle.batch.specs.declared.Stage.{Stage}
@@ -114,16 +116,22 @@ heldFrom h [] = h
 heldFrom h (l ∷ ls) = heldFrom (heldAfter h l) ls
 
 -- what follows the last LF is a line where it has bytes, or where it is the header
-abbrev pub isLine : Stage → List ℕ → Bool
-isLine Header l = true
-isLine Rows [] = false
-isLine Rows (x ∷ l) = true
-isLine Over l = false
+abbrev pub isHeader : Stage → Bool
+isHeader Header = true
+isHeader Rows = false
+isHeader Over = false
+
+abbrev pub isLine : Bool → List ℕ → Bool
+isLine header [] = header
+isLine header (x ∷ l) = true
+
+unfoldable pub heldLast : Held → List ℕ → Held
+heldLast h l = cond (isLine (isHeader (h .batch .stage)) l) (heldAfter h l) h
 
 -- after the lines of all parts of what is left of the input
 unfoldable pub heldEnd : Held → List (List ℕ) → Held
 heldEnd h [] = h
-heldEnd h (l ∷ []) = cond (isLine (h .batch .stage) l) (heldAfter h l) h
+heldEnd h (l ∷ []) = heldLast h l
 heldEnd h (l ∷ k ∷ ls) = heldEnd (heldAfter h l) (k ∷ ls)
 
 -- the batch before its header
@@ -160,3 +168,24 @@ pub record LinesAnswered (b : Batch) (text xs is os : List ℕ) (at limit : ℕ)
   pub within : r .used ≤ length text
   pub all : r .whole ≡ true → partsAt 10 (drop (r .used) text) ≡ drop (r .used) text ∷ []
   pub some : r .whole ≡ false → limit < r .next
+
+-- the last answer and the counts were written; h is held then
+pub record Finished (b : Batch) (l xs is os : List ℕ) (at : ℕ) (ys js ps : List ℕ) (r : ℕ) : Type 0 where
+  pub line : ys ≡ heldLast (before b xs is) l .line
+  pub index : js ≡ heldLast (before b xs is) l .index
+  pub text : Written os at (heldLast (before b xs is) l .text ++ countLines (heldLast (before b xs is) l .batch .counts .times)) ps r
+
+-- ---- a block of the input
+
+-- one byte more than the longest row has
+abbrev pub kept : ℕ
+kept = 2049
+
+-- the start of the part of a block from a place up to another, as much of it as is kept
+abbrev pub keptOf : List ℕ → ℕ → ℕ → List ℕ
+keptOf xs from to = take kept (part from to xs)
+
+-- that part now stands at the start of the block
+pub record Moved (xs : List ℕ) (from to : ℕ) (ys : List ℕ) (r : ℕ) : Type 0 where
+  pub bytes : ys ≡ atStart (keptOf xs from to) xs
+  pub count : r ≡ length (keptOf xs from to)

@@ -14,7 +14,7 @@ ghost use Rattle.forward.specs.Call.{Called};
 ghost use Rattle.sheet.specs.Sheet.{cellOf, snCells, requestOf};
 ghost use Rattle.batch.specs.Reply.{answerText, UnreadableWritten, RowAnswered};
 ghost use Rattle.batch.specs.declared.Stage.the-variants.{Rows};
-ghost use Rattle.batch.specs.Batch.{noBatch, heldAfter, before, staged, Holds, HeaderAnswered, LinesAnswered};
+ghost use Rattle.batch.specs.Batch.{noBatch, heldAfter, before, staged, Holds, HeaderAnswered, LinesAnswered, isHeader, heldLast, Finished, Moved};
 ghost use Rattle.batch.specs.Counts.{counting, noTimes, withAnswer, countLine, countLines};
 use emit::put_byte;
 use emit::put_text;
@@ -475,4 +475,78 @@ pub fn answer_lines(
         next: p,
         whole: false,
     }
+}
+
+fn is_header(stage: Stage) -> bool
+    ensures { λ r. ⌜ r ≡ isHeader stage ⌝ }
+{
+    match stage {
+        Stage::Header => true,
+        Stage::Rows => false,
+        Stage::Over => false,
+    }
+}
+
+// What follows the last LF of the sheet: a line where it has bytes, or where it is the header.
+fn answer_last(
+    batch: Batch,
+    text: &[u8],
+    line: &mut [u8],
+    index: &mut [u16],
+    out: &mut [u8],
+    at: usize,
+) -> Lined
+    ensures { λ r. ⌜ Holds (now (out .entry)) at (heldLast (before batch (now (line .entry)) (now (index .entry))) (now (text .entry))) (r .batch) (now (line .exit)) (now (index .exit)) (now (out .exit)) (r .next) ⌝ }
+{
+    let stage = batch.stage;
+    if text.len() == 0 {
+        if !is_header(stage) {
+            return Lined { batch, next: at };
+        }
+        return answer_line(batch, text, line, index, out, at);
+    }
+    answer_line(batch, text, line, index, out, at)
+}
+
+// The end of the sheet, with what follows its last LF: the last answer, if there is one, and the counts. Answers the place after them.
+pub fn finish(
+    batch: Batch,
+    text: &[u8],
+    line: &mut [u8],
+    index: &mut [u16],
+    out: &mut [u8],
+    at: usize,
+) -> usize
+    ensures { λ r. ⌜ Finished batch (now (text .entry)) (now (line .entry)) (now (index .entry)) (now (out .entry)) at (now (line .exit)) (now (index .exit)) (now (out .exit)) r ⌝ }
+{
+    let last = answer_last(batch, text, line, index, out, at);
+    let end = last.batch;
+    let counts = end.counts;
+    put_count_lines(out, last.next, counts)
+}
+
+fn least(a: usize, b: usize) -> usize
+    ensures { λ r. ⌜ r ≡ min a b ⌝ }
+{
+    if a < b { a } else { b }
+}
+
+// The first bytes of a line that are kept until its LF comes: one more than the longest row has, so that a longer line stays too long.
+pub const KEPT: usize = 2049;
+
+// Moves the part of a block from a place up to another to its start, as much of it as is kept. Answers how much that is.
+pub fn keep(block: &mut [u8], from: usize, to: usize) -> usize
+    ensures { λ r. ⌜ Moved (now (block .entry)) from to (now (block .exit)) r ⌝ }
+{
+    let end = in_line(to, block);
+    if end <= from {
+        return 0;
+    }
+    let n = least(end - from, KEPT);
+    let mut i = 0;
+    while i < n {
+        block[i] = block[from + i];
+        i += 1;
+    }
+    n
 }
