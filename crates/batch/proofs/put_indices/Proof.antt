@@ -6,7 +6,7 @@ use lib.ListN.{length, take}
 use Rattle.emit.specs.Text.{Written, decimal}
 use Rattle.emit.proofs.Laws.{written-nil, written-length}
 use Rattle.reading.specs.Parting.{joined}
-use Rattle.shown.proofs.Laws.{sites-more, sites-all}
+use Rattle.sites.proofs.Laws.{sites-more, sites-all}
 use Rattle.batch.proofs.put_indices.Statement.{statement}
 use Rattle.batch.proofs.put_indices.Tie as tie
 
