@@ -20,7 +20,8 @@ refused-requires c κs = search needs
 
 -- src/lib.rt:186:9
 returns : tie.Need-returns
-returns c = search called-refused
+returns c =
+    called-refused (c .before .before .before .judge .result) (c .before .before .before .judge .ensures) (c .before .if1 .taken) (c .refused .ensures)
 
 -- src/lib.rt:190:9
 slots-of-requires : tie.Need-slots-of-requires
