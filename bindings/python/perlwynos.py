@@ -43,7 +43,7 @@ _PROGRAM = "the calling program"
 _MEANINGS = {
     11: ("{} cannot be read as a chain name", _AUTHOR),
     12: ("{} puts a group on C1 of an acyl chain, which is the carbonyl carbon", _AUTHOR),
-    13: ("{} has double bonds without a position, and no room for them before its first group or ring", _AUTHOR),
+    13: ("{} has its first group or ring too far along the chain: double bonds without a position could lie before it", _AUTHOR),
     14: ("{} has too few carbons for its double bonds without a position", _AUTHOR),
     15: ("{} has a group without a position, and no carbon to put it on", _AUTHOR),
     20: ("the class is none of FA, GL1, GL2, GL3, GP, CL, SB and SA", _PICKER),
