@@ -176,3 +176,13 @@ fn class_codes_are_known() {
         assert!(draw(&Request::new(class, tokens).tail(tail)).is_ok(), "{class:?}");
     }
 }
+
+mod example {
+    include!("../examples/draw.rs");
+
+    #[test]
+    fn that_the_readme_shows() {
+        main();
+        assert!(include_str!("../../../README.md").contains(include_str!("../examples/draw.rs")));
+    }
+}
