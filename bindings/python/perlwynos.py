@@ -111,7 +111,7 @@ def _load():
     try:
         call = ctypes.CDLL(path).perlwynos_draw
     except (OSError, AttributeError) as error:
-        raise ImportError(f"perlwynos: {error}; the script 'build' beside {__file__} makes the shared object") from error
+        raise ImportError(f"perlwynos: {error}; bindings/python/build makes the shared object") from error
     text = [ctypes.c_char_p, ctypes.c_size_t]
     call.restype = ctypes.c_uint32
     call.argtypes = [

@@ -3,8 +3,10 @@
 import doctest
 import pathlib
 import pickle
+import re
 import threading
 import unittest
+from unittest import mock
 
 import perlwynos
 from perlwynos import Drawn, Refused, draw
@@ -109,15 +111,25 @@ class Rooms(unittest.TestCase):
         self.assertGreater(max(lengths), 4096)
 
     def test_rooms_that_start_with_one(self):
-        first = perlwynos._LINE_ROOM, perlwynos._INDEX_ROOM
-        perlwynos._LINE_ROOM, perlwynos._INDEX_ROOM = 1, 1
-        try:
+        with mock.patch.multiple(perlwynos, _LINE_ROOM=1, _INDEX_ROOM=1):
             drawn = draw("FA", ["255:0"])
-        finally:
-            perlwynos._LINE_ROOM, perlwynos._INDEX_ROOM = first
-            perlwynos._unused.clear()
         self.assertEqual(drawn.line, b"OC(=O)" + 254 * b"C")
         self.assertEqual(drawn.carbons[1], (1, *range(3, 257)))
+
+    def test_a_call_within_a_call(self):
+        """As a signal handler makes it, after the library has answered and before the answer is taken."""
+        take, within = perlwynos._Rooms.drawn, []
+
+        def interrupted(rooms):
+            if not within:
+                within.append(None)
+                within.append(draw("FA", ["9:0"]))
+            return take(rooms)
+
+        with mock.patch.object(perlwynos._Rooms, "drawn", interrupted):
+            outer = draw("FA", ["2:0"])
+        self.assertEqual(outer, Drawn(b"OC(=O)C", {1: (1, 3)}, {1: 1}))
+        self.assertEqual(within[1], draw("FA", ["9:0"]))
 
     def test_threads(self):
         requests = [("FA", [f"{n}:0"]) for n in range(2, 34)] + [("CL", self.LONG)]
@@ -203,6 +215,18 @@ class Refusals(unittest.TestCase):
         for wrong in (("FA", "6:1"), ("FA", b"6:1"), ("FA", [None]), ("FA", [6]), (1, ["6:1"]), ("GP", ["6:1"], None)):
             with self.subTest(wrong=wrong):
                 self.assertRaises(TypeError, draw, *wrong)
+
+
+class Header(unittest.TestCase):
+    def test_numbers(self):
+        text = (ROOT / "include/perlwynos.h").read_text(encoding="ascii")
+        stated = {name: int(number) for name, number in re.findall(r"PERLWYNOS(_[A-Z_]+) = (\d+)", text)}
+        for name in ("_TOKEN", "_LENGTH", "_LISTS", "_LIST", "_SITES", "_SITE"):
+            self.assertEqual(getattr(perlwynos, name), stated.pop(name))
+        self.assertEqual(perlwynos._REPORT_ROOM, stated.pop("_REPORT"))
+        self.assertEqual(perlwynos._SHORT_SLICE, stated["_SHORT_SLICE"])
+        self.assertEqual((stated.pop("_NUMBER"), stated.pop("_ACCEPTED")), (0, 0))
+        self.assertEqual(sorted(perlwynos._MEANINGS), sorted(stated.values()))
 
 
 class Vectors(unittest.TestCase):
