@@ -1,55 +1,10 @@
 
-// ---------- harness: everything above this line is the original ----------
+// ---------- the oracle: ask.rs stands above, and the original above that ----------
 //
 // `oracle requests` reads a sheet in the batch program's form and answers each
 // row with `line⇥carbons⇥sites`, or `refused`.  `oracle tokens` reads one token
 // per line and answers with the record that was parsed, or `11`.  Either says
 // `overflow` where the original's arithmetic overflows.
-//
-// Do not hand it tokens over the limits of document 01 (its 31): the original
-// would allocate one record for each of four thousand million groups.
-
-/// Stand-in: only `generate_smiles` and `generate_structure` call it, and the
-/// harness calls neither.
-mod nomenclature {
-    pub(crate) fn split_display_name(name: &str) -> (String, Option<String>) {
-        (name.to_string(), None)
-    }
-}
-
-/// Stand-in: only `attach_consensus` uses it, and the harness does not call it.
-mod consensus {
-    pub(crate) struct Consensus {
-        pub(crate) kind: String,
-        pub(crate) sn: usize,
-    }
-
-    impl Consensus {
-        pub(crate) fn is_localized(&self) -> bool {
-            false
-        }
-    }
-
-    pub(crate) fn parse_tail(_: &str) -> Option<Vec<Consensus>> {
-        None
-    }
-
-    pub(crate) fn tokens(
-        _: &[Consensus],
-        _: bool,
-        _: impl Fn(&Consensus) -> Option<String>,
-    ) -> Vec<String> {
-        Vec::new()
-    }
-}
-
-/// One row of a sheet, cells by name.
-struct Request<'a> {
-    class: &'a str,
-    swap: bool,
-    tail: &'a str,
-    tokens: Vec<&'a str>,
-}
 
 /// The cells of `row` under the names of `header`; None if it has another
 /// number of cells or a swap that is no flag.
@@ -69,22 +24,6 @@ fn read_request<'a>(header: &[&str], row: &'a str) -> Option<Request<'a>> {
         tokens.pop();
     }
     Some(Request { class: cell("class"), swap, tail: cell("tail"), tokens })
-}
-
-fn build_request(r: &Request) -> Option<Built> {
-    let chains: Vec<ParsedChain> =
-        r.tokens.iter().map(|t| parse_chain_token(t)).collect::<Option<_>>()?;
-    match r.class {
-        "FA" => fa_smiles(&chains),
-        "GL1" => glycerolipid_smiles(&chains, 1, r.swap),
-        "GL2" => glycerolipid_smiles(&chains, 2, r.swap),
-        "GL3" => glycerolipid_smiles(&chains, 3, r.swap),
-        "GP" => gpl_smiles(r.tail, &chains, r.swap),
-        "CL" => cl_smiles(&chains, r.swap),
-        "SB" => sphingo_dispatch(&chains, r.tail, false),
-        "SA" => sphingo_dispatch(&chains, r.tail, true),
-        _ => None,
-    }
 }
 
 fn joined<T>(items: &[T], separator: &str, show: impl Fn(&T) -> String) -> String {
