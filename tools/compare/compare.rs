@@ -2,6 +2,7 @@
 
 mod compare {
     use super::call::{self, Case, Report};
+    use super::numbers::{self, Expected};
     use super::requests::{self, Rng, Source};
     use super::{Built, build_request};
     use std::cell::RefCell;
@@ -262,16 +263,43 @@ mod compare {
         }
     }
 
+    /// The number and the place, where they are known. True if they are.
+    fn compare_number(case: &Case, given: &Answer) -> Result<bool, String> {
+        let expected = numbers::expected(case);
+        match expected.fits(given.number, given.place) {
+            Some(true) => Ok(true),
+            None => Ok(false),
+            Some(false) => {
+                let due = match expected {
+                    Expected::Answer(number, place) => format!("{number} at token {place}"),
+                    _ => "11 or 31".to_string(),
+                };
+                Err(format!("{} at token {}, and document 01 says {due}", given.number, given.place))
+            }
+        }
+    }
+
+    /// What was found of one request.
+    struct Checked {
+        number: u32,
+        verdict: Verdict,
+        number_known: bool,
+        /// Asked again with other slices, and 41 for these.
+        sliced: bool,
+        short: bool,
+    }
+
     /// All that is asked of one request. `slices` says whether, and which, other slices are
     /// tried.
-    fn check(case: &Case, rooms: &mut Rooms, slices: Option<usize>) -> Result<(u32, Verdict, bool), String> {
+    fn check(case: &Case, rooms: &mut Rooms, slices: Option<usize>) -> Result<Checked, String> {
         let given = whole_answer(case, rooms)?;
         let verdict = compare_with_original(case, &given, rooms)?;
+        let number_known = compare_number(case, &given)?;
         let short = match slices {
             Some(choice) => compare_slices(case, &given, rooms, choice)?,
             None => false,
         };
-        Ok((given.number, verdict, short))
+        Ok(Checked { number: given.number, verdict, number_known, sliced: slices.is_some(), short })
     }
 
     // ---------- the smallest input ----------
@@ -378,21 +406,23 @@ mod compare {
         verdicts: BTreeMap<Verdict, usize>,
         added: BTreeMap<u32, usize>,
         sources: [usize; 6],
+        known: usize,
         slices: usize,
         short: usize,
     }
 
     impl Counts {
-        fn note(&mut self, source: Source, case: &Case, (number, verdict, short): (u32, Verdict, bool), sliced: bool) {
+        fn note(&mut self, source: Source, case: &Case, checked: &Checked) {
             let class = requests::CLASSES.iter().position(|c| c.0.as_bytes() == case.class).unwrap_or(8);
-            *self.answers.entry((class, number)).or_default() += 1;
-            *self.verdicts.entry(verdict).or_default() += 1;
-            if verdict == Verdict::Added {
-                *self.added.entry(number).or_default() += 1;
+            *self.answers.entry((class, checked.number)).or_default() += 1;
+            *self.verdicts.entry(checked.verdict).or_default() += 1;
+            if checked.verdict == Verdict::Added {
+                *self.added.entry(checked.number).or_default() += 1;
             }
             self.sources[source as usize] += 1;
-            self.slices += usize::from(sliced);
-            self.short += usize::from(short);
+            self.known += usize::from(checked.number_known);
+            self.slices += usize::from(checked.sliced);
+            self.short += usize::from(checked.short);
         }
 
         fn add(&mut self, other: Counts) {
@@ -408,6 +438,7 @@ mod compare {
             for (mine, n) in self.sources.iter_mut().zip(other.sources) {
                 *mine += n;
             }
+            self.known += other.known;
             self.slices += other.slices;
             self.short += other.short;
         }
@@ -455,6 +486,11 @@ mod compare {
                 of(Verdict::NotAscii),
                 of(Verdict::OverLimit),
                 of(Verdict::Overflow)
+            ));
+            say(format_args!(
+                "numbers: {} answers have the number and place that document 01 gives over the original's records of the \
+                 tokens\n",
+                self.known
             ));
             say(format_args!(
                 "slices: nothing beside the answer was written; of {} requests asked again with other slices {} got 41\n",
@@ -510,7 +546,7 @@ mod compare {
                     };
                     let slices = (rng.below(16) == 0).then(|| rng.below(1 << 30));
                     match check(&case, &mut rooms, slices) {
-                        Ok(checked) => mine.note(source, &case, checked, slices.is_some()),
+                        Ok(checked) => mine.note(source, &case, &checked),
                         Err(said) => {
                             if stop.swap(true, Ordering::Relaxed) {
                                 return;
