@@ -3,21 +3,17 @@
 use Prim.Native.Nat.{ℕ, zero, suc, _+_, _*_, _≤_, _<_, _^_, min}
 use native.Mathlib.Nat.{zero-add}
 use native.Mathlib.Omega.{arith}
-use mathlib.Core.Path.{_≡_, refl, sym, ap, ap₂, _∙_, subst}
-use mathlib.Core.Bool.{Bool, true, false, cond, _||_}
+use mathlib.Core.Path.{_≡_, refl, ap, ap₂, _∙_}
+use mathlib.Core.Bool.{Bool, true, false, _||_}
 use mathlib.Core.List.{List, [], _∷_, _++_, map}
-use lib.ListN.{length, take, drop, getD, length-take, length-map}
+use lib.ListN.{length, take, getD, length-take, length-map}
 use lib.Seq.{getD-take, sets-eq, take-all}
 use lib.Dec.{ltb}
 use borrow.Author.Tests.{lt-ltb, le-ltb}
 use Rattle.emit.specs.Text.{Written, after}
-use Rattle.record.specs.declared.ChainPrefix.{ChainPrefix}
-use Rattle.record.specs.declared.ParsedChain.{ParsedChain}
-use Rattle.record.specs.Chain.{Chain, Holds, noFeatures}
-use Rattle.reading.specs.Molecule.{At, at}
-use Rattle.chain.specs.declared.Role.{Role}
+use Rattle.record.specs.Chain.{Chain}
+use Rattle.reading.specs.Molecule.{at}
 use Rattle.drawable.specs.declared.Drawn.{Drawn}
-use Rattle.drawable.specs.Drawn.{Draws, chainOf}
 use Rattle.shown.specs.declared.Site.{Site}
 use Rattle.shown.specs.Notes.{labelsOf}
 use Rattle.template.specs.declared.Class.{Class}
@@ -25,14 +21,14 @@ use Rattle.template.specs.Request.{placed, bySn, snSites, lineOf, indexOf}
 use Rattle.placed.specs.declared.CxFragment.{CxFragment}
 use Rattle.placed.specs.declared.Placed.{Placed}
 use Rattle.placed.specs.declared.Slots.{Slots}
-use Rattle.placed.specs.Fragment.{FragmentOf, Told, noted}
+use Rattle.placed.specs.Fragment.{FragmentOf, noted}
 use Rattle.listing.specs.declared.Listed.{Listed}
 use Rattle.listing.specs.declared.Lists.{Lists}
 use Rattle.listing.specs.declared.Sites.{Sites}
 use Rattle.listing.specs.Four.{four}
 use Rattle.listing.specs.Index.{allIndexes}
-use Rattle.listing.specs.Lists.{noList, listOf, allLists, ListsAre}
-use Rattle.listing.specs.Sites.{noSite, allSiteList, SitesAre}
+use Rattle.listing.specs.Lists.{listOf, allLists, ListsAre}
+use Rattle.listing.specs.Sites.{allSiteList, SitesAre}
 use Rattle.listing.proofs.PlacedLaws.{sns-told, places-few, sites-placed}
 use Rattle.listing.proofs.IndexLaws.{placed-indices}
 use Rattle.listing.proofs.ListsLaws.{lists-told, lists-few}
@@ -56,23 +52,15 @@ refused-is n p l s e f = rw (e, f)
 
 -- ---- a chain
 
-pub none-is : {p : ParsedChain} {prefix : ChainPrefix} {w : ℕ} {b : Bool} {r : Role} {x : Drawn} {f : CxFragment} → Holds p (noFeatures prefix w 0 b) → Draws r (chainOf p) x → FragmentOf x f
-    → f .chain .carbon ≡ 0
-unfolding chainOf
-none-is h d f = ap (λ (z : Drawn). z .carbon) (f .chain) ∙ (d .carbon ∙ h .carbon)
-
 drawn-few : (x : Chains) → length (drawnIn x) ≡ min (x .count) (length (x .items))
 unfolding drawnIn
 drawn-few x = length-take (x .count) (x .items)
 
 -- no such chain
-pub fragment-none : {x : Chains} {i : ℕ} {f : CxFragment} → length (x .items) ≡ 4 → 4 ≤ i → f .chain .carbon ≡ 0 → FragmentIs x i f
-fragment-none {x} m h e = record { chain = λ z l. absurd (omega (arith, drawn-few x)); none = λ l. e }
-
-pub fragment-past : {x : Chains} {i : ℕ} {f : CxFragment} → x .count ≤ i → f .chain .carbon ≡ 0 → FragmentIs x i f
+fragment-past : {x : Chains} {i : ℕ} {f : CxFragment} → x .count ≤ i → f .chain .carbon ≡ 0 → FragmentIs x i f
 fragment-past {x} h e = record { chain = λ z l. absurd (omega (arith, drawn-few x)); none = λ l. e }
 
-pub fragment-of : {x : Chains} {i : ℕ} {f : CxFragment} (d : Drawn) → length (x .items) ≡ 4 → i < 4 → i < x .count → FragmentOf (getD (x .items) i d) f → FragmentIs x i f
+fragment-of : {x : Chains} {i : ℕ} {f : CxFragment} (d : Drawn) → length (x .items) ≡ 4 → i < 4 → i < x .count → FragmentOf (getD (x .items) i d) f → FragmentIs x i f
 unfolding drawnIn
 fragment-of {x} {i} {f} d m h k g =
     record {
@@ -87,6 +75,56 @@ fragment-of {x} {i} {f} d m h k g =
         go [] j q = absurd (omega arith)
         go (y ∷ l) zero q = refl
         go (y ∷ l) (suc j) q = go l j (omega arith)
+
+-- the chains that there are
+module _ {x : Chains} {n : ℕ} (counted : (n ≡ x .count) × (length (x .items) ≡ 4)) where
+  pub slots-none : {f : CxFragment} → n ≤ 0 → f .chain .carbon ≡ 0 → SlotsOf x (record { s1 = f; s2 = f; s3 = f; s4 = f })
+  slots-none e z =
+      record {
+        first = fragment-past (omega (arith, counted .0)) z;
+        second = fragment-past (omega (arith, counted .0)) z;
+        third = fragment-past (omega (arith, counted .0)) z;
+        fourth = fragment-past (omega (arith, counted .0)) z;
+      }
+
+  module _ {a : CxFragment} (z₁ : Drawn) (h₁ : FragmentOf (getD (x .items) 0 z₁) a) where
+    pub slots-one : {f : CxFragment} → 0 < n → n ≤ 1 → f .chain .carbon ≡ 0 → SlotsOf x (record { s1 = a; s2 = f; s3 = f; s4 = f })
+    slots-one l e z =
+        record {
+          first = fragment-of z₁ (counted .1) (omega arith) (omega (arith, counted .0)) h₁;
+          second = fragment-past (omega (arith, counted .0)) z;
+          third = fragment-past (omega (arith, counted .0)) z;
+          fourth = fragment-past (omega (arith, counted .0)) z;
+        }
+
+    module _ {b : CxFragment} (z₂ : Drawn) (h₂ : FragmentOf (getD (x .items) 1 z₂) b) where
+      pub slots-two : {f : CxFragment} → 1 < n → n ≤ 2 → f .chain .carbon ≡ 0 → SlotsOf x (record { s1 = a; s2 = b; s3 = f; s4 = f })
+      slots-two l e z =
+          record {
+            first = fragment-of z₁ (counted .1) (omega arith) (omega (arith, counted .0)) h₁;
+            second = fragment-of z₂ (counted .1) (omega arith) (omega (arith, counted .0)) h₂;
+            third = fragment-past (omega (arith, counted .0)) z;
+            fourth = fragment-past (omega (arith, counted .0)) z;
+          }
+
+      module _ {d : CxFragment} (z₃ : Drawn) (h₃ : FragmentOf (getD (x .items) 2 z₃) d) where
+        pub slots-three : {f : CxFragment} → 2 < n → n ≤ 3 → f .chain .carbon ≡ 0 → SlotsOf x (record { s1 = a; s2 = b; s3 = d; s4 = f })
+        slots-three l e z =
+            record {
+              first = fragment-of z₁ (counted .1) (omega arith) (omega (arith, counted .0)) h₁;
+              second = fragment-of z₂ (counted .1) (omega arith) (omega (arith, counted .0)) h₂;
+              third = fragment-of z₃ (counted .1) (omega arith) (omega (arith, counted .0)) h₃;
+              fourth = fragment-past (omega (arith, counted .0)) z;
+            }
+
+        pub slots-four : {g : CxFragment} (z₄ : Drawn) → FragmentOf (getD (x .items) 3 z₄) g → 3 < n → SlotsOf x (record { s1 = a; s2 = b; s3 = d; s4 = g })
+        slots-four z₄ h₄ l =
+            record {
+              first = fragment-of z₁ (counted .1) (omega arith) (omega (arith, counted .0)) h₁;
+              second = fragment-of z₂ (counted .1) (omega arith) (omega (arith, counted .0)) h₂;
+              third = fragment-of z₃ (counted .1) (omega arith) (omega (arith, counted .0)) h₃;
+              fourth = fragment-of z₄ (counted .1) (omega arith) (omega (arith, counted .0)) h₄;
+            }
 
 -- ---- the measuring
 

@@ -2,7 +2,6 @@
 // and a request that is refused leaves both slices as they were. What is answered and written is said by specs/Answer.antt, and what an
 // accepted line promises by specs/Call.antt.
 use builder::Builder;
-use chain::Role;
 use judge::Chains;
 use listing::Listed;
 use listing::Lists;
@@ -11,18 +10,16 @@ use placed::CxFragment;
 use placed::MAX_CHAINS;
 use placed::Placed;
 use placed::Slots;
-use record::ChainPrefix;
-use record::ParsedChain;
 use shown::MAX_SITES;
 use shown::Site;
 use template::Class;
 ghost use mathlib.Core.Path.{_≡_};
 ghost use mathlib.Core.List.{[]};
-ghost use lib.ListN.{take};
+ghost use lib.ListN.{length, take};
 ghost use Rattle.judge.specs.Verdict.{verdict, tokens};
 ghost use Rattle.forward.specs.Answer.{listsOf, sitesOf, refusal};
 ghost use Rattle.forward.specs.Call.{Called};
-ghost use Rattle.forward.specs.Slots.{FragmentIs, SlotsOf, Measured, IndexMeasured, SlotsWritten, SlotsDrawn};
+ghost use Rattle.forward.specs.Slots.{SlotsOf, Measured, IndexMeasured, SlotsWritten, SlotsDrawn};
 
 // A slice is shorter than needed.
 pub const SHORT_SLICE: u16 = 41;
@@ -68,37 +65,70 @@ fn refused(number: u16, token: usize) -> Answer
     }
 }
 
-// A chain without carbons, for an sn that has none.
-fn no_fragment() -> CxFragment
+// A chain without carbons, for an sn that has none: another chain's copy, of which nothing else is looked at, costs less than an empty one.
+fn without_carbons(x: CxFragment) -> CxFragment
     ensures { λ r. ⌜ r .chain .carbon ≡ 0 ⌝ }
 {
-    let none = ParsedChain::new(ChainPrefix::Acyl, 0, 0, false);
-    let drawn = drawable::drawn_as(Role::Slot, none);
-    placed::build_chain_fragment(drawn)
+    let mut none = x;
+    let mut chain = x.chain;
+    chain.carbon = 0;
+    none.chain = chain;
+    none
 }
 
-// A chain of the request with its counts; one without carbons where the request has no such chain.
-fn fragment_at(chains: Chains, i: usize) -> CxFragment
-    ensures { λ r. ⌜ FragmentIs chains i r ⌝ }
+// How many chains there are, in four places.
+fn count_of(chains: Chains) -> usize
+    ensures { λ r. ⌜ (r ≡ chains .count) × (length (chains .items) ≡ 4) ⌝ }
 {
-    let n = chains.count;
-    if MAX_CHAINS <= i {
-        return no_fragment();
-    }
-    if n <= i {
-        return no_fragment();
-    }
-    let x = chains.items[i];
-    placed::build_chain_fragment(x)
+    chains.count
 }
 
+// The chains of the request with their counts, and chains without carbons where it has no more.
 fn slots_of(chains: Chains) -> Slots
     ensures { λ r. ⌜ SlotsOf chains r ⌝ }
 {
-    let s1 = fragment_at(chains, 0);
-    let s2 = fragment_at(chains, 1);
-    let s3 = fragment_at(chains, 2);
-    let s4 = fragment_at(chains, 3);
+    let n = count_of(chains);
+    let x1 = chains.items[0];
+    let s1 = placed::build_chain_fragment(x1);
+    let none = without_carbons(s1);
+    if n <= 0 {
+        return Slots {
+            s1: none,
+            s2: none,
+            s3: none,
+            s4: none,
+        };
+    }
+    if n <= 1 {
+        return Slots {
+            s1,
+            s2: none,
+            s3: none,
+            s4: none,
+        };
+    }
+    let x2 = chains.items[1];
+    let s2 = placed::build_chain_fragment(x2);
+    if n <= 2 {
+        return Slots {
+            s1,
+            s2,
+            s3: none,
+            s4: none,
+        };
+    }
+    let x3 = chains.items[2];
+    let s3 = placed::build_chain_fragment(x3);
+    if n <= 3 {
+        return Slots {
+            s1,
+            s2,
+            s3,
+            s4: none,
+        };
+    }
+    let x4 = chains.items[3];
+    let s4 = placed::build_chain_fragment(x4);
     Slots { s1, s2, s3, s4 }
 }
 
