@@ -84,6 +84,16 @@ pub written-digit : {xs ys zs : List ℕ} {at p q : ℕ} (n : ℕ) → length xs
     → Written xs at (decimal (n / 10)) ys p → Written ys p ((48 + n % 10) ∷ []) zs q → Written xs at (decimal n) zs q
 written-digit n g h v w = rw (decimal-step n h) (written-append g v w)
 
+-- two digits
+pub written-two : {xs ys zs : List ℕ} {at p q : ℕ} (n : ℕ) → length xs < 2 ^ 64 → 10 ≤ n → n < 100
+    → Written xs at ((48 + n / 10) ∷ []) ys p → Written ys p ((48 + n % 10) ∷ []) zs q → Written xs at (decimal n) zs q
+written-two n g h l v w = written-digit n g h (written-small (n / 10) (omega arith) v) w
+
+-- one digit after two
+pub written-three : {xs ys zs : List ℕ} {at p q : ℕ} (n : ℕ) → length xs < 2 ^ 64 → 100 ≤ n
+    → Written xs at (decimal (n / 10)) ys p → Written ys p ((48 + n % 10) ∷ []) zs q → Written xs at (decimal n) zs q
+written-three n g h v w = written-digit n g (omega arith) v w
+
 -- an empty slice stays empty: it measures
 pub written-empty : {ys t : List ℕ} {at p : ℕ} → Written [] at t ys p → ys ≡ []
 written-empty {t = t} {at} w = w .elements ∙ sets-out t [] at (omega arith)
