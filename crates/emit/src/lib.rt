@@ -39,6 +39,19 @@ pub fn put_index(out: &mut [u16], at: usize, n: u16) -> usize
     advance(at)
 }
 
+// Atom numbers, one after the other.
+pub fn put_indices(out: &mut [u16], at: usize, numbers: &[u16]) -> usize
+    ensures { λ r. ⌜ Written (now (out .entry)) at (now (numbers .entry)) (now (out .exit)) r ⌝ }
+{
+    let mut p = at;
+    let mut i = 0;
+    while i < numbers.len() {
+        p = put_index(out, p, numbers[i]);
+        i += 1;
+    }
+    p
+}
+
 // A text.
 pub fn put_text(out: &mut [u8], at: usize, text: &[u8]) -> usize
     ensures { λ r. ⌜ Written (now (out .entry)) at (now (text .entry)) (now (out .exit)) r ⌝ }
