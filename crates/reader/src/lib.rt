@@ -5,6 +5,12 @@ ghost use mathlib.Core.Path.{_≡_};
 ghost use Rattle.scan.specs.Part.{Place};
 ghost use Rattle.reader.specs.Reading.{placeIn, byteFrom, partFrom, restFrom};
 
+// The bytes, and the place that is read next. The bytes stay the caller's.
+pub struct TokenReader<'a> {
+    pub src: &'a [u8],
+    pub at: usize,
+}
+
 // The byte that was read and the place after it, or the end.
 pub enum NextByte {
     Found { byte: u8, next: usize },
@@ -60,4 +66,41 @@ fn rest_from(s: &[u8], at: usize) -> &[u8]
 {
     let from = place_in(s, at);
     scan::trim(&s[from..])
+}
+
+// A reader goes in by value and is not changed: the answer says which place comes next, and a reader at that place is made anew.
+impl<'a> TokenReader<'a> {
+    pub fn new(src: &'a [u8], at: usize) -> TokenReader<'a>
+        ensures { λ r. ⌜ (r .src ≡ src .entry) × (r .at ≡ at) ⌝ }
+    {
+        TokenReader { src, at }
+    }
+
+    // The next byte, or the end.
+    pub fn next_byte(self) -> NextByte
+        ensures { λ r. ⌜ r ≡ byteFrom (now (self .entry .src)) (self .entry .at) ⌝ }
+    {
+        byte_from(self.src, self.at)
+    }
+
+    // The next part up to the byte b; the next place is the one after that byte.
+    pub fn next_part(self, b: u8) -> Part
+        ensures { λ r. ⌜ r ≡ partFrom b (now (self .entry .src)) (self .entry .at) ⌝ }
+    {
+        part_from(self.src, self.at, b)
+    }
+
+    // All that is left, between leading and trailing spaces.
+    pub fn trimmed_rest(self) -> &'a [u8]
+        ensures { λ r. ⌜ now r ≡ restFrom (now (self .entry .src)) (self .entry .at) ⌝ }
+    {
+        rest_from(self.src, self.at)
+    }
+}
+
+// The segment of a token that starts at a place. From plain bytes to places in them, so who calls it knows nothing of a reader.
+pub fn next_segment(s: &[u8], at: usize) -> Part
+    ensures { λ r. ⌜ r ≡ partFrom 59 (now (s .entry)) at ⌝ }
+{
+    TokenReader::new(s, at).next_part(b';')
 }
