@@ -3,11 +3,18 @@
 use Prim.Native.Nat.{ℕ, suc, _+_, _-_, _≤_, _<_}
 use native.Mathlib.Nat.{sub-zero}
 use native.Mathlib.Omega.{arith}
-use mathlib.Core.Path.{_≡_, refl, sym, _∙_}
+use mathlib.Core.Path.{_≡_, refl, sym, ap, _∙_}
 use mathlib.Core.Bool.{Bool, true, false, not}
 use mathlib.Core.List.{List}
-use lib.ListN.{length, take}
+use lib.ListN.{length, take, drop, length-drop}
+use lib.Seq.{drop-drop}
 use borrow.Author.Tests.{lt-ltb, le-ltb, eq-eqb, ne-eqb}
+use Rattle.scan.specs.Part.{Place, indexOf}
+use Rattle.scan.proofs.Laws.{to-end}
+use Rattle.reader.specs.declared.Part.{Part}
+use Rattle.reader.specs.Reading.{partFrom}
+use Rattle.reader.proofs.Laws.{part-order, part-within, part-next, part-starts, part-place}
+use Rattle.form.specs.Parts.{partsAt}
 use Rattle.form.specs.Form.{segmentText, formOf, Formed, endsInParenthesis, afterPlace}
 use Rattle.form.specs.declared.Form.{Form}
 use Rattle.form.specs.declared.Form.the-variants.{Ring as Form·Ring, Repeated as Form·Repeated, Listed as Form·Listed, Parts as Form·Parts}
@@ -16,8 +23,10 @@ use Rattle.record.specs.declared.Mod.{Mod}
 use Rattle.record.specs.declared.Ring.{Ring}
 use Rattle.record.specs.declared.ParsedChain.{ParsedChain}
 use Rattle.record.specs.declared.Parsed.{Parsed}
-use Rattle.record.specs.Chain.{withGroup, withRing, withOxygens, countsOf, maxGroups, Takes, Gives}
+use Rattle.record.specs.Chain.{Chain, Outcome, withGroup, withRing, withOxygens, countsOf, maxGroups, Takes, Gives}
 use Rattle.record.proofs.Laws.{gives-read, gives-same, gives-stop, gives-then}
+use Rattle.positions.specs.Each.{each}
+use Rattle.positions.proofs.Each.{Onward, each-stop, each-last, each-more}
 use Rattle.positions.proofs.Refusals.{gives-number, gives-11}
 use Rattle.features.specs.Features.{featureOf, listedAs, partOf, repeatedOf}
 use Rattle.features.specs.declared.Segment.{Segment}
@@ -148,3 +157,36 @@ module _ (s t : List ℕ) (c : ParsedChain) (e : t ≡ segmentText s) where
     pub segment-counted : (r : Parsed) → q .refusal ≡ 0 → Gives (q .chain) r countsOf → Gives c r (segmentAt s)
     unfolding segmentAt
     segment-counted r h v = gives-same (gives-then w h v) (λ d k. sym (rw (← e, ne-eqb (length t) 0 n)))
+
+-- ---- the segments of a token, one after the other: the part that starts at a place, and the place after it
+
+module _ (e c : ParsedChain) (whole : Chain → Outcome) (s : List ℕ) (at : ℕ) (p : Part) (r : Parsed) (o : Onward e c whole (each segmentAt (partsAt 59 (drop at s))))
+    (l : at ≤ length s) (h : p ≡ partFrom 59 s at) (w : Gives c r (segmentAt (take (p .to - p .from) (drop (p .from) s)))) where
+  place : Place (drop at s) (indexOf 59 (drop at s)) (p .to - at)
+  place = part-place 59 s at p h l
+
+  -- the part is the one that starts at that place
+  here : Gives c r (segmentAt (take (p .to - at - 0) (drop at s)))
+  here = rw (sub-zero (p .to - at), ← part-starts 59 s at p h l) w
+
+  pub segments-stop : (r .refusal ≡ 0 → ⊥) → Gives e r whole
+  segments-stop = each-stop segmentAt 59 e c whole (drop at s) (p .to - at) r o place here
+
+  pub segments-last : p .to ≡ length s → Gives e r whole
+  segments-last k = each-last segmentAt 59 e c whole (drop at s) (p .to - at) r o place here (omega (arith, length-drop at s))
+
+  pub segments-more : (p .to ≡ length s → ⊥) → r .refusal ≡ 0 → Onward e (r .chain) whole (each segmentAt (partsAt 59 (drop (p .next) s)))
+  segments-more n k =
+      let t = drop at s in
+      let m = p .to - at + 1 in
+      let j : at + m ≡ p .next = omega (arith, part-next 59 s at p h, part-order 59 s at p h, part-starts 59 s at p h l) in
+      let v : take (length t - m) (drop m t) ≡ drop (p .next) s = to-end m t ∙ drop-drop m at s ∙ ap (λ (i : ℕ). drop i s) j in
+      rw (← v) (each-more segmentAt 59 e c whole t (p .to - at) r o place here (λ x. n (omega (arith, length-drop at s, part-order 59 s at p h, part-starts 59 s at p h l))) k)
+
+module _ (s : List ℕ) (at : ℕ) (p : Part) (l : at ≤ length s) (h : p ≡ partFrom 59 s at) (n : p .to ≡ length s → ⊥) where
+  -- behind a segment that is not the last the next one starts within the bytes, and further on
+  pub next-within : p .next ≤ length s
+  next-within = omega (arith, part-next 59 s at p h, part-within 59 s at p h, n)
+
+  pub next-further : length s - p .next < length s - at
+  next-further = omega (arith, part-next 59 s at p h, part-within 59 s at p h, part-order 59 s at p h, part-starts 59 s at p h l, n)

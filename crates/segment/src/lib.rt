@@ -206,20 +206,22 @@ fn parse_segment(s: &[u8], chain: ParsedChain) -> Parsed
 pub fn parse_segments(cursor: &[u8], chain: ParsedChain) -> Parsed
     ensures { λ r. ⌜ Gives chain r (segments (now (cursor .entry))) ⌝ }
 {
-    let mut t = cursor;
+    let mut at = 0;
     let mut c = chain;
     loop {
-        let n = scan::find(t, b';');
-        let parsed = parse_segment(&t[0..n], c);
+        let segment = reader::next_segment(cursor, at);
+        let from = segment.from;
+        let to = segment.to;
+        let parsed = parse_segment(&cursor[from..to], c);
         let refusal = parsed.refusal;
         if refusal != 0 {
             return parsed;
         }
-        if n == t.len() {
+        if to == cursor.len() {
             return parsed;
         }
-        let next = parsed.chain;
-        c = next;
-        t = &t[n + 1..];
+        let longer = parsed.chain;
+        c = longer;
+        at = segment.next;
     }
 }

@@ -1,62 +1,52 @@
 use borrow.Author.Needs.{needs}
-use Prim.Native.Nat.{_≤_}
+use Prim.Native.Nat.{_-_, _≤_}
 use native.Mathlib.Omega.{arith}
-use lib.ListN.{length}
+use lib.ListN.{length, drop}
+use Rattle.reader.proofs.Laws.{part-order, part-within}
 use Rattle.form.specs.Parts.{partsAt}
 use Rattle.positions.specs.Each.{each}
-use Rattle.positions.proofs.Each.{Onward, onward-start, each-stop, each-last, each-more}
+use Rattle.positions.proofs.Each.{Onward, onward-start}
 use Rattle.segment.specs.Segment.{segmentAt, segments}
+use Rattle.segment.proofs.Laws.{segments-stop, segments-last, segments-more, next-within, next-further}
 use Rattle.segment.proofs.parse_segments.Statement.{statement}
 use Rattle.segment.proofs.parse_segments.Tie as tie
 
 abbrev Inv-loop : tie.InvT-loop
-Inv-loop cursor t₀ c₀ t c = Onward c₀ c (segments cursor) (each segmentAt (partsAt 59 t)) × (length t ≤ length cursor)
+Inv-loop cursor at₀ c₀ at c = Onward c₀ c (segments cursor) (each segmentAt (partsAt 59 (drop at cursor))) × (at ≤ length cursor)
 
 abbrev μ-loop : tie.MeasureT-loop
-μ-loop cursor t₀ c₀ t c = length t
+μ-loop cursor at₀ c₀ at c = length cursor - at
 
 loop-holds : tie.Need-loop-holds Inv-loop μ-loop
 unfolding segments
 loop-holds c = (search onward-start, omega arith)
 
-find-requires : tie.Need-find-requires Inv-loop μ-loop
-find-requires c κs = search needs
+next-segment-requires : tie.Need-next-segment-requires Inv-loop μ-loop
+next-segment-requires c κs = search needs
 
 sub-parse-segment : tie.Need-sub-parse-segment Inv-loop μ-loop
-sub-parse-segment c = search needs
+sub-parse-segment c = search part-order
 
 part-parse-segment-start : tie.Need-part-parse-segment-start Inv-loop μ-loop
-part-parse-segment-start c = search needs
+part-parse-segment-start c = search part-order
 
 part-parse-segment-end : tie.Need-part-parse-segment-end Inv-loop μ-loop
-part-parse-segment-end c = search needs
+part-parse-segment-end c = search part-within
 
 parse-segment-requires : tie.Need-parse-segment-requires Inv-loop μ-loop
 parse-segment-requires c κs = search needs
 
 returns : tie.Need-returns Inv-loop μ-loop
-returns c = search each-stop
+returns c = search segments-stop
 
 returns-2 : tie.Need-returns-2 Inv-loop μ-loop
-returns-2 c = search each-last
-
-add-t : tie.Need-add-t Inv-loop μ-loop
-add-t c = search needs
-
-sub-t : tie.Need-sub-t Inv-loop μ-loop
-sub-t c = search needs
-
-part-t-start : tie.Need-part-t-start Inv-loop μ-loop
-part-t-start c = search needs
-
-part-t-end : tie.Need-part-t-end Inv-loop μ-loop
-part-t-end c = search needs
+returns-2 c = search segments-last
 
 loop-less : tie.Need-loop-less Inv-loop μ-loop
-loop-less c = search needs
+loop-less c = search next-further
 
 loop-again : tie.Need-loop-again Inv-loop μ-loop
-loop-again c = (search each-more, search needs)
+loop-again c = (search segments-more, search next-within)
 
 pub parse-segments-spec : {M : Type 1} → statement M
 parse-segments-spec =
@@ -65,16 +55,12 @@ parse-segments-spec =
     Inv-loop
     μ-loop
     loop-holds
-    find-requires
+    next-segment-requires
     sub-parse-segment
     part-parse-segment-start
     part-parse-segment-end
     parse-segment-requires
     returns
     returns-2
-    add-t
-    sub-t
-    part-t-start
-    part-t-end
     loop-less
     loop-again)
