@@ -70,6 +70,7 @@ fn rest_from(s: &[u8], at: usize) -> &[u8]
 
 // A reader goes in by value and is not changed: the answer says which place comes next, and a reader at that place is made anew.
 impl<'a> TokenReader<'a> {
+    // A reader of lent bytes at a place; the first byte's is 0.
     pub fn new(src: &'a [u8], at: usize) -> TokenReader<'a>
         ensures { λ r. ⌜ (r .src ≡ src .entry) × (r .at ≡ at) ⌝ }
     {
@@ -90,7 +91,7 @@ impl<'a> TokenReader<'a> {
         part_from(self.src, self.at, b)
     }
 
-    // All that is left, between leading and trailing spaces.
+    // All that is left, between leading and trailing spaces. No place comes next.
     pub fn trimmed_rest(self) -> &'a [u8]
         ensures { λ r. ⌜ now r ≡ restFrom (now (self .entry .src)) (self .entry .at) ⌝ }
     {
