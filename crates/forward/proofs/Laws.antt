@@ -1,16 +1,17 @@
 -- Laws of the call's parts: no chain, a chain of the request, the measuring, and what is answered.
 -- Assumes nothing.
-use Prim.Native.Nat.{ℕ, zero, suc, _+_, _*_, _≤_, _<_, _^_, min}
-use native.Mathlib.Nat.{zero-add}
+use Prim.Native.Nat.{ℕ, zero, suc, _+_, _-_, _≤_, _<_, _^_, min}
+use native.Mathlib.Nat.{zero-add, sub-zero}
 use native.Mathlib.Omega.{arith}
 use mathlib.Core.Path.{_≡_, refl, ap, ap₂, _∙_}
 use mathlib.Core.Bool.{Bool, true, false, _||_}
 use mathlib.Core.List.{List, [], _∷_, _++_, map}
-use lib.ListN.{length, take, getD, length-take, length-map}
-use lib.Seq.{getD-take, sets-eq, take-all}
+use lib.ListN.{length, take, drop, getD, length-take, length-map}
+use lib.Seq.{getD-take, sets, sets-eq, take-all}
 use lib.Dec.{ltb}
 use borrow.Author.Tests.{lt-ltb, le-ltb}
 use Rattle.emit.specs.Text.{Written, after}
+use Rattle.emit.proofs.Laws.{written-length}
 use Rattle.record.specs.Chain.{Chain}
 use Rattle.reading.specs.Molecule.{at}
 use Rattle.drawable.specs.declared.Drawn.{Drawn}
@@ -42,7 +43,7 @@ use Rattle.judge.specs.Verdict.{Drawable}
 use Rattle.forward.specs.declared.Answer.{Answer}
 use Rattle.forward.specs.Answer.{listsOf, sitesOf, refusal, siteOf, acceptance, short, atStart}
 use Rattle.forward.specs.Call.{Answers}
-use Rattle.forward.specs.Slots.{FragmentIs, SlotsOf, Ready, Measured, IndexMeasured, SlotsWritten, SlotsDrawn}
+use Rattle.forward.specs.Slots.{FragmentIs, SlotsOf, Ready, LineWritten, IndexWritten, Accepted, SlotsDrawn}
 
 -- ---- a refusal
 
@@ -126,23 +127,6 @@ module _ {x : Chains} {n : ℕ} (counted : (n ≡ x .count) × (length (x .items
               fourth = fragment-of z₄ (counted .1) (omega arith) (omega (arith, counted .0)) h₄;
             }
 
--- ---- the measuring
-
-no-bytes : (l : List ℕ) → length l ≡ 0 → l ≡ []
-no-bytes [] h = refl
-no-bytes (x ∷ l) h = absurd (omega arith)
-
-pub measured : {c : Class} {swap : Bool} {t : List ℕ} {k : ℕ} {s : Slots} {xs ys : List ℕ} {b : Builder} → LineBuilt c swap t k s [] ys b → Measured c swap t k s xs (ys ++ xs) b
-measured {xs = xs} {ys} h =
-    record {
-      same = ap (λ (l : List ℕ). l ++ xs) (no-bytes ys (h .size));
-      length = λ ds r. h .line ds (r .tail) (r .stood) (r .fits) (r .told) .next;
-      placed = λ ds r. h .placed ds (r .tail) (r .stood) (r .fits) (r .told);
-    }
-
-pub index-measured : {s : Slots} {ps : List Placed} {xs ys : List ℕ} {n : ℕ} → length ys ≡ 0 → Written [] 0 (allIndexes s ps) ys n → IndexMeasured s ps xs (ys ++ xs) n
-index-measured {xs = xs} {ys} e w = record { same = ap (λ (l : List ℕ). l ++ xs) (no-bytes ys e); number = w .next }
-
 -- ---- what is answered
 
 -- a measured length is no more than the text has
@@ -170,43 +154,71 @@ module _ (c : Class) (swap : Bool) (t : List ℕ) (ds : List Chain) where
   pub short-answer : {xs is ys js : List ℕ} {a : Answer} → short c swap t ds (length xs) (length is) ≡ true → ys ≡ xs → js ≡ is → a ≡ refusal 41 0 → Answers (Drawable c ds) swap t xs is ys js a
   short-answer e f g h = record { answer = h ∙ rw e; line = f ∙ rw e; index = g ∙ rw e }
 
--- the indices of the chains that were measured are those of the request
-index-is : {c : Class} {swap : Bool} {t : List ℕ} {k : ℕ} {s : Slots} {xs ys : List ℕ} {b : Builder} (ds : List Chain) → Measured c swap t k s xs ys b → Ready c t k s ds
-    → allIndexes s (placedIn b) ≡ indexOf c t ds
-index-is {c} {t = t} {s = s} ds m r = ap (allIndexes s) (m .placed ds r) ∙ placed-indices s c t ds (r .told)
+-- ---- what was built on a text of its own
 
-module _ {c : Class} {swap : Bool} {t : List ℕ} {k : ℕ} {s : Slots} {xs is ys : List ℕ} {b : Builder} {a : Answer} where
-  pub line-short : Measured c swap t k s xs ys b → length ys < b .at → a ≡ refusal 41 0 → SlotsDrawn c swap t k s xs is ys is a
+-- a text that was written from the first place on, with room for all of it
+start-of : {xs ys ts : List ℕ} {p : ℕ} → Written xs 0 ts ys p → length ts ≤ length xs → take (length ts) ys ≡ ts
+start-of {xs} {ts = ts} w h = rw (w .elements, rw (zero-add (length ts)) at (sets-eq ts xs 0 (omega (arith, h)))) (go ts (drop (length ts) xs))
+  where
+    go : (l r : List ℕ) → take (length l) (l ++ r) ≡ l
+    go [] r = refl
+    go (x ∷ l) r = ap (λ (z : List ℕ). x ∷ z) (go l r)
+
+module _ {c : Class} {swap : Bool} {t : List ℕ} {k : ℕ} {s : Slots} where
+  -- the line of a request, where it was built
+  built-line : {xs ys : List ℕ} {b : Builder} (ds : List Chain) → LineBuilt c swap t k s xs ys b → Ready c t k s ds → Written xs 0 (lineOf c swap t ds) ys (b .at)
+  built-line ds h r = h .line ds (r .tail) (r .stood) (r .fits) (r .told)
+
+  built-placed : {xs ys : List ℕ} {b : Builder} (ds : List Chain) → LineBuilt c swap t k s xs ys b → Ready c t k s ds → placedIn b ≡ map noted (placed c t ds)
+  built-placed ds h r = h .placed ds (r .tail) (r .stood) (r .fits) (r .told)
+
+  pub line-copied : {zs xs ys : List ℕ} {n e : ℕ} → n ≤ length zs → Written xs 0 (take (n - 0) zs) ys e → LineWritten c swap t k s zs n xs ys
+  line-copied {zs} {xs} {ys} {n} h w = record { size = written-length w; line = λ ds r e f. (rw (sub-zero n) at (w .elements)) ∙ ap (λ (l : List ℕ). sets xs 0 l) (f h) }
+
+  pub line-again : {zs xs ys : List ℕ} {n : ℕ} {b : Builder} → LineBuilt c swap t k s xs ys b → LineWritten c swap t k s zs n xs ys
+  line-again h = record { size = h .size; line = λ ds r e f. built-line ds h r .elements }
+
+pub index-copied : {is zs xs ys : List ℕ} {n e : ℕ} → n ≤ length zs → Written xs 0 (take (n - 0) zs) ys e → IndexWritten is zs n xs ys
+index-copied {xs = xs} {n = n} h w = record { size = written-length w; index = λ e f. (rw (sub-zero n) at (w .elements)) ∙ ap (λ (l : List ℕ). sets xs 0 l) (f h) }
+
+pub index-again : {is zs xs ys : List ℕ} {n e : ℕ} → Written xs 0 is ys e → IndexWritten is zs n xs ys
+index-again w = record { size = written-length w; index = λ e f. w .elements }
+
+pub is-accepted : {n : ℕ} {s : Slots} {ps : List Placed} {l : Lists} {z : Sites} → ListsAre (allLists s ps) l → SitesAre (allSiteList ps) z
+    → Accepted n s ps (record { number = 0; token = 0; length = n; lists = l; sites = z })
+is-accepted l z = record { lists = l; sites = z; number = refl; token = refl; length = refl }
+
+-- the indices of the chains that were built are those of the request
+index-is : {c : Class} {swap : Bool} {t : List ℕ} {k : ℕ} {s : Slots} {xs ys : List ℕ} {b : Builder} (ds : List Chain) → LineBuilt c swap t k s xs ys b → Ready c t k s ds
+    → allIndexes s (placedIn b) ≡ indexOf c t ds
+index-is {c} {t = t} {s = s} ds m r = ap (allIndexes s) (built-placed ds m r) ∙ placed-indices s c t ds (r .told)
+
+module _ {c : Class} {swap : Bool} {t : List ℕ} {k : ℕ} {s : Slots} {xs is vs zs : List ℕ} {b : Builder} {a : Answer} where
+  pub line-short : LineBuilt c swap t k s vs zs b → length xs < b .at → a ≡ refusal 41 0 → SlotsDrawn c swap t k s xs is xs is a
   line-short m h e =
       record {
         drawn = λ ds r.
             short-answer c swap t ds
-            (short-by-line c swap t ds xs is (omega (arith, ap (λ (l : List ℕ). length l) (m .same), m .length ds r, least (length (lineOf c swap t ds))))) (m .same) refl e;
+            (short-by-line c swap t ds xs is (omega (arith, built-line ds m r .next, least (length (lineOf c swap t ds))))) refl refl e;
       }
 
-  pub index-short : {js : List ℕ} {n : ℕ} → Measured c swap t k s xs ys b → IndexMeasured s (take (b .count) (b .placed)) is js n → length js < n → a ≡ refusal 41 0 → SlotsDrawn c swap t k s xs is ys js a
+  pub index-short : {us ws : List ℕ} {n : ℕ} → LineBuilt c swap t k s vs zs b → Written us 0 (allIndexes s (take (b .count) (b .placed))) ws n → length is < n → a ≡ refusal 41 0
+      → SlotsDrawn c swap t k s xs is xs is a
   unfolding placedIn
   index-short m i h e =
       record {
         drawn = λ ds r.
             short-answer c swap t ds
             (short-by-index c swap t ds xs is
-            (omega (arith, ap (λ (l : List ℕ). length l) (i .same), i .number, ap (λ (l : List ℕ). length l) (index-is ds m r), least (length (indexOf c t ds))))) (m .same) (i .same) e;
+            (omega (arith, i .next, ap (λ (l : List ℕ). length l) (index-is ds m r), least (length (indexOf c t ds))))) refl refl e;
       }
 
 -- ---- the writing
 
-pub slots-written : {c : Class} {swap : Bool} {t : List ℕ} {k : ℕ} {s : Slots} {xs is ys js : List ℕ} {b last : Builder} {end : ℕ} {l : Lists} {z : Sites}
-    → LineBuilt c swap t k s xs ys last → Written is 0 (allIndexes s (take (b .count) (b .placed))) js end → ListsAre (allLists s (take (b .count) (b .placed))) l
-    → SitesAre (allSiteList (take (b .count) (b .placed))) z
-    → SlotsWritten c swap t k s xs is ys js b (record { number = 0; token = 0; length = b .at; lists = l; sites = z })
-unfolding placedIn
-slots-written {last = last} {end} h i l z = record { last = last; line = h; end = end; index = i; lists = l; sites = z; number = refl; token = refl; length = refl }
-
--- a text that was written from the first place on, with room for all of it
-at-start : {xs ys ts : List ℕ} {p : ℕ} → Written xs 0 ts ys p → length ts ≤ length xs → ys ≡ atStart ts xs
+-- a text stored from the first place on, with room for all of it
+at-start : (xs ts : List ℕ) {ys : List ℕ} → ys ≡ sets xs 0 ts → length ts ≤ length xs → ys ≡ atStart ts xs
 unfolding atStart
-at-start {xs} {ts = ts} w h = w .elements ∙ (rw (zero-add (length ts)) at (sets-eq ts xs 0 (omega (arith, h))))
+at-start xs ts w h = w ∙ (rw (zero-add (length ts)) at (sets-eq ts xs 0 (omega (arith, h))))
 
 -- four places hold up to four
 four-lists : (l : List Listed) (r : Lists) → length l ≤ 4 → ListsAre l r → r ≡ listsOf l
@@ -242,25 +254,29 @@ answer-is a n l z e f g h i =
     ap₂ {C = Answer} (λ x y. record { number = x; token = y; length = a .length; lists = a .lists; sites = a .sites }) e f ∙ rw (g, h, i) refl
 
 -- both slices have room
-module _ {c : Class} {swap : Bool} {t : List ℕ} {k : ℕ} {s : Slots} {xs is ys js zs ks : List ℕ} {b : Builder} {n : ℕ} {a : Answer} where
-  pub slots-drawn : length xs < 2 ^ 63 → length is < 2 ^ 63 → Measured c swap t k s xs ys b → IndexMeasured s (take (b .count) (b .placed)) is js n → b .at ≤ length ys → n ≤ length js
-      → SlotsWritten c swap t k s ys js zs ks b a → SlotsDrawn c swap t k s xs is zs ks a
+module _ {c : Class} {swap : Bool} {t : List ℕ} {k : ℕ} {s : Slots} {xs is ys js vs zs us ws : List ℕ} {b : Builder} {n : ℕ} {a : Answer} where
+  pub slots-drawn : length xs < 2 ^ 63 → length is < 2 ^ 63 → LineBuilt c swap t k s vs zs b
+      → Written us 0 (allIndexes s (take (b .count) (b .placed))) ws n → b .at ≤ length xs → n ≤ length is
+      → LineWritten c swap t k s zs (b .at) xs ys → IndexWritten (allIndexes s (take (b .count) (b .placed))) ws n is js → Accepted (b .at) s (take (b .count) (b .placed)) a
+      → SlotsDrawn c swap t k s xs is ys js a
   unfolding placedIn acceptance
-  slots-drawn u v m i h g w =
+  slots-drawn u v m i h g l x w =
       record {
         drawn = λ ds r.
-            let same : length ys ≡ length xs = ap (λ (l : List ℕ). length l) (m .same) in
-            let same′ : length js ≡ length is = ap (λ (l : List ℕ). length l) (i .same) in
             let indices : allIndexes s (placedIn b) ≡ indexOf c t ds = index-is ds m r in
-            let at : b .at ≡ length (lineOf c swap t ds) = omega (arith, u, same, h, m .length ds r) in
-            let line : length (lineOf c swap t ds) ≤ length xs = omega (arith, same, at, h) in
-            let index : length (indexOf c t ds) ≤ length is = omega (arith, v, same′, g, i .number, ap (λ (l : List ℕ). length l) indices) in
+            let at : b .at ≡ length (lineOf c swap t ds) = omega (arith, u, h, built-line ds m r .next) in
+            let number : n ≡ length (allIndexes s (placedIn b)) = omega (arith, v, g, i .next) in
+            let line : length (lineOf c swap t ds) ≤ length xs = omega (arith, at, h) in
+            let index : length (indexOf c t ds) ≤ length is = omega (arith, g, number, ap (λ (l : List ℕ). length l) indices) in
             let long = long-enough c swap t ds xs is line index in
-            let l : a .lists ≡ listsOf (map listOf (bySn (placed c t ds))) = lists-are ds r (a .lists) (rw (m .placed ds r) at (w .lists)) in
-            let z : a .sites ≡ sitesOf (map siteOf (snSites (bySn (placed c t ds)))) = sites-are ds r (a .sites) (rw (m .placed ds r) at (w .sites)) in
+            let text : ys ≡ sets xs 0 (lineOf c swap t ds) =
+            l .line ds r at (λ q. rw at (start-of (built-line ds m r) (omega (arith, q, m .size, at)))) in
+            let numbers : js ≡ sets is 0 (allIndexes s (placedIn b)) = x .index number (λ q. rw number (start-of i (omega (arith, q, written-length i, number)))) in
+            let ls : a .lists ≡ listsOf (map listOf (bySn (placed c t ds))) = lists-are ds r (a .lists) (rw (built-placed ds m r) at (w .lists)) in
+            let z : a .sites ≡ sitesOf (map siteOf (snSites (bySn (placed c t ds)))) = sites-are ds r (a .sites) (rw (built-placed ds m r) at (w .sites)) in
             record {
-              answer = rw long (answer-is a (length (lineOf c swap t ds)) (listsOf (map listOf (bySn (placed c t ds)))) (sitesOf (map siteOf (snSites (bySn (placed c t ds))))) (w .number) (w .token) (w .length ∙ at) l z);
-              line = rw long (rw (m .same) at (at-start (w .line .line ds (r .tail) (r .stood) (r .fits) (r .told)) (omega (arith, same, line))));
-              index = rw long (rw (i .same, indices) at (at-start (w .index) (omega (arith, same′, index, ap (λ (l : List ℕ). length l) indices))));
+              answer = rw long (answer-is a (length (lineOf c swap t ds)) (listsOf (map listOf (bySn (placed c t ds)))) (sitesOf (map siteOf (snSites (bySn (placed c t ds))))) (w .number) (w .token) (w .length ∙ at) ls z);
+              line = rw long (at-start xs (lineOf c swap t ds) text line);
+              index = rw long (rw indices at (at-start is (allIndexes s (placedIn b)) numbers (omega (arith, index, ap (λ (l : List ℕ). length l) indices))));
             };
       }

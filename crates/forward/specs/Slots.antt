@@ -2,9 +2,9 @@
 use Prim.Native.Nat.{ℕ, _<_, _≤_}
 use mathlib.Core.Path.{_≡_}
 use mathlib.Core.Bool.{Bool, true}
-use mathlib.Core.List.{List, map}
-use lib.ListN.{length, getD}
-use Rattle.emit.specs.Text.{Written, after}
+use mathlib.Core.List.{List}
+use lib.ListN.{length, take, getD}
+use lib.Seq.{sets}
 use Rattle.record.specs.Chain.{Chain}
 use Rattle.drawable.specs.declared.Drawn.{Drawn}
 use Rattle.template.specs.declared.Class.{Class}
@@ -13,15 +13,12 @@ use Rattle.template.specs.Request.{placed, lineOf}
 use Rattle.template.specs.Promise.{Each}
 use Rattle.placed.specs.declared.CxFragment.{CxFragment}
 use Rattle.placed.specs.declared.Slots.{Slots}
-use Rattle.placed.specs.Fragment.{FragmentOf, Told, noted}
+use Rattle.placed.specs.Fragment.{FragmentOf, Told}
 use Rattle.placed.specs.declared.Placed.{Placed}
-use Rattle.listing.specs.Index.{allIndexes}
 use Rattle.listing.specs.Lists.{allLists, ListsAre}
 use Rattle.listing.specs.Sites.{allSiteList, SitesAre}
-use Rattle.builder.specs.declared.Builder.{Builder}
-use Rattle.builder.specs.Build.{FitsAll, TailOf, placedIn}
+use Rattle.builder.specs.Build.{FitsAll, TailOf}
 use Rattle.builder.specs.Classes.{StoodIn}
-use Rattle.builder.specs.Line.{LineBuilt}
 use Rattle.judge.specs.declared.Chains.{Chains}
 use Rattle.judge.specs.Judged.{drawnIn}
 use Rattle.judge.specs.Verdict.{Drawable}
@@ -46,28 +43,24 @@ pub record Ready (c : Class) (t : List ℕ) (k : ℕ) (s : Slots) (ds : List Cha
   pub fits : FitsAll t ds (elements c)
   pub told : Each (Told s) (placed c t ds)
 
--- b has measured the line, and the slice is as it was
-pub record Measured (c : Class) (swap : Bool) (t : List ℕ) (k : ℕ) (s : Slots) (xs ys : List ℕ) (b : Builder) : Type 0 where
-  pub same : ys ≡ xs
-  pub length : (ds : List Chain) → Ready c t k s ds → b .at ≡ after 0 (length (lineOf c swap t ds))
-  pub placed : (ds : List Chain) → Ready c t k s ds → placedIn b ≡ map noted (placed c t ds)
+-- A line of n bytes of which zs has the start, as far as it has room, is written whole. Whoever asks knows n, and what zs has.
+pub record LineWritten (c : Class) (swap : Bool) (t : List ℕ) (k : ℕ) (s : Slots) (zs : List ℕ) (n : ℕ) (xs ys : List ℕ) : Type 0 where
+  pub size : length ys ≡ length xs
+  pub line : (ds : List Chain) → Ready c t k s ds → n ≡ length (lineOf c swap t ds) → (n ≤ length zs → take n zs ≡ lineOf c swap t ds)
+      → ys ≡ sets xs 0 (lineOf c swap t ds)
 
--- n is how many indices there are, and the slice is as it was
-pub record IndexMeasured (s : Slots) (ps : List Placed) (xs ys : List ℕ) (n : ℕ) : Type 0 where
-  pub same : ys ≡ xs
-  pub number : n ≡ after 0 (length (allIndexes s ps))
+-- n indices, likewise
+pub record IndexWritten (is : List ℕ) (zs : List ℕ) (n : ℕ) (xs ys : List ℕ) : Type 0 where
+  pub size : length ys ≡ length xs
+  pub index : n ≡ length is → (n ≤ length zs → take n zs ≡ is) → ys ≡ sets xs 0 is
 
--- the line and the indices of the chains that b measured are written, and a says where
-pub record SlotsWritten (c : Class) (swap : Bool) (t : List ℕ) (k : ℕ) (s : Slots) (xs is ys js : List ℕ) (b : Builder) (a : Answer) : Type 0 where
-  pub last : Builder
-  pub line : LineBuilt c swap t k s xs ys last
-  pub end : ℕ
-  pub index : Written is 0 (allIndexes s (placedIn b)) js end
-  pub lists : ListsAre (allLists s (placedIn b)) (a .lists)
-  pub sites : SitesAre (allSiteList (placedIn b)) (a .sites)
+-- a says that a line of n bytes was accepted, with these chains
+pub record Accepted (n : ℕ) (s : Slots) (ps : List Placed) (a : Answer) : Type 0 where
+  pub lists : ListsAre (allLists s ps) (a .lists)
+  pub sites : SitesAre (allSiteList ps) (a .sites)
   pub number : a .number ≡ 0
   pub token : a .token ≡ 0
-  pub length : a .length ≡ b .at
+  pub length : a .length ≡ n
 
 -- the answer to every request whose chains these are
 pub record SlotsDrawn (c : Class) (swap : Bool) (t : List ℕ) (k : ℕ) (s : Slots) (xs is ys js : List ℕ) (a : Answer) : Type 0 where

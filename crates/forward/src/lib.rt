@@ -1,7 +1,6 @@
 // The call: a class, a swap flag, a tail and up to four tokens to one line and the index lists of its chains. Every request has an answer,
 // and a request that is refused leaves both slices as they were. What is answered and written is said by specs/Answer.antt, and what an
 // accepted line promises by specs/Call.antt.
-use builder::Builder;
 use judge::Chains;
 use listing::Listed;
 use listing::Lists;
@@ -17,12 +16,19 @@ ghost use mathlib.Core.Path.{_≡_};
 ghost use mathlib.Core.List.{[]};
 ghost use lib.ListN.{length, take};
 ghost use Rattle.judge.specs.Verdict.{verdict, tokens};
+ghost use Rattle.listing.specs.Index.{allIndexes};
 ghost use Rattle.forward.specs.Answer.{listsOf, sitesOf, refusal};
 ghost use Rattle.forward.specs.Call.{Called};
-ghost use Rattle.forward.specs.Slots.{SlotsOf, Measured, IndexMeasured, SlotsWritten, SlotsDrawn};
+ghost use Rattle.forward.specs.Slots.{SlotsOf, LineWritten, IndexWritten, Accepted, SlotsDrawn};
 
 // A slice is shorter than needed.
 pub const SHORT_SLICE: u16 = 41;
+
+// Room for most lines; a longer one is built twice.
+const TEXT_ROOM: usize = 1024;
+
+// Room for the indices of four chains.
+const INDEX_ROOM: usize = 1032;
 
 // The answer. Accepted: number 0, the line's length, the listed chains and the sites, each by rising sn. Refused: the number and the token's
 // place, and zero everywhere else.
@@ -132,56 +138,61 @@ fn slots_of(chains: Chains) -> Slots
     Slots { s1, s2, s3, s4 }
 }
 
-// The line is built on no bytes at all: its length, and where its chains stand.
-fn measure_line(
+// A line that was built on a text of its own, as far as that has room: copied where it is whole, and built again where it is not.
+fn write_line(
     line: &mut [u8],
+    text: &[u8],
+    length: usize,
     class: Class,
     swap: bool,
     tail: &[u8],
     tail_atoms: u16,
     s: Slots,
-) -> Builder
-    ensures { λ r. ⌜ Measured class swap (now (tail .entry)) «tail_atoms» s (now (line .entry)) (now (line .exit)) r ⌝ }
+)
+    ensures { λ _. ⌜ LineWritten class swap (now (tail .entry)) «tail_atoms» s (now (text .entry)) length (now (line .entry)) (now (line .exit)) ⌝ }
 {
-    builder::build_line(&mut line[0..0], class, swap, tail, tail_atoms, s)
+    if length <= text.len() {
+        let end = emit::put_text(line, 0, &text[0..length]);
+        return;
+    }
+    let again = builder::build_line(line, class, swap, tail, tail_atoms, s);
 }
 
-// How many indices there are.
-fn measure_index(index: &mut [u16], s: Slots, placed: [Placed; MAX_CHAINS], count: usize) -> usize
-    ensures { λ r. ⌜ IndexMeasured s (take count placed) (now (index .entry)) (now (index .exit)) r ⌝ }
-{
-    listing::write_indices(&mut index[0..0], s, placed, count)
-}
-
-// The line and the indices are written, and the answer says where.
-fn write_slots(
-    line: &mut [u8],
+// Indices that were written into numbers of their own, likewise.
+fn write_index(
     index: &mut [u16],
-    class: Class,
-    swap: bool,
-    tail: &[u8],
-    tail_atoms: u16,
+    numbers: &[u16],
+    length: usize,
     s: Slots,
-    measured: Builder,
-) -> Answer
-    ensures { λ r. ⌜ SlotsWritten class swap (now (tail .entry)) «tail_atoms» s (now (line .entry)) (now (index .entry)) (now (line .exit)) (now (index .exit)) measured r ⌝ }
+    placed: [Placed; MAX_CHAINS],
+    count: usize,
+)
+    ensures { λ _. ⌜ IndexWritten (allIndexes s (take count placed)) (now (numbers .entry)) length (now (index .entry)) (now (index .exit)) ⌝ }
 {
-    let placed = measured.placed;
-    let count = measured.count;
-    let built = builder::build_line(line, class, swap, tail, tail_atoms, s);
-    let end = listing::write_indices(index, s, placed, count);
+    if length <= numbers.len() {
+        let end = emit::put_indices(index, 0, &numbers[0..length]);
+        return;
+    }
+    let again = listing::write_indices(index, s, placed, count);
+}
+
+// What is answered where the line of so many bytes and its indices are written.
+fn accepted(length: usize, s: Slots, placed: [Placed; MAX_CHAINS], count: usize) -> Answer
+    ensures { λ r. ⌜ Accepted length s (take count placed) r ⌝ }
+{
     let lists = listing::lists_by_sn(s, placed, count);
     let sites = listing::sites_by_sn(placed, count);
     Answer {
         number: 0,
         token: 0,
-        length: measured.at,
+        length,
         lists,
         sites,
     }
 }
 
-// Both slices are measured first: nothing is written where one is too short.
+// The line and its indices are made in a room of their own first: nothing is written where a slice is too short. Most have room enough
+// there, and are then copied.
 fn draw_slots(
     line: &mut [u8],
     index: &mut [u16],
@@ -193,16 +204,22 @@ fn draw_slots(
 ) -> Answer
     ensures { λ r. ⌜ SlotsDrawn class swap (now (tail .entry)) «tail_atoms» s (now (line .entry)) (now (index .entry)) (now (line .exit)) (now (index .exit)) r ⌝ }
 {
-    let measured = measure_line(line, class, swap, tail, tail_atoms, s);
-    if line.len() < measured.at {
+    let mut text = [0u8; TEXT_ROOM];
+    let built = builder::build_line(&mut text, class, swap, tail, tail_atoms, s);
+    let bytes = built.at;
+    if line.len() < bytes {
         return refused(SHORT_SLICE, 0);
     }
-    let placed = measured.placed;
-    let indices = measure_index(index, s, placed, measured.count);
+    let placed = built.placed;
+    let count = built.count;
+    let mut numbers = [0u16; INDEX_ROOM];
+    let indices = listing::write_indices(&mut numbers, s, placed, count);
     if index.len() < indices {
         return refused(SHORT_SLICE, 0);
     }
-    write_slots(line, index, class, swap, tail, tail_atoms, s, measured)
+    write_line(line, &text, bytes, class, swap, tail, tail_atoms, s);
+    write_index(index, &numbers, indices, s, placed, count);
+    accepted(bytes, s, placed, count)
 }
 
 // A request: refused with a number of document 01 and the place of the token, or drawn.
