@@ -1,8 +1,2 @@
 pub mod Pushes
-pub mod Built
-pub mod Templates
-pub mod Small
-pub mod Classes
-pub mod Fits
-pub mod Carried
 pub mod Line

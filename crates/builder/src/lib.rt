@@ -7,13 +7,9 @@ use placed::CxFragment;
 use placed::MAX_CHAINS;
 use placed::Placed;
 use placed::Slots;
-use template::Class;
 ghost use mathlib.Core.Path.{_≡_};
 ghost use Rattle.builder.specs.Build.{plus, inLabels, variablesFor, RingCount, Fresh, FixedPushed, FragmentPushed, Noted, ChainPushed, SlotPushed, BarePushed};
-ghost use Rattle.builder.specs.Line.{Finished, LineBuilt};
-
-// smiles.rt: the templates of the classes
-pub mod smiles;
+ghost use Rattle.builder.specs.Line.{Finished};
 
 // The first ring label of a line is `%10`.
 pub const FIRST_LABEL: u32 = 10;
@@ -224,19 +220,4 @@ impl Builder {
         self.at = at;
         self
     }
-}
-
-// The line of a class, with the chains by sn.
-pub fn build_line(
-    out: &mut [u8],
-    class: Class,
-    swap: bool,
-    tail: &[u8],
-    tail_atoms: u16,
-    s: Slots,
-) -> Builder
-    ensures { λ r. ⌜ LineBuilt class swap (now (tail .entry)) «tail_atoms» s (now (out .entry)) (now (out .exit)) r ⌝ }
-{
-    let b = smiles::class_smiles(out, class, tail, tail_atoms, s);
-    b.finish(out, swap, s)
 }
