@@ -1,3 +1,3 @@
 pub mod AtomLaws
 pub mod NumberLaws
-pub mod MarkLaws
+pub mod SumLaws

@@ -1,2 +1,2 @@
 pub mod Atoms
-pub mod Marks
+pub mod Sum

@@ -1,7 +1,5 @@
 // The atoms of a chain, counted from its first: the atom of each carbon, of the flexible tail and of the floating groups, and how many there
 // are in all. The groups are gone through only at carbons that carry one.
-pub mod marks;
-
 use carbons::CARBON_ROOM;
 use carbons::ChainTokens;
 use drawable::Drawn;
@@ -10,10 +8,11 @@ ghost use mathlib.Core.Path.{_≡_};
 ghost use Prim.Native.Nat.{_+_, _≤_, min};
 ghost use Rattle.reading.specs.Chain.{partsEnd, bridgeEnd, floatEnd};
 ghost use Rattle.chain.specs.Drawing.{branchPart, branches};
-ghost use Rattle.drawable.specs.Drawn.{groupsIn};
+ghost use Rattle.drawable.specs.Drawn.{groupsIn, Says};
 ghost use Rattle.fragment.specs.Text.{sitting, carbonylOf};
 ghost use Rattle.carbons.specs.Tokens.{TokensOf};
 ghost use Rattle.atoms.specs.Atoms.{Counts, carbonSize, bareSize, bridgedAt, tailCount, LiteralNumbers, TailNumbers, AtomsOf};
+ghost use Rattle.atoms.specs.Sum.{sumOf};
 
 // The atoms of a group's branch.
 fn branch_atoms(row: u8) -> u16
@@ -191,4 +190,16 @@ pub fn number_chain(x: Drawn, t: ChainTokens) -> ChainAtoms
         floats: next,
         end,
     }
+}
+
+// What the variables of a chain add up to.
+pub fn sum(x: Drawn) -> u16
+    ensures { λ r. ⌜ Says x r sumOf ⌝ }
+{
+    let n = x.unlocated;
+    let remaining = drawable::draw::remaining(x);
+    if remaining <= n {
+        return 0;
+    }
+    remaining - n - 1
 }

@@ -12,7 +12,7 @@ use Rattle.drawable.specs.declared.Drawn.{Drawn}
 use Rattle.drawable.specs.Drawn.{Draws, Says}
 use Rattle.fragment.specs.Segment.{Readable}
 use Rattle.atoms.specs.Atoms.{AtomsAre, AtomsOf}
-use Rattle.atoms.specs.Marks.{sumOf}
+use Rattle.atoms.specs.Sum.{sumOf}
 use Rattle.template.specs.Request as request
 use Rattle.template.specs.Request.{nonempty, indicesOf}
 use Rattle.template.specs.Promise.{Each}

@@ -42,7 +42,7 @@ pub fn build_chain_fragment(x: Drawn) -> CxFragment
 {
     let tokens = carbons::chain_tokens(x);
     let counted = atoms::number_chain(x, tokens);
-    let total = atoms::marks::sum(x);
+    let total = atoms::sum(x);
     CxFragment {
         chain: x,
         atoms: counted,

@@ -1,7 +1,7 @@
-use Rattle.atoms.proofs.MarkLaws.{sum-none, sum-some}
+use Rattle.atoms.proofs.SumLaws.{sum-none, sum-some}
 use borrow.Author.Needs.{needs}
-use Rattle.atoms.proofs.marks.sum.Statement.{statement}
-use Rattle.atoms.proofs.marks.sum.Tie as tie
+use Rattle.atoms.proofs.sum.Statement.{statement}
+use Rattle.atoms.proofs.sum.Tie as tie
 
 remaining-requires : tie.Need-remaining-requires
 remaining-requires c κs = search needs
