@@ -36,7 +36,7 @@ use Rattle.listing.proofs.ListsLaws.{lists-told, lists-few}
 use Rattle.listing.proofs.SitesLaws.{sites-told, sites-few}
 use Rattle.builder.specs.declared.Builder.{Builder}
 use Rattle.builder.specs.Build.{placedIn}
-use Rattle.smiles.specs.Line.{LineBuilt}
+use Rattle.lines.specs.Line.{LineBuilt}
 use Rattle.judge.specs.declared.Chains.{Chains}
 use Rattle.judge.specs.Judged.{drawnIn}
 use Rattle.judge.specs.Verdict.{Drawable}

@@ -24,9 +24,9 @@ use Rattle.placed.specs.declared.CxFragment.{CxFragment}
 use Rattle.placed.specs.declared.Slots.{Slots}
 use Rattle.placed.specs.Fragment.{FragmentOf, Stands}
 use Rattle.placed.proofs.Ready.{stands-carried, told}
-use Rattle.smiles.specs.Templates.{TailOf}
-use Rattle.smiles.specs.Classes.{StoodIn}
-use Rattle.smiles.proofs.Fits.{fits-class}
+use Rattle.lines.specs.Templates.{TailOf}
+use Rattle.lines.specs.Classes.{StoodIn}
+use Rattle.lines.proofs.Fits.{fits-class}
 use Rattle.judge.specs.declared.Chains.{Chains}
 use Rattle.judge.specs.Judged.{DrawsAll, none as noChains, more, drawnIn, Drawing}
 use Rattle.forward.specs.Slots.{FragmentIs, SlotsOf, Ready}

@@ -17,8 +17,8 @@ use Rattle.placed.specs.Fragment.{FragmentOf, Told}
 use Rattle.placed.specs.declared.Placed.{Placed}
 use Rattle.listing.specs.Lists.{allLists, ListsAre}
 use Rattle.listing.specs.Sites.{allSiteList, SitesAre}
-use Rattle.smiles.specs.Templates.{FitsAll, TailOf}
-use Rattle.smiles.specs.Classes.{StoodIn}
+use Rattle.lines.specs.Templates.{FitsAll, TailOf}
+use Rattle.lines.specs.Classes.{StoodIn}
 use Rattle.judge.specs.declared.Chains.{Chains}
 use Rattle.judge.specs.Judged.{drawnIn}
 use Rattle.judge.specs.Verdict.{Drawable}

@@ -155,7 +155,7 @@ fn write_line(
         let end = emit::put_text(line, 0, &text[0..length]);
         return;
     }
-    let again = smiles::build_line(line, class, swap, tail, tail_atoms, s);
+    let again = lines::build_line(line, class, swap, tail, tail_atoms, s);
 }
 
 // Indices that were written into numbers of their own, likewise.
@@ -205,7 +205,7 @@ fn draw_slots(
     ensures { λ r. ⌜ SlotsDrawn class swap (now (tail .entry)) «tail_atoms» s (now (line .entry)) (now (index .entry)) (now (line .exit)) (now (index .exit)) r ⌝ }
 {
     let mut text = [0u8; TEXT_ROOM];
-    let built = smiles::build_line(&mut text, class, swap, tail, tail_atoms, s);
+    let built = lines::build_line(&mut text, class, swap, tail, tail_atoms, s);
     let bytes = built.at;
     if line.len() < bytes {
         return refused(SHORT_SLICE, 0);

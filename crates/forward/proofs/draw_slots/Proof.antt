@@ -5,7 +5,7 @@ use Rattle.forward.proofs.draw_slots.Statement.{statement}
 use Rattle.forward.proofs.draw_slots.Tie as tie
 use Rattle.forward.proofs.draw_slots.Reads as reads
 use Rattle.forward.proofs.draw_slots.Lts as lts
-use Rattle.smiles.proofs.build_line.Reads as build-line-reads
+use Rattle.lines.proofs.build_line.Reads as build-line-reads
 use Rattle.forward.proofs.accepted.Reads as accepted-reads
 use Rattle.forward.proofs.refused.Reads as refused-reads
 use Rattle.forward.proofs.write_index.Reads as write-index-reads

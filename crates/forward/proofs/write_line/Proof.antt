@@ -4,7 +4,7 @@ use Rattle.forward.proofs.write_line.Statement.{statement}
 use Rattle.forward.proofs.write_line.Tie as tie
 use Rattle.forward.proofs.write_line.Reads as reads
 use Rattle.forward.proofs.write_line.Lts as lts
-use Rattle.smiles.proofs.build_line.Reads as build-line-reads
+use Rattle.lines.proofs.build_line.Reads as build-line-reads
 use Rattle.emit.proofs.put_text.Reads as put-text-reads
 
 -- src/lib.rt:155:43

@@ -13,9 +13,9 @@ use Rattle.placed.specs.declared.CxFragment.{CxFragment}
 use Rattle.builder.specs.declared.Builder.{Builder}
 use Rattle.placed.specs.declared.Slots.{Slots}
 use Rattle.placed.specs.Fragment.{Stands, Stood}
-use Rattle.smiles.specs.Templates.{allSlots, Tailless, Tailed}
-use Rattle.smiles.specs.Classes.{ClassBuilt}
-use Rattle.smiles.proofs.Templates.{stood-head, stood-rest}
+use Rattle.lines.specs.Templates.{allSlots, Tailless, Tailed}
+use Rattle.lines.specs.Classes.{ClassBuilt}
+use Rattle.lines.proofs.Templates.{stood-head, stood-rest}
 
 -- the chains of four sns: each of them
 module _ (ρ : ℕ → Role) (ds : List Chain) (a b c d : CxFragment) (s : Stood ρ ds 1 (a ∷ b ∷ c ∷ d ∷ [])) where

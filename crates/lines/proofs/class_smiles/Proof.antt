@@ -1,7 +1,7 @@
 use borrow.Author.Needs.{needs}
-use Rattle.smiles.proofs.Classes.{class-fa, class-gl1, class-gl2, class-gl3, class-gp, class-cl, class-sb, class-sa}
-use Rattle.smiles.proofs.class_smiles.Statement.{statement}
-use Rattle.smiles.proofs.class_smiles.Tie as tie
+use Rattle.lines.proofs.Classes.{class-fa, class-gl1, class-gl2, class-gl3, class-gp, class-cl, class-sb, class-sa}
+use Rattle.lines.proofs.class_smiles.Statement.{statement}
+use Rattle.lines.proofs.class_smiles.Tie as tie
 
 enum-told : tie.Need-enum-told
 enum-told c = search needs

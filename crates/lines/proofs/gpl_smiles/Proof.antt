@@ -1,8 +1,8 @@
 use borrow.Author.Needs.{needs}
 use Rattle.reading.specs.Ascii.{ascii}
-use Rattle.smiles.proofs.Templates.{gpl-built}
-use Rattle.smiles.proofs.gpl_smiles.Statement.{statement}
-use Rattle.smiles.proofs.gpl_smiles.Tie as tie
+use Rattle.lines.proofs.Templates.{gpl-built}
+use Rattle.lines.proofs.gpl_smiles.Statement.{statement}
+use Rattle.lines.proofs.gpl_smiles.Tie as tie
 
 new-requires : tie.Need-new-requires
 new-requires c κs = search needs

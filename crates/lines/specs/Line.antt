@@ -14,8 +14,8 @@ use Rattle.placed.specs.declared.Slots.{Slots}
 use Rattle.placed.specs.Fragment.{noted, Told}
 use Rattle.builder.specs.declared.Builder.{Builder}
 use Rattle.builder.specs.Build.{placedIn}
-use Rattle.smiles.specs.Templates.{FitsAll, TailOf}
-use Rattle.smiles.specs.Classes.{StoodIn}
+use Rattle.lines.specs.Templates.{FitsAll, TailOf}
+use Rattle.lines.specs.Classes.{StoodIn}
 
 -- the line of a class
 pub record LineBuilt (c : Class) (swap : Bool) (t : List ℕ) (k : ℕ) (s : Slots) (xs ys : List ℕ) (b : Builder) : Type 0 where

@@ -1,7 +1,7 @@
-use Rattle.smiles.proofs.Line.{line-built}
+use Rattle.lines.proofs.Line.{line-built}
 use borrow.Author.Needs.{needs}
-use Rattle.smiles.proofs.build_line.Statement.{statement}
-use Rattle.smiles.proofs.build_line.Tie as tie
+use Rattle.lines.proofs.build_line.Statement.{statement}
+use Rattle.lines.proofs.build_line.Tie as tie
 
 class-smiles-requires : tie.Need-class-smiles-requires
 class-smiles-requires c κs = search needs

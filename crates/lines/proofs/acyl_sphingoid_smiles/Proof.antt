@@ -1,8 +1,8 @@
 use borrow.Author.Needs.{needs}
 use Rattle.reading.specs.Ascii.{ascii}
-use Rattle.smiles.proofs.Templates.{acyl-sphingoid-built}
-use Rattle.smiles.proofs.acyl_sphingoid_smiles.Statement.{statement}
-use Rattle.smiles.proofs.acyl_sphingoid_smiles.Tie as tie
+use Rattle.lines.proofs.Templates.{acyl-sphingoid-built}
+use Rattle.lines.proofs.acyl_sphingoid_smiles.Statement.{statement}
+use Rattle.lines.proofs.acyl_sphingoid_smiles.Tie as tie
 
 new-requires : tie.Need-new-requires
 new-requires c κs = search needs

@@ -31,9 +31,9 @@ use Rattle.blocks.proofs.Notes.{line-noted}
 use Rattle.blocks.proofs.Told.{marks-told, sites-told as lists-told, sums-told, marked-sums}
 use Rattle.builder.specs.declared.Builder.{Builder}
 use Rattle.builder.specs.Line.{notesAfter, Finished}
-use Rattle.smiles.specs.Templates.{FitsAll, TailOf}
-use Rattle.smiles.specs.Classes.{StoodIn, ClassBuilt}
-use Rattle.smiles.specs.Line.{LineBuilt}
+use Rattle.lines.specs.Templates.{FitsAll, TailOf}
+use Rattle.lines.specs.Classes.{StoodIn, ClassBuilt}
+use Rattle.lines.specs.Line.{LineBuilt}
 
 -- ---- a line has at most four sites
 

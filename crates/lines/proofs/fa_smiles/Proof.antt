@@ -1,9 +1,9 @@
 use borrow.Author.Needs.{needs}
 use Rattle.reading.specs.Ascii.{ascii}
 use native.Mathlib.Omega.{arith}
-use Rattle.smiles.proofs.Templates.{fa-built}
-use Rattle.smiles.proofs.fa_smiles.Statement.{statement}
-use Rattle.smiles.proofs.fa_smiles.Tie as tie
+use Rattle.lines.proofs.Templates.{fa-built}
+use Rattle.lines.proofs.fa_smiles.Statement.{statement}
+use Rattle.lines.proofs.fa_smiles.Tie as tie
 
 new-requires : tie.Need-new-requires
 new-requires c κs = search needs

@@ -8,9 +8,9 @@ use template::Class;
 ghost use mathlib.Core.List.{[], _∷_};
 ghost use Rattle.template.specs.declared.Class.the-variants.{Fa, Gp, Cl, Sb, Sa};
 ghost use Rattle.template.specs.Template.{elements, glycerol, roleOf};
-ghost use Rattle.smiles.specs.Templates.{allSlots, Tailless, Tailed};
-ghost use Rattle.smiles.specs.Classes.{ClassBuilt};
-ghost use Rattle.smiles.specs.Line.{LineBuilt};
+ghost use Rattle.lines.specs.Templates.{allSlots, Tailless, Tailed};
+ghost use Rattle.lines.specs.Classes.{ClassBuilt};
+ghost use Rattle.lines.specs.Line.{LineBuilt};
 
 // FA: `O`, chain.
 pub fn fa_smiles(out: &mut [u8], x: CxFragment) -> Builder

@@ -19,7 +19,7 @@ use Rattle.template.proofs.Templates.{snsOf}
 use Rattle.template.proofs.Sorted.{length-placed}
 use Rattle.placed.specs.declared.CxFragment.{CxFragment}
 use Rattle.placed.specs.Fragment.{Stands, noted}
-use Rattle.smiles.specs.Templates.{FitsAll}
+use Rattle.lines.specs.Templates.{FitsAll}
 use Rattle.builder.proofs.Pushes.{ends}
 
 -- an element adds little

@@ -17,8 +17,8 @@ use Rattle.placed.specs.declared.CxFragment.{CxFragment}
 use Rattle.builder.specs.declared.Builder.{Builder}
 use Rattle.placed.specs.Fragment.{Stands, Stood}
 use Rattle.builder.specs.Build.{Fresh, FixedPushed, SlotPushed, BarePushed}
-use Rattle.smiles.specs.Templates.{allSlots, FitsAll, TailOf, Built, Tailless, Tailed}
-use Rattle.smiles.proofs.Built.{fixed-pushed, tail-pushed, done, then, steps-built}
+use Rattle.lines.specs.Templates.{allSlots, FitsAll, TailOf, Built, Tailless, Tailed}
+use Rattle.lines.proofs.Built.{fixed-pushed, tail-pushed, done, then, steps-built}
 
 pub stood-head : (ρ : ℕ → Role) (ds : List Chain) (sn : ℕ) (x : CxFragment) (xs : List CxFragment) → Stood ρ ds sn (x ∷ xs) → Stands (ρ sn) (nonempty sn ds) x
 stood-head ρ ds sn x xs s = s .0

@@ -16,10 +16,10 @@ use Rattle.template.proofs.Templates.{snsOf}
 use Rattle.placed.specs.declared.CxFragment.{CxFragment}
 use Rattle.placed.specs.declared.Slots.{Slots}
 use Rattle.placed.specs.Fragment.{Stands, Stood}
-use Rattle.smiles.specs.Templates.{allSlots, FitsAll}
-use Rattle.smiles.specs.Classes.{StoodIn}
-use Rattle.smiles.proofs.Classes.{first, second, third, fourth}
-use Rattle.smiles.proofs.Small.{Small, fits-small, small-slot, small-chain, small-fixed, small-tail}
+use Rattle.lines.specs.Templates.{allSlots, FitsAll}
+use Rattle.lines.specs.Classes.{StoodIn}
+use Rattle.lines.proofs.Classes.{first, second, third, fourth}
+use Rattle.lines.proofs.Small.{Small, fits-small, small-slot, small-chain, small-fixed, small-tail}
 
 module _ (t : List ℕ) (ds : List Chain) (s : Slots) where
   own : (b : List ℕ) → atomsOfPieces (fixedPieces b) ≤ 255 → Small t ds (fixed b)

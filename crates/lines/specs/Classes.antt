@@ -10,7 +10,7 @@ use Rattle.template.specs.Template.{elements, roleOf, hasTail}
 use Rattle.builder.specs.declared.Builder.{Builder}
 use Rattle.placed.specs.declared.Slots.{Slots}
 use Rattle.placed.specs.Fragment.{Stood}
-use Rattle.smiles.specs.Templates.{FitsAll, TailOf, Built}
+use Rattle.lines.specs.Templates.{FitsAll, TailOf, Built}
 
 -- the chains by sn, each in its role
 abbrev pub StoodIn : Class → List Chain → Slots → Type 0

@@ -25,7 +25,7 @@ use Rattle.placed.specs.declared.Placed.{Placed}
 use Rattle.builder.specs.declared.Builder.{Builder}
 use Rattle.placed.specs.Fragment.{noted}
 use Rattle.builder.specs.Build.{Fresh, Counts, FixedPushed, FitsElement, Pushed}
-use Rattle.smiles.specs.Templates.{FitsAll, Built, TailOf}
+use Rattle.lines.specs.Templates.{FitsAll, Built, TailOf}
 
 -- ---- an element leads to no less
 
