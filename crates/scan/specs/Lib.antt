@@ -1,2 +1,2 @@
-pub mod Part
+pub use Rattle.part.specs.Part
 pub mod Number

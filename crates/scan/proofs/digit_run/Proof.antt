@@ -3,7 +3,8 @@ use Prim.Native.Nat.{_+_}
 use mathlib.Core.Path.{_≡_, refl}
 use lib.ListN.{length}
 use native.Mathlib.Omega.{arith}
-use Rattle.scan.proofs.Laws.{digit-end, digit-more, first-none}
+use Rattle.part.proofs.Laws.{first-none}
+use Rattle.scan.proofs.Laws.{digit-end, digit-more}
 use Rattle.scan.specs.Number.{digitRun}
 use Rattle.scan.proofs.digit_run.Statement.{statement}
 use Rattle.scan.proofs.digit_run.Tie as tie

@@ -4,10 +4,10 @@ use mathlib.Core.Path.{_≡_, sym, ap}
 use lib.ListN.{length, take}
 use lib.Seq.{take-length}
 use native.Mathlib.Omega.{arith}
-use Rattle.scan.proofs.Laws.{end-space, end-here, end-none}
-use Rattle.scan.specs.Part.{ending}
-use Rattle.scan.proofs.text_end.Statement.{statement}
-use Rattle.scan.proofs.text_end.Tie as tie
+use Rattle.spaces.proofs.Laws.{end-space, end-here, end-none}
+use Rattle.part.specs.Part.{ending}
+use Rattle.spaces.proofs.text_end.Statement.{statement}
+use Rattle.spaces.proofs.text_end.Tie as tie
 
 abbrev Inv-loop : tie.InvT-loop
 Inv-loop s n₀ n = (ending s ≡ ending (take n s)) × (n ≤ length s)

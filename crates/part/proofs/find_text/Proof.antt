@@ -3,25 +3,25 @@ use Prim.Native.Nat.{_+_}
 use mathlib.Core.Path.{_≡_, refl}
 use lib.ListN.{length}
 use native.Mathlib.Omega.{arith}
-use Rattle.scan.proofs.Laws.{space-end, space-more, first-none}
-use Rattle.scan.specs.Part.{leading}
-use Rattle.scan.proofs.leading_spaces.Statement.{statement}
-use Rattle.scan.proofs.leading_spaces.Tie as tie
+use Rattle.part.proofs.Laws.{text-here, text-more, text-none}
+use Rattle.part.specs.Part.{indexOfText}
+use Rattle.part.proofs.find_text.Statement.{statement}
+use Rattle.part.proofs.find_text.Tie as tie
 
 abbrev Inv-loop : tie.InvT-loop
-Inv-loop s t₀ i₀ t i = (leading s ≡ i + leading t) × (i + length t ≡ length s)
+Inv-loop s p t₀ i₀ t i = (indexOfText p s ≡ i + indexOfText p t) × (i + length t ≡ length s)
 
 abbrev μ-loop : tie.MeasureT-loop
-μ-loop s t₀ i₀ t i = length t
+μ-loop s p t₀ i₀ t i = length t
 
 loop-holds : tie.Need-loop-holds Inv-loop μ-loop
 loop-holds c = (omega arith, omega arith)
 
-shared-slice-read-if1 : tie.Need-shared-slice-read-if1 Inv-loop μ-loop
-shared-slice-read-if1 c = search needs
+starts-with-requires : tie.Need-starts-with-requires Inv-loop μ-loop
+starts-with-requires c κs = search needs
 
 returns : tie.Need-returns Inv-loop μ-loop
-returns c = search space-end
+returns c = search text-here
 
 sub-t : tie.Need-sub-t Inv-loop μ-loop
 sub-t c = search needs
@@ -39,19 +39,19 @@ loop-less : tie.Need-loop-less Inv-loop μ-loop
 loop-less c = search needs
 
 loop-again : tie.Need-loop-again Inv-loop μ-loop
-loop-again c = (search space-more, search needs)
+loop-again c = (search text-more, search needs)
 
 returns-2 : tie.Need-returns-2 Inv-loop μ-loop
-returns-2 c = search first-none
+returns-2 c = search text-none
 
-pub leading-spaces-spec : {M : Type 1} → statement M
-leading-spaces-spec =
+pub find-text-spec : {M : Type 1} → statement M
+find-text-spec =
     tie.close
     (tie.spec
     Inv-loop
     μ-loop
     loop-holds
-    shared-slice-read-if1
+    starts-with-requires
     returns
     sub-t
     part-t-start

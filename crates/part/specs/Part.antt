@@ -1,4 +1,4 @@
--- Parts of lent bytes and places in them, as lists of bytes: what the contracts of `scan` and of the crates above it cite.
+-- Parts of lent bytes and places in them, as lists of bytes: what the contracts of `part` and of the crates above it cite.
 -- Places are counted from 0. Assumes nothing.
 use Prim.Native.Nat.{ℕ, zero, suc, _-_, _≤_}
 use mathlib.Core.Path.{_≡_}

@@ -3,25 +3,26 @@ use Prim.Native.Nat.{_+_}
 use mathlib.Core.Path.{_≡_, refl}
 use lib.ListN.{length}
 use native.Mathlib.Omega.{arith}
-use Rattle.scan.proofs.Laws.{text-here, text-more, text-none}
-use Rattle.scan.specs.Part.{indexOfText}
-use Rattle.scan.proofs.find_text.Statement.{statement}
-use Rattle.scan.proofs.find_text.Tie as tie
+use Rattle.part.proofs.Laws.{first-none}
+use Rattle.spaces.proofs.Laws.{space-end, space-more}
+use Rattle.part.specs.Part.{leading}
+use Rattle.spaces.proofs.leading_spaces.Statement.{statement}
+use Rattle.spaces.proofs.leading_spaces.Tie as tie
 
 abbrev Inv-loop : tie.InvT-loop
-Inv-loop s p t₀ i₀ t i = (indexOfText p s ≡ i + indexOfText p t) × (i + length t ≡ length s)
+Inv-loop s t₀ i₀ t i = (leading s ≡ i + leading t) × (i + length t ≡ length s)
 
 abbrev μ-loop : tie.MeasureT-loop
-μ-loop s p t₀ i₀ t i = length t
+μ-loop s t₀ i₀ t i = length t
 
 loop-holds : tie.Need-loop-holds Inv-loop μ-loop
 loop-holds c = (omega arith, omega arith)
 
-starts-with-requires : tie.Need-starts-with-requires Inv-loop μ-loop
-starts-with-requires c κs = search needs
+shared-slice-read-if1 : tie.Need-shared-slice-read-if1 Inv-loop μ-loop
+shared-slice-read-if1 c = search needs
 
 returns : tie.Need-returns Inv-loop μ-loop
-returns c = search text-here
+returns c = search space-end
 
 sub-t : tie.Need-sub-t Inv-loop μ-loop
 sub-t c = search needs
@@ -39,19 +40,19 @@ loop-less : tie.Need-loop-less Inv-loop μ-loop
 loop-less c = search needs
 
 loop-again : tie.Need-loop-again Inv-loop μ-loop
-loop-again c = (search text-more, search needs)
+loop-again c = (search space-more, search needs)
 
 returns-2 : tie.Need-returns-2 Inv-loop μ-loop
-returns-2 c = search text-none
+returns-2 c = search first-none
 
-pub find-text-spec : {M : Type 1} → statement M
-find-text-spec =
+pub leading-spaces-spec : {M : Type 1} → statement M
+leading-spaces-spec =
     tie.close
     (tie.spec
     Inv-loop
     μ-loop
     loop-holds
-    starts-with-requires
+    shared-slice-read-if1
     returns
     sub-t
     part-t-start

@@ -1,10 +1,10 @@
 use borrow.Author.Needs.{needs}
 use mathlib.Core.Path.{_≡_, refl}
 use lib.ListN.{length}
-use Rattle.scan.proofs.Laws.{same-short, same-differ, same-more, same-end}
-use Rattle.scan.specs.Part.{sameBytes}
-use Rattle.scan.proofs.same.Statement.{statement}
-use Rattle.scan.proofs.same.Tie as tie
+use Rattle.part.proofs.Laws.{same-short, same-differ, same-more, same-end}
+use Rattle.part.specs.Part.{sameBytes}
+use Rattle.part.proofs.same.Statement.{statement}
+use Rattle.part.proofs.same.Tie as tie
 
 abbrev Inv-loop : tie.InvT-loop
 Inv-loop s t a₀ b₀ a b = sameBytes s t ≡ sameBytes a b

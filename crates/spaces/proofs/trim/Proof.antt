@@ -1,7 +1,7 @@
-use Rattle.scan.proofs.Laws.{trim-blank, trim-part}
+use Rattle.spaces.proofs.Laws.{trim-blank, trim-part}
 use borrow.Author.Needs.{needs}
-use Rattle.scan.proofs.trim.Statement.{statement}
-use Rattle.scan.proofs.trim.Tie as tie
+use Rattle.spaces.proofs.trim.Statement.{statement}
+use Rattle.spaces.proofs.trim.Tie as tie
 
 leading-spaces-requires : tie.Need-leading-spaces-requires
 leading-spaces-requires c κs = search needs

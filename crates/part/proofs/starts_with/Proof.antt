@@ -1,10 +1,10 @@
 use borrow.Author.Needs.{needs}
 use mathlib.Core.Path.{_≡_, refl}
 use lib.ListN.{length}
-use Rattle.scan.proofs.Laws.{starts-short, starts-other, starts-more, starts-end}
-use Rattle.scan.specs.Part.{startsWith}
-use Rattle.scan.proofs.starts_with.Statement.{statement}
-use Rattle.scan.proofs.starts_with.Tie as tie
+use Rattle.part.proofs.Laws.{starts-short, starts-other, starts-more, starts-end}
+use Rattle.part.specs.Part.{startsWith}
+use Rattle.part.proofs.starts_with.Statement.{statement}
+use Rattle.part.proofs.starts_with.Tie as tie
 
 abbrev Inv-loop : tie.InvT-loop
 Inv-loop s p t₀ q₀ t q = startsWith p s ≡ startsWith q t

@@ -3,10 +3,10 @@ use Prim.Native.Nat.{_+_}
 use mathlib.Core.Path.{_≡_, refl}
 use lib.ListN.{length}
 use native.Mathlib.Omega.{arith}
-use Rattle.scan.proofs.Laws.{find-here, find-more, first-none}
-use Rattle.scan.specs.Part.{indexOf}
-use Rattle.scan.proofs.find.Statement.{statement}
-use Rattle.scan.proofs.find.Tie as tie
+use Rattle.part.proofs.Laws.{find-here, find-more, first-none}
+use Rattle.part.specs.Part.{indexOf}
+use Rattle.part.proofs.find.Statement.{statement}
+use Rattle.part.proofs.find.Tie as tie
 
 abbrev Inv-loop : tie.InvT-loop
 Inv-loop s b t₀ i₀ t i = (indexOf b s ≡ i + indexOf b t) × (i + length t ≡ length s)
