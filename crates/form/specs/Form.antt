@@ -1,33 +1,16 @@
--- The text of a segment and the four forms in which 01 tries it. Bytes: `(` 40, `)` 41, `-` 45, `[` 91, `]` 93. Assumes nothing.
+-- The four forms in which 01 tries a segment; its text is that of crates/brackets/specs/Brackets.antt. Bytes: `(` 40, `)` 41, `-` 45.
+-- Assumes nothing.
 use Prim.Native.Nat.{ℕ, suc, _+_, _-_, _<_, _≤_}
 use mathlib.Core.Path.{_≡_}
 use mathlib.Core.List.{List, [], _∷_}
 use mathlib.Core.Bool.{Bool, true, false, cond}
 use lib.ListN.{length, take, drop, getD}
 use lib.Dec.{eqb}
-use Rattle.scan.specs.Part.{indexOf, indexOfText, trimmed}
+use Rattle.scan.specs.Part.{indexOf, indexOfText}
 use Rattle.form.specs.declared.Form.{Form}
 use Rattle.form.specs.declared.Form.the-variants.{Ring, Repeated, Listed, Parts}
-
--- without leading `[`
-unfoldable pub afterOpening : List ℕ → List ℕ
-afterOpening [] = []
-afterOpening (x ∷ xs) = cond (eqb x 91) (afterOpening xs) (x ∷ xs)
-
--- a byte before what is left of the bytes after it, where a `]` with nothing left after it falls
-abbrev pub unlessClosing : Bool → ℕ → List ℕ → List ℕ
-unlessClosing true x [] = []
-unlessClosing true x (y ∷ ys) = x ∷ y ∷ ys
-unlessClosing false x ys = x ∷ ys
-
--- without trailing `]`
-unfoldable pub beforeClosing : List ℕ → List ℕ
-beforeClosing [] = []
-beforeClosing (x ∷ xs) = unlessClosing (eqb x 93) x (beforeClosing xs)
-
--- 01, Token reader: "A segment is trimmed, leading `[` and trailing `]` fall". All of them fall, and nothing is trimmed after that.
-unfoldable pub segmentText : List ℕ → List ℕ
-segmentText s = beforeClosing (afterOpening (trimmed s))
+pub use Rattle.brackets.specs.Brackets.{unlessClosing}
+unfoldable pub use Rattle.brackets.specs.Brackets.{afterOpening, beforeClosing, segmentText}
 
 -- `cy`
 abbrev pub cyText : List ℕ

@@ -1,3 +1,3 @@
-pub mod Parts
+pub use Rattle.split.specs.Parts
+pub use Rattle.number.specs.Numbers
 pub mod Form
-pub mod Numbers

@@ -1,10 +1,10 @@
 use borrow.Author.Needs.{needs}
-use Rattle.form.proofs.Laws.{opening-end, opening-more, opening-none}
+use Rattle.brackets.proofs.Laws.{opening-end, opening-more, opening-none}
 use mathlib.Core.Path.{_≡_, refl}
 use lib.ListN.{length}
-use Rattle.form.specs.Form.{afterOpening}
-use Rattle.form.proofs.after_opening.Statement.{statement}
-use Rattle.form.proofs.after_opening.Tie as tie
+use Rattle.brackets.specs.Brackets.{afterOpening}
+use Rattle.brackets.proofs.after_opening.Statement.{statement}
+use Rattle.brackets.proofs.after_opening.Tie as tie
 
 abbrev Inv-loop : tie.InvT-loop
 Inv-loop s t₀ t = afterOpening s ≡ afterOpening t

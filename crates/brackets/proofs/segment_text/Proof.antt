@@ -1,7 +1,7 @@
-use Rattle.form.proofs.Laws.{segment-is}
+use Rattle.brackets.proofs.Laws.{segment-is}
 use borrow.Author.Needs.{needs}
-use Rattle.form.proofs.segment_text.Statement.{statement}
-use Rattle.form.proofs.segment_text.Tie as tie
+use Rattle.brackets.proofs.segment_text.Statement.{statement}
+use Rattle.brackets.proofs.segment_text.Tie as tie
 
 trim-requires : tie.Need-trim-requires
 trim-requires c κs = search needs

@@ -1,12 +1,12 @@
 use borrow.Author.Needs.{needs}
-use Rattle.form.proofs.Laws.{closing-start, closing-end, closing-more, closing-none}
+use Rattle.brackets.proofs.Laws.{closing-start, closing-end, closing-more, closing-none}
 use Prim.Native.Nat.{_≤_}
 use mathlib.Core.Path.{_≡_}
 use native.Mathlib.Omega.{arith}
 use lib.ListN.{length, take}
-use Rattle.form.specs.Form.{beforeClosing}
-use Rattle.form.proofs.before_closing.Statement.{statement}
-use Rattle.form.proofs.before_closing.Tie as tie
+use Rattle.brackets.specs.Brackets.{beforeClosing}
+use Rattle.brackets.proofs.before_closing.Statement.{statement}
+use Rattle.brackets.proofs.before_closing.Tie as tie
 
 abbrev Inv-loop : tie.InvT-loop
 Inv-loop s n₀ n = (beforeClosing s ≡ beforeClosing (take n s)) × (n ≤ length s)

@@ -1,12 +1,12 @@
 use borrow.Author.Needs.{needs}
-use Rattle.form.proofs.Laws.{count-none, count-start, count-last, count-more}
+use Rattle.split.proofs.Laws.{count-none, count-start, count-last, count-more}
 use Prim.Native.Nat.{_+_, _≤_}
 use mathlib.Core.Path.{_≡_}
 use native.Mathlib.Omega.{arith}
 use lib.ListN.{length}
-use Rattle.form.specs.Parts.{listParts, partsAt}
-use Rattle.form.proofs.position_count.Statement.{statement}
-use Rattle.form.proofs.position_count.Tie as tie
+use Rattle.split.specs.Parts.{listParts, partsAt}
+use Rattle.split.proofs.position_count.Statement.{statement}
+use Rattle.split.proofs.position_count.Tie as tie
 
 abbrev Inv-loop : tie.InvT-loop
 Inv-loop s t₀ n₀ t n = (length (listParts s) ≡ n + length (partsAt 44 t)) × (n + length t ≤ length s)

@@ -1,0 +1,43 @@
+// The numbers in a segment of a token, as each place of it writes them. Each function is defined for every byte string and refuses
+// nothing; a number that cannot be read is an answer. 01's sentences stand in specs/Numbers.antt.
+use scan::Number;
+ghost use mathlib.Core.Path.{_≡_};
+ghost use Rattle.number.specs.Numbers.{trimmedNumber, ringCount, leadingPosition, numberOrOne};
+
+// A number with spaces around it: a ring's start, end and size, and the position of a group in a list.
+pub fn trimmed_number(s: &[u8]) -> Number
+    ensures { λ r. ⌜ r ≡ trimmedNumber (now (s .entry)) ⌝ }
+{
+    scan::read_number(scan::trim(s), 4294967295)
+}
+
+// A ring's own number of double bonds; blank is 0.
+pub fn ring_count(s: &[u8]) -> Number
+    ensures { λ r. ⌜ r ≡ ringCount (now (s .entry)) ⌝ }
+{
+    let t = scan::trim(s);
+    if t.len() == 0 {
+        return Number::Value(0);
+    }
+    scan::read_number(t, 18446744073709551615)
+}
+
+// The position before an abbreviation, digits only; 0 where no digit stands.
+pub fn leading_position(s: &[u8]) -> Number
+    ensures { λ r. ⌜ r ≡ leadingPosition (now (s .entry)) ⌝ }
+{
+    if s.len() == 0 {
+        return Number::Value(0);
+    }
+    scan::read_digits(s, 4294967295)
+}
+
+// A number with nothing around it: how often a group stands, and an oxygen count; 1 where nothing stands.
+pub fn number_or_one(s: &[u8]) -> Number
+    ensures { λ r. ⌜ r ≡ numberOrOne (now (s .entry)) ⌝ }
+{
+    if s.len() == 0 {
+        return Number::Value(1);
+    }
+    scan::read_number(s, 4294967295)
+}
