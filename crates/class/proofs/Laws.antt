@@ -1,29 +1,16 @@
 -- Laws of the class codes: each way out of the tests, one after the other.
 -- Assumes nothing.
 use Prim.Native.Nat.{ℕ}
-use mathlib.Core.Path.{_≡_, refl, sym, ap, _∙_}
+use mathlib.Core.Path.{_≡_, sym, _∙_}
 use mathlib.Core.Bool.{Bool, true, false, cond}
 use mathlib.Core.Option.{Option, none, some}
 use mathlib.Core.List.{List, [], _∷_}
-use lib.Dec.{eqb}
-use borrow.Author.Tests.{eq-eqb, ne-eqb}
 use Rattle.scan.specs.Part.{sameBytes}
 use Rattle.reading.specs.Ascii.{ascii}
-use Rattle.chain.specs.declared.Role.{Role}
-use Rattle.chain.specs.declared.Role.the-variants.{Acyl, Base}
 use Rattle.template.specs.declared.Class.{Class}
 use Rattle.template.specs.declared.Class.the-variants.{Fa, Gl1, Gl2, Gl3, Gp, Cl, Sb, Sa}
-use Rattle.template.specs.Template.{classOf, roleOf}
+use Rattle.template.specs.Template.{classOf}
 use Rattle.class.specs.Class.{laterClass}
-
-pub first-base : (sn : ℕ) → sn ≡ 1 → Base ≡ roleOf Sa sn
-first-base sn e = rw (eq-eqb sn 1 e)
-
-pub other-acyl : (sn : ℕ) → (sn ≡ 1 → ⊥) → Acyl ≡ roleOf Sa sn
-other-acyl sn e = rw (ne-eqb sn 1 e)
-
-pub sa-role : (c : Class) (sn : ℕ) (r : Role) → r ≡ roleOf Sa sn → c ≡ Sa → r ≡ roleOf c sn
-sa-role c sn r e f = e ∙ ap (λ (x : Class). roleOf x sn) (sym f)
 
 module _ (s : List ℕ) (a₁ : Bool) (e₁ : a₁ ≡ sameBytes s (70 ∷ 65 ∷ [])) where
   pub is-fa : a₁ ≡ true → some Fa ≡ classOf s

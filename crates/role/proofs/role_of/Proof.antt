@@ -1,7 +1,7 @@
-use Rattle.class.proofs.Laws.{sa-role}
+use Rattle.role.proofs.Laws.{sa-role}
 use borrow.Author.Needs.{needs}
-use Rattle.class.proofs.role_of.Statement.{statement}
-use Rattle.class.proofs.role_of.Tie as tie
+use Rattle.role.proofs.role_of.Statement.{statement}
+use Rattle.role.proofs.role_of.Tie as tie
 
 enum-told : tie.Need-enum-told
 enum-told c = search needs

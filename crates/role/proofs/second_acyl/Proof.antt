@@ -1,7 +1,7 @@
 use borrow.Author.Needs.{needs}
-use Rattle.class.proofs.Laws.{first-base, other-acyl}
-use Rattle.class.proofs.second_acyl.Statement.{statement}
-use Rattle.class.proofs.second_acyl.Tie as tie
+use Rattle.role.proofs.Laws.{first-base, other-acyl}
+use Rattle.role.proofs.second_acyl.Statement.{statement}
+use Rattle.role.proofs.second_acyl.Tie as tie
 
 returns : tie.Need-returns
 returns c = search first-base
