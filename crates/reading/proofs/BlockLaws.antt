@@ -10,8 +10,8 @@ use mathlib.Core.List.{List, [], _∷_, _++_, map}
 use lib.ListN.{length}
 use lib.Dec.{eqb}
 use borrow.Author.Tests.{le-leb, le-ltb, eqb-true, ne-eqb, eq-eqb, not-true}
-use Rattle.reading.specs.Ascii.{ascii}
-use Rattle.reading.specs.Lexer.{memb, within}
+use Rattle.smiles.specs.Ascii.{ascii}
+use Rattle.smiles.specs.Lexer.{memb, within}
 use Rattle.reading.specs.Parting.{_>>=_, each, parted, two, three, follows, closed, enclosed, joined}
 use Rattle.emit.specs.Text.{decimal}
 use Rattle.scan.specs.Number.{isDigit}

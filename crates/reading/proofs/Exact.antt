@@ -11,8 +11,8 @@ use lib.Dec.{eqb, leb}
 use borrow.Author.Tests.{eqb-true, leb-true}
 use Rattle.scan.specs.Part.{sameBytes}
 use Rattle.emit.specs.Text.{decimal}
-use Rattle.reading.specs.Ascii.{ascii}
-use Rattle.reading.specs.Lexer.{within}
+use Rattle.smiles.specs.Ascii.{ascii}
+use Rattle.smiles.specs.Lexer.{within}
 use Rattle.reading.specs.Parting.{_>>=_, each, onFirst, parted, two, three, follows, closed, enclosed, led, joined}
 use Rattle.reading.specs.Numeral.{number}
 use Rattle.reading.specs.Names.{nameOf, variable}

@@ -7,9 +7,9 @@ use mathlib.Core.Path.{_≡_, refl}
 use mathlib.Core.Option.{Option, none, some}
 use mathlib.Core.List.{List, [], _∷_, map}
 use lib.ListN.{length}
-use Rattle.reading.specs.Ascii.{ascii}
-use Rattle.reading.specs.Row.{Row}
-use Rattle.reading.specs.Text.{readText}
+use Rattle.smiles.specs.Ascii.{ascii}
+use Rattle.smiles.specs.Row.{Row}
+use Rattle.smiles.specs.Text.{readText}
 use Rattle.reading.specs.Molecule.{Bond, bond, bondsOf}
 
 pub data Example : Type 0 where

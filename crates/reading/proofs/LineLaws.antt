@@ -10,10 +10,10 @@ use mathlib.Core.List.{List, [], _∷_, _++_, map, append-assoc, append-nil}
 use lib.ListN.{length}
 use lib.Dec.{leb}
 use borrow.Author.Tests.{le-leb}
-use Rattle.reading.specs.Ascii.{ascii}
-use Rattle.reading.specs.Lexer.{memb, within}
-use Rattle.reading.specs.Row.{Row, row}
-use Rattle.reading.specs.Text.{readText}
+use Rattle.smiles.specs.Ascii.{ascii}
+use Rattle.smiles.specs.Lexer.{memb, within}
+use Rattle.smiles.specs.Row.{Row, row}
+use Rattle.smiles.specs.Text.{readText}
 use Rattle.reading.specs.Parting.{_>>=_, parted, follows, closed, enclosed, joined}
 use Rattle.reading.specs.Names.{nameCount}
 use Rattle.reading.specs.Molecule.{At, at, atomsOf, notesOf, look, Atom, atom, Bond, Sum, sum, variablesOf, numberOf, Molecule, molecule, atomsFrom, bondsOf, setOf, sumKey, moleculeOf}

@@ -7,7 +7,7 @@ use mathlib.Core.Bool.{Bool, true, false, cond, not, _||_, _&&_, false≢true}
 use mathlib.Core.List.{List, [], _∷_, _++_}
 use lib.Dec.{eqb, ltb}
 use borrow.Author.Tests.{eqb-true, eqb-false, eq-eqb, ne-eqb, ltb-true, lt-ltb, not-true}
-use Rattle.reading.specs.Lexer.{memb}
+use Rattle.smiles.specs.Lexer.{memb}
 use Rattle.reading.specs.Line.{below, distinct, times, once, rising}
 use Rattle.reading.proofs.PartingLaws.{All, and-left, and-right, and-both}
 

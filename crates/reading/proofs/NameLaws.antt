@@ -9,7 +9,7 @@ use mathlib.Core.Option.{Option, none, some}
 use mathlib.Core.List.{List, [], _∷_}
 use lib.Dec.{ltb, leb}
 use borrow.Author.Tests.{lt-ltb, le-ltb, le-leb, leb-true}
-use Rattle.reading.specs.Lexer.{within}
+use Rattle.smiles.specs.Lexer.{within}
 use Rattle.reading.specs.Names.{nameCount, small, nameBelow, nameOf, variable}
 use Rattle.reading.proofs.PartingLaws.{and-left, and-right, every}
 

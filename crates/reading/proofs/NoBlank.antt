@@ -9,10 +9,10 @@ use mathlib.Core.List.{List, [], _∷_, _++_}
 use lib.ListN.{length}
 use lib.Dec.{eqb}
 use borrow.Author.Tests.{eqb-true}
-use Rattle.reading.specs.Row.{Row}
-use Rattle.reading.specs.Piece.{Piece, atom}
-use Rattle.reading.specs.Lexer.{memb, within, bracketed, organic, marks, pairs, second, Lex, between, inAtom, inBracket, inLabel, inTens, Fed, halt, fed, begin, ended, feed, before, onFed, lex, piecesOf}
-use Rattle.reading.specs.Text.{readLexed, readText}
+use Rattle.smiles.specs.Row.{Row}
+use Rattle.smiles.specs.Piece.{Piece, atom}
+use Rattle.smiles.specs.Lexer.{memb, within, bracketed, organic, marks, pairs, second, Lex, between, inAtom, inBracket, inLabel, inTens, Fed, halt, fed, begin, ended, feed, before, onFed, lex, piecesOf}
+use Rattle.smiles.specs.Text.{readLexed, readText}
 use Rattle.reading.proofs.PartingLaws.{and-both, clear}
 
 no-second : (b ls : List ℕ) → second 32 b ls ≡ false

@@ -9,8 +9,8 @@ use mathlib.Core.List.{List, [], _∷_}
 use lib.ListN.{length}
 use lib.Dec.{leb}
 use borrow.Author.Tests.{leb-true}
-use Rattle.reading.specs.Row.{Row}
-use Rattle.reading.specs.Text.{readText}
+use Rattle.smiles.specs.Row.{Row}
+use Rattle.smiles.specs.Text.{readText}
 use Rattle.reading.specs.Parting.{_>>=_, parted}
 use Rattle.reading.specs.Molecule.{At, at, atomsOf, notesOf, Sum, Molecule, moleculeOf}
 use Rattle.reading.specs.Blocks.{Blocks, blocks, labelled}

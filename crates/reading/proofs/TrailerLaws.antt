@@ -7,8 +7,8 @@ use mathlib.Core.Option.{Option, none, some}
 use mathlib.Core.List.{List, [], _∷_, _++_, map, append-assoc}
 use Rattle.scan.specs.Number.{isDigit}
 use Rattle.emit.specs.Text.{decimal}
-use Rattle.reading.specs.Ascii.{ascii}
-use Rattle.reading.specs.Lexer.{memb, within}
+use Rattle.smiles.specs.Ascii.{ascii}
+use Rattle.smiles.specs.Lexer.{memb, within}
 use Rattle.reading.specs.Parting.{_>>=_, each, parted, two, follows, closed, enclosed, joined}
 use Rattle.reading.specs.Numeral.{number}
 use Rattle.reading.specs.Names.{nameCount, small, nameOf, variable}

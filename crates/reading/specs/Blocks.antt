@@ -6,8 +6,8 @@ use mathlib.Core.Bool.{cond}
 use mathlib.Core.Option.{Option, none, some}
 use mathlib.Core.List.{List, [], _∷_}
 use Rattle.scan.specs.Part.{sameBytes}
-use Rattle.reading.specs.Ascii.{ascii}
-use Rattle.reading.specs.Lexer.{within}
+use Rattle.smiles.specs.Ascii.{ascii}
+use Rattle.smiles.specs.Lexer.{within}
 use Rattle.reading.specs.Parting.{dollar, point, colon, semicolon, _>>=_, each, parted, two, three, follows, closed, enclosed}
 use Rattle.reading.specs.Numeral.{number}
 use Rattle.reading.specs.Names.{variable}

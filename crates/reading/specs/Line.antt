@@ -5,10 +5,10 @@ use mathlib.Core.Option.{Option, none, some}
 use mathlib.Core.List.{List, [], _∷_, _++_}
 use lib.ListN.{length}
 use lib.Dec.{eqb, ltb, leb}
-use Rattle.reading.specs.Ascii.{ascii}
-use Rattle.reading.specs.Lexer.{memb}
-use Rattle.reading.specs.Row.{Row}
-use Rattle.reading.specs.Text.{readText}
+use Rattle.smiles.specs.Ascii.{ascii}
+use Rattle.smiles.specs.Lexer.{memb}
+use Rattle.smiles.specs.Row.{Row}
+use Rattle.smiles.specs.Text.{readText}
 use Rattle.reading.specs.Parting.{blank, comma, semicolon, bar, _>>=_, parted, follows, closed, enclosed}
 use Rattle.reading.specs.Molecule.{At, at, atomsOf, notesOf, Sum, variablesOf, Molecule, moleculeOf}
 use Rattle.reading.specs.Blocks.{Blocks, blocks, readBlocks, labelled}

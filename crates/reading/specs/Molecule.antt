@@ -6,7 +6,7 @@ use mathlib.Core.Bool.{Bool, true, false, cond, _||_, _&&_}
 use mathlib.Core.Option.{Option, none, some}
 use mathlib.Core.List.{List, [], _∷_, _++_}
 use lib.Dec.{eqb, ltb}
-use Rattle.reading.specs.Row.{Link, link, Row, row}
+use Rattle.smiles.specs.Row.{Link, link, Row, row}
 
 -- ---- the parts of a molecule
 

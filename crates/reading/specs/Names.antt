@@ -5,7 +5,7 @@ use mathlib.Core.Bool.{Bool, cond, _&&_}
 use mathlib.Core.Option.{Option, none, some}
 use mathlib.Core.List.{List, [], _∷_}
 use lib.Dec.{ltb}
-use Rattle.reading.specs.Lexer.{within}
+use Rattle.smiles.specs.Lexer.{within}
 
 -- how many names there are: 26 of one letter, and 26 * 26 of two
 abbrev pub nameCount : ℕ

@@ -3,7 +3,7 @@
 use Prim.Native.Nat.{ℕ, zero, suc, _+_, max}
 use mathlib.Core.Option.{Option, none, some}
 use mathlib.Core.List.{List, [], _∷_, _++_, map}
-use Rattle.reading.specs.Ascii.{ascii}
+use Rattle.smiles.specs.Ascii.{ascii}
 use Rattle.reading.specs.Parting.{plus, comma, point, semicolon, joined}
 use Rattle.emit.specs.Text.{decimal}
 use Rattle.reading.specs.Names.{nameOf}

@@ -4,7 +4,7 @@
 use Prim.Native.Nat.{ℕ}
 use mathlib.Core.Option.{Option, none, some}
 use mathlib.Core.List.{List, [], _∷_}
-use Rattle.reading.specs.Ascii.{ascii}
+use Rattle.smiles.specs.Ascii.{ascii}
 use Rattle.reading.specs.Parting.{closing, plus, comma, equals, _>>=_, each, parted, two, follows, closed, enclosed}
 use Rattle.reading.specs.Numeral.{number}
 use Rattle.reading.specs.Names.{variable}

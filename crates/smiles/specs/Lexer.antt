@@ -8,8 +8,8 @@ use mathlib.Core.Option.{Option, none, some}
 use mathlib.Core.List.{List, [], _∷_, _++_}
 use lib.ListN.{length}
 use lib.Dec.{eqb, leb}
-use Rattle.reading.specs.Ascii.{ascii}
-use Rattle.reading.specs.Piece.{Piece, atom, mark, dot, lpar, rpar}
+use Rattle.smiles.specs.Ascii.{ascii}
+use Rattle.smiles.specs.Piece.{Piece, atom, mark, dot, lpar, rpar}
 
 -- ---- the bytes
 

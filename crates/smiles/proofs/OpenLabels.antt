@@ -7,8 +7,8 @@ use native.Mathlib.Omega.{arith}
 use mathlib.Core.List.{List, [], _∷_, _++_}
 use lib.Dec.{eqb}
 use borrow.Author.Tests.{eqb-true, eq-eqb, ne-eqb}
-use Rattle.reading.specs.Row.{Link, link}
-use Rattle.reading.specs.Machine.{Entry, entry, lookup, remove, among, Labelled, stop, links, close, found, label, andLabels, labels}
+use Rattle.smiles.specs.Row.{Link, link}
+use Rattle.smiles.specs.Machine.{Entry, entry, lookup, remove, among, Labelled, stop, links, close, found, label, andLabels, labels}
 
 pub lookup-same : (l a : ℕ) (t : List Entry) → lookup l (entry l a ∷ t) ≡ some a
 unfolding lookup

@@ -3,15 +3,15 @@ use mathlib.Core.Path.{_≡_, refl, ap, _∙_}
 use mathlib.Core.Option.{some}
 use Prim.Native.Nat.{ℕ}
 use mathlib.Core.List.{List, [], _∷_, _++_}
-use Rattle.reading.specs.Row.{Row}
-use Rattle.reading.specs.Piece.{Piece, atom, mark, dot, lpar, rpar}
-use Rattle.reading.specs.Machine.{Phase, fresh, opened, after, marked, State, st, Out, fail, ok, lookup, labels, step, andThen, prepend, run, whole, readPieces}
-use Rattle.reading.specs.Part.{Part}
-use Rattle.reading.specs.Template.{Chain, Item, piece, part, chain, itemPieces, nextLabel, templatePieces, drawPart, drawChain, draw, drawAll, drawn}
-use Rattle.reading.proofs.Reading.{Reads, reads-nil, reads-cons, reads-append, Stands, reads-stands}
-use Rattle.reading.proofs.Frame.{Hangs, free-nil, frame, frame-after}
-use Rattle.reading.proofs.Part.{none≢some}
-use Rattle.reading.proofs.Chain as law
+use Rattle.smiles.specs.Row.{Row}
+use Rattle.smiles.specs.Piece.{Piece, atom, mark, dot, lpar, rpar}
+use Rattle.smiles.specs.Machine.{Phase, fresh, opened, after, marked, State, st, Out, fail, ok, lookup, labels, step, andThen, prepend, run, whole, readPieces}
+use Rattle.smiles.specs.Part.{Part}
+use Rattle.smiles.specs.Template.{Chain, Item, piece, part, chain, itemPieces, nextLabel, templatePieces, drawPart, drawChain, draw, drawAll, drawn}
+use Rattle.smiles.proofs.Reading.{Reads, reads-nil, reads-cons, reads-append, Stands, reads-stands}
+use Rattle.smiles.proofs.Frame.{Hangs, free-nil, frame, frame-after}
+use Rattle.smiles.proofs.Part.{none≢some}
+use Rattle.smiles.proofs.Chain as law
 
 -- ---- what is asked of a template
 

@@ -7,17 +7,17 @@ use native.Mathlib.Omega.{arith}
 use mathlib.Core.List.{List, [], _∷_, _++_}
 use lib.ListN.{length}
 use lib.Dec.{T, eqb}
-use Rattle.reading.specs.Ascii.{ascii}
-use Rattle.reading.specs.Row.{Row}
-use Rattle.reading.specs.Piece.{atom, rpar, show}
-use Rattle.reading.specs.Lexer.{memb, organic, marks}
-use Rattle.reading.specs.Text.{readText}
-use Rattle.reading.specs.Part.{Part}
-use Rattle.reading.specs.Chain.{Ring, ring, Carbon, labelsAt, markPieces, partPieces, bridgePieces, chainPieces, floatPieces}
-use Rattle.reading.specs.Template.{Item, piece, part, chain, itemPieces, nextLabel, templatePieces, drawn}
-use Rattle.reading.proofs.WellFormed.{AllWell, WellFormed, Labels, letter, well-append}
-use Rattle.reading.proofs.LexShow.{read-show}
-use Rattle.reading.proofs.Template.{ItemsFit, template-pieces}
+use Rattle.smiles.specs.Ascii.{ascii}
+use Rattle.smiles.specs.Row.{Row}
+use Rattle.smiles.specs.Piece.{atom, rpar, show}
+use Rattle.smiles.specs.Lexer.{memb, organic, marks}
+use Rattle.smiles.specs.Text.{readText}
+use Rattle.smiles.specs.Part.{Part}
+use Rattle.smiles.specs.Chain.{Ring, ring, Carbon, labelsAt, markPieces, partPieces, bridgePieces, chainPieces, floatPieces}
+use Rattle.smiles.specs.Template.{Item, piece, part, chain, itemPieces, nextLabel, templatePieces, drawn}
+use Rattle.smiles.proofs.WellFormed.{AllWell, WellFormed, Labels, letter, well-append}
+use Rattle.smiles.proofs.LexShow.{read-show}
+use Rattle.smiles.proofs.Template.{ItemsFit, template-pieces}
 
 -- ---- a chain of well-formed parts is well formed
 

@@ -5,12 +5,12 @@ use mathlib.Core.Path.{_≡_, refl, sym, ap, subst}
 use mathlib.Core.Option.{some}
 use Prim.Native.Nat.{ℕ, suc}
 use mathlib.Core.List.{List, [], _∷_, _++_, append-assoc, append-nil}
-use Rattle.reading.specs.Row.{Row}
-use Rattle.reading.specs.Piece.{Piece, atom, mark, dot, lpar, rpar}
-use Rattle.reading.specs.Machine.{Entry, Phase, fresh, opened, after, marked, State, st, Out, fail, ok, Labelled, stop, links, labels, joins, plainly, placed, step, run, whole, readPieces}
-use Rattle.reading.proofs.Reading.{Reads, Steps, Split, reads-nil, reads-nil-only, reads-cons, reads-append, reads-split, steps-lpar, steps-rpar, steps-dot, steps-mark, steps-plain, reads-then}
-use Rattle.reading.proofs.Frame.{EachLabel, each-label-split}
-use Rattle.reading.proofs.Part.{none≢some}
+use Rattle.smiles.specs.Row.{Row}
+use Rattle.smiles.specs.Piece.{Piece, atom, mark, dot, lpar, rpar}
+use Rattle.smiles.specs.Machine.{Entry, Phase, fresh, opened, after, marked, State, st, Out, fail, ok, Labelled, stop, links, labels, joins, plainly, placed, step, run, whole, readPieces}
+use Rattle.smiles.proofs.Reading.{Reads, Steps, Split, reads-nil, reads-nil-only, reads-cons, reads-append, reads-split, steps-lpar, steps-rpar, steps-dot, steps-mark, steps-plain, reads-then}
+use Rattle.smiles.proofs.Frame.{EachLabel, each-label-split}
+use Rattle.smiles.proofs.Part.{none≢some}
 
 -- a mark, or none
 pub data Marked : List Piece → Type 0 where

@@ -6,11 +6,11 @@ use Prim.Native.Nat.{ℕ, _+_}
 use mathlib.Core.Option.{Option}
 use mathlib.Core.List.{List, [], _∷_, _++_}
 use lib.ListN.{length}
-use Rattle.reading.specs.Row.{Row}
-use Rattle.reading.specs.Piece.{Piece}
-use Rattle.reading.specs.Machine.{fresh, opened, after, marked, State, st, Out, fail, ok, step, andThen, whole}
-use Rattle.reading.specs.Part.{Part, place, hung}
-use Rattle.reading.specs.Chain.{Ring, Carbon, chainEnd, chainLast, chainRows, chainPieces, floatPieces, floatRows, floatEnd, floatLast}
+use Rattle.smiles.specs.Row.{Row}
+use Rattle.smiles.specs.Piece.{Piece}
+use Rattle.smiles.specs.Machine.{fresh, opened, after, marked, State, st, Out, fail, ok, step, andThen, whole}
+use Rattle.smiles.specs.Part.{Part, place, hung}
+use Rattle.smiles.specs.Chain.{Ring, Carbon, chainEnd, chainLast, chainRows, chainPieces, floatPieces, floatRows, floatEnd, floatLast}
 
 -- a chain: its first carbon's number, its rings, its carbons, the parts that float
 pub record Chain : Type 0 where

@@ -10,15 +10,15 @@ use mathlib.Core.List.{List, [], _∷_, _++_, append-assoc, append-nil}
 use lib.ListN.{length}
 use lib.Dec.{eqb, ltb, leb}
 use borrow.Author.Tests.{eqb-true, eqb-false, eq-eqb, ne-eqb, lt-ltb, le-ltb, le-leb, lt-leb}
-use Rattle.reading.specs.Ascii.{ascii}
-use Rattle.reading.specs.Row.{Link, link, row}
-use Rattle.reading.specs.Piece.{atom}
-use Rattle.reading.specs.Machine.{Entry, entry, fresh, after, marked, st, lookup, remove, among, links, labels, joins, plainly}
-use Rattle.reading.specs.Part.{Part, place}
-use Rattle.reading.specs.Chain.{Ring, ring, Carbon, partsEnd, bridgeEnd, bridgeLast, carbonEnd, carbonLast, chainEnd, chainLast, atomFrom, atomOf, partRows, bridgeRows, ringLinks, carbonRows, chainRows, labelsAt, markPieces, partPieces, bridgePieces, chainPieces, floatPieces, floatRows, floatEnd, floatLast}
-use Rattle.reading.proofs.Reading.{Reads, reads-nil, reads-cons, reads-append, steps-mark, steps-atom, steps-plain, steps-dot}
-use Rattle.reading.proofs.OpenLabels.{lookup-same, lookup-other, lookup-removed, lookup-remove-other, lookup-append, nothing-open, label-opens, label-closes, labels-cons}
-use Rattle.reading.proofs.Frame.{Hangs, EachOf, EachLabel, each-label-map, Shut, frame-after, frame-branch, labels-over}
+use Rattle.smiles.specs.Ascii.{ascii}
+use Rattle.smiles.specs.Row.{Link, link, row}
+use Rattle.smiles.specs.Piece.{atom}
+use Rattle.smiles.specs.Machine.{Entry, entry, fresh, after, marked, st, lookup, remove, among, links, labels, joins, plainly}
+use Rattle.smiles.specs.Part.{Part, place}
+use Rattle.smiles.specs.Chain.{Ring, ring, Carbon, partsEnd, bridgeEnd, bridgeLast, carbonEnd, carbonLast, chainEnd, chainLast, atomFrom, atomOf, partRows, bridgeRows, ringLinks, carbonRows, chainRows, labelsAt, markPieces, partPieces, bridgePieces, chainPieces, floatPieces, floatRows, floatEnd, floatLast}
+use Rattle.smiles.proofs.Reading.{Reads, reads-nil, reads-cons, reads-append, steps-mark, steps-atom, steps-plain, steps-dot}
+use Rattle.smiles.proofs.OpenLabels.{lookup-same, lookup-other, lookup-removed, lookup-remove-other, lookup-append, nothing-open, label-opens, label-closes, labels-cons}
+use Rattle.smiles.proofs.Frame.{Hangs, EachOf, EachLabel, each-label-map, Shut, frame-after, frame-branch, labels-over}
 
 -- ---- where a ring's label is open
 

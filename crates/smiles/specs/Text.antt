@@ -3,10 +3,10 @@
 use Prim.Native.Nat.{ℕ}
 use mathlib.Core.Option.{Option, none, some}
 use mathlib.Core.List.{List}
-use Rattle.reading.specs.Row.{Row}
-use Rattle.reading.specs.Piece.{Piece}
-use Rattle.reading.specs.Lexer.{piecesOf}
-use Rattle.reading.specs.Machine.{readPieces}
+use Rattle.smiles.specs.Row.{Row}
+use Rattle.smiles.specs.Piece.{Piece}
+use Rattle.smiles.specs.Lexer.{piecesOf}
+use Rattle.smiles.specs.Machine.{readPieces}
 
 unfoldable pub readLexed : Option (List Piece) → Option (List Row)
 unfolding readPieces

@@ -2,10 +2,10 @@
 use Prim.Native.Nat.{ℕ, zero, suc, _+_}
 use mathlib.Core.Option.{Option, none, some}
 use mathlib.Core.List.{List, [], _∷_, map}
-use Rattle.reading.specs.Row.{Link, link, Row, row}
-use Rattle.reading.specs.Piece.{Piece}
-use Rattle.reading.specs.Lexer.{piecesOf}
-use Rattle.reading.specs.Machine.{fresh, opened, after, marked, st, Out, fail, ok, run}
+use Rattle.smiles.specs.Row.{Link, link, Row, row}
+use Rattle.smiles.specs.Piece.{Piece}
+use Rattle.smiles.specs.Lexer.{piecesOf}
+use Rattle.smiles.specs.Machine.{fresh, opened, after, marked, st, Out, fail, ok, run}
 
 -- its own atoms are 1 to `size`, and 0 is the atom that it hangs on; `last` is the atom that one after it would join
 pub record Part : Type 0 where

@@ -6,11 +6,11 @@ use Prim.Native.Nat.{ℕ, zero, suc, _+_, _-_}
 use mathlib.Core.Bool.{Bool, true, false, cond, _||_}
 use mathlib.Core.List.{List, [], _∷_, _++_}
 use lib.Dec.{eqb}
-use Rattle.reading.specs.Ascii.{ascii}
-use Rattle.reading.specs.Row.{Link, link, Row, row}
-use Rattle.reading.specs.Piece.{Piece, atom, mark, dot, lpar, rpar}
-use Rattle.reading.specs.Machine.{plainly}
-use Rattle.reading.specs.Part.{Part, place, hung}
+use Rattle.smiles.specs.Ascii.{ascii}
+use Rattle.smiles.specs.Row.{Link, link, Row, row}
+use Rattle.smiles.specs.Piece.{Piece, atom, mark, dot, lpar, rpar}
+use Rattle.smiles.specs.Machine.{plainly}
+use Rattle.smiles.specs.Part.{Part, place, hung}
 
 -- the carbons that a ring joins: its start and its end
 pub data Ring : Type 0 where

@@ -9,11 +9,11 @@ use native.Mathlib.Nat.{add-zero}
 use mathlib.Core.List.{List, [], _∷_, _++_, map}
 use lib.Dec.{eqb}
 use borrow.Author.Tests.{eqb-true, eqb-false, eq-eqb, ne-eqb}
-use Rattle.reading.specs.Row.{Link, link, Row}
-use Rattle.reading.specs.Piece.{Piece, atom, mark, dot, lpar, rpar}
-use Rattle.reading.specs.Machine.{Entry, entry, Phase, fresh, opened, after, marked, State, st, Out, fail, ok, lookup, remove, among, Labelled, stop, links, close, found, label, andLabels, labels, joins, placed, step}
-use Rattle.reading.specs.Part.{Part, place, moveLink, moveRow, hung}
-use Rattle.reading.proofs.Reading.{Reads, Steps, Split, fail≢ok, count, steps-count, reads-nil, reads-cons, reads-then, reads-split, reads-nil-only, steps-lpar, steps-rpar}
+use Rattle.smiles.specs.Row.{Link, link, Row}
+use Rattle.smiles.specs.Piece.{Piece, atom, mark, dot, lpar, rpar}
+use Rattle.smiles.specs.Machine.{Entry, entry, Phase, fresh, opened, after, marked, State, st, Out, fail, ok, lookup, remove, among, Labelled, stop, links, close, found, label, andLabels, labels, joins, placed, step}
+use Rattle.smiles.specs.Part.{Part, place, moveLink, moveRow, hung}
+use Rattle.smiles.proofs.Reading.{Reads, Steps, Split, fail≢ok, count, steps-count, reads-nil, reads-cons, reads-then, reads-split, reads-nil-only, steps-lpar, steps-rpar}
 
 -- ---- what holds of each label
 

@@ -4,9 +4,9 @@ use Prim.Native.Nat.{ℕ, suc, _+_, _<_}
 use native.Mathlib.Omega.{arith}
 use mathlib.Core.List.{List, [], _∷_, _++_, append-assoc, append-nil}
 use lib.ListN.{length, length-append}
-use Rattle.reading.specs.Row.{Row, row, Link}
-use Rattle.reading.specs.Piece.{Piece, atom, mark, dot, lpar, rpar}
-use Rattle.reading.specs.Machine.{Entry, Phase, fresh, opened, after, marked, State, st, Out, fail, ok, Labelled, stop, links, labels, joins, plainly, placed, step, prepend, andThen, run}
+use Rattle.smiles.specs.Row.{Row, row, Link}
+use Rattle.smiles.specs.Piece.{Piece, atom, mark, dot, lpar, rpar}
+use Rattle.smiles.specs.Machine.{Entry, Phase, fresh, opened, after, marked, State, st, Out, fail, ok, Labelled, stop, links, labels, joins, plainly, placed, step, prepend, andThen, run}
 
 -- ---- joining
 

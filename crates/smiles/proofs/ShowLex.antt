@@ -8,10 +8,10 @@ use mathlib.Core.List.{List, [], _∷_, _++_, append-assoc, append-nil}
 use lib.ListN.{length}
 use lib.Dec.{eqb, leb}
 use borrow.Author.Tests.{eqb-true, lt-ltb, le-ltb, leb-true}
-use Rattle.reading.specs.Piece.{Piece, atom, showLabel, showLabels, showPiece, show}
-use Rattle.reading.specs.Lexer.{memb, within, organic, marks, bracketed, Lex, between, inAtom, inBracket, inLabel, inTens, Fed, halt, fed, begin, second, ended, feed, before, onFed, lex}
-use Rattle.reading.proofs.WellFormed.{Bracketed, AtomBytes, letter, chlorine, bromine, bracket, Labels, WellFormed, AllWell, well-append}
-use Rattle.reading.proofs.LexShow.{true-T}
+use Rattle.smiles.specs.Piece.{Piece, atom, showLabel, showLabels, showPiece, show}
+use Rattle.smiles.specs.Lexer.{memb, within, organic, marks, bracketed, Lex, between, inAtom, inBracket, inLabel, inTens, Fed, halt, fed, begin, second, ended, feed, before, onFed, lex}
+use Rattle.smiles.proofs.WellFormed.{Bracketed, AtomBytes, letter, chlorine, bromine, bracket, Labels, WellFormed, AllWell, well-append}
+use Rattle.smiles.proofs.LexShow.{true-T}
 
 pub show-append : (a b : List Piece) → show (a ++ b) ≡ show a ++ show b
 unfolding show

@@ -5,8 +5,8 @@ use mathlib.Core.Bool.{true}
 use mathlib.Core.List.{List, [], _∷_, _++_}
 use lib.ListN.{length}
 use lib.Dec.{T}
-use Rattle.reading.specs.Piece.{Piece, atom, mark, dot, lpar, rpar}
-use Rattle.reading.specs.Lexer.{memb, organic, marks, bracketed}
+use Rattle.smiles.specs.Piece.{Piece, atom, mark, dot, lpar, rpar}
+use Rattle.smiles.specs.Lexer.{memb, organic, marks, bracketed}
 
 abbrev pub Bracketed : List ℕ → Type 0
 Bracketed [] = Unit {0}

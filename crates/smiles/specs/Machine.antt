@@ -9,8 +9,8 @@ use mathlib.Core.Bool.{Bool, true, false, cond, _||_}
 use mathlib.Core.Option.{Option, none, some}
 use mathlib.Core.List.{List, [], _∷_, _++_}
 use lib.Dec.{eqb}
-use Rattle.reading.specs.Row.{Link, link, Row, row}
-use Rattle.reading.specs.Piece.{Piece, atom, mark, dot, lpar, rpar}
+use Rattle.smiles.specs.Row.{Link, link, Row, row}
+use Rattle.smiles.specs.Piece.{Piece, atom, mark, dot, lpar, rpar}
 
 -- an open label, and the atom that it stands on
 pub data Entry : Type 0 where

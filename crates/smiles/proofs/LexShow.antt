@@ -8,11 +8,11 @@ use mathlib.Core.List.{List, [], _∷_, _++_, append-assoc, append-nil}
 use lib.ListN.{length, length-append}
 use lib.Dec.{T, eqb, ltb}
 use borrow.Author.Tests.{eqb-true, ne-eqb, le-leb, ltb-true, ltb-false}
-use Rattle.reading.specs.Piece.{Piece, atom, mark, dot, lpar, rpar, showLabel, showLabels, show}
-use Rattle.reading.specs.Lexer.{memb, within, organic, marks, bracketed, pairs, Lex, between, inAtom, inBracket, inLabel, inTens, Fed, halt, fed, begin, second, ended, feed, before, onFed, lex, piecesOf}
-use Rattle.reading.specs.Machine.{readPieces}
-use Rattle.reading.specs.Text.{readLexed, readText}
-use Rattle.reading.proofs.WellFormed.{Bracketed, AtomBytes, letter, chlorine, bromine, bracket, Labels, AllWell}
+use Rattle.smiles.specs.Piece.{Piece, atom, mark, dot, lpar, rpar, showLabel, showLabels, show}
+use Rattle.smiles.specs.Lexer.{memb, within, organic, marks, bracketed, pairs, Lex, between, inAtom, inBracket, inLabel, inTens, Fed, halt, fed, begin, second, ended, feed, before, onFed, lex, piecesOf}
+use Rattle.smiles.specs.Machine.{readPieces}
+use Rattle.smiles.specs.Text.{readLexed, readText}
+use Rattle.smiles.proofs.WellFormed.{Bracketed, AtomBytes, letter, chlorine, bromine, bracket, Labels, AllWell}
 
 -- ---- tests
 

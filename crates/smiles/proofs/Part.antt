@@ -5,14 +5,14 @@ use Prim.Native.Nat.{ℕ, zero, suc}
 use native.Mathlib.Omega.{arith}
 use mathlib.Core.List.{List, [], _∷_}
 use lib.ListN.{length}
-use Rattle.reading.specs.Piece.{Piece, show}
-use Rattle.reading.specs.Lexer.{between, lex, piecesOf}
-use Rattle.reading.specs.Machine.{fresh, opened, after, marked, st, Out, fail, ok}
-use Rattle.reading.specs.Part.{Part, alone, partRead, partLexed, partOf}
-use Rattle.reading.proofs.Reading.{reads-count}
-use Rattle.reading.proofs.Frame.{Hangs}
-use Rattle.reading.proofs.WellFormed.{AllWell}
-use Rattle.reading.proofs.ShowLex.{show-lex}
+use Rattle.smiles.specs.Piece.{Piece, show}
+use Rattle.smiles.specs.Lexer.{between, lex, piecesOf}
+use Rattle.smiles.specs.Machine.{fresh, opened, after, marked, st, Out, fail, ok}
+use Rattle.smiles.specs.Part.{Part, alone, partRead, partLexed, partOf}
+use Rattle.smiles.proofs.Reading.{reads-count}
+use Rattle.smiles.proofs.Frame.{Hangs}
+use Rattle.smiles.proofs.WellFormed.{AllWell}
+use Rattle.smiles.proofs.ShowLex.{show-lex}
 
 -- what is known of the part of some bytes
 pub record PartFrom (xs : List ℕ) (p : Part) : Type 0 where

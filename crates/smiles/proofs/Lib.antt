@@ -1,0 +1,11 @@
+pub mod Reading
+pub mod OpenLabels
+pub mod Frame
+pub mod Chain
+pub mod WellFormed
+pub mod LexShow
+pub mod ShowLex
+pub mod Part
+pub mod Run
+pub mod Template
+pub mod TemplateText
