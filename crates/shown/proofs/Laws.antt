@@ -1,5 +1,5 @@
--- Laws of the writers of what parts and names: a law for each way out, and for lists with a byte between their parts. Assumes nothing.
-use Prim.Native.Nat.{ℕ, zero, suc, _+_, _-_, _/_, _%_, _^_, _≤_, _<_}
+-- Laws of the writers of what parts: a law for each way out, and for lists with a byte between their parts. Assumes nothing.
+use Prim.Native.Nat.{ℕ, zero, suc, _+_, _^_, _<_}
 use native.Mathlib.Nat.{add-zero, add-suc, suc-add}
 use native.Mathlib.Omega.{arith}
 use mathlib.Core.Path.{_≡_, refl, ap}
@@ -7,11 +7,10 @@ use mathlib.Core.Bool.{Bool, true, false}
 use mathlib.Core.List.{List, [], _∷_, _++_, append-assoc, append-nil}
 use lib.ListN.{length}
 use lib.Dec.{ltb}
-use borrow.Author.Tests.{lt-ltb, le-ltb}
+use borrow.Author.Tests.{lt-ltb}
 use Rattle.emit.specs.Text.{Written, decimal}
 use Rattle.emit.proofs.Laws.{written-append, written-nil}
 use Rattle.reading.specs.Ascii.{ascii}
-use Rattle.reading.specs.Names.{nameBelow, nameOf}
 use Rattle.reading.specs.Parting.{joined, led}
 use Rattle.chain.specs.Lists.{valuesFrom}
 use Rattle.shown.specs.Chained.{lead, blocksEnd, parting, listed, numbered}
@@ -42,18 +41,6 @@ end-none any xs p e h = rw e (written-nil xs p h)
 pub parting-none : (more : Bool) (s : ℕ) (xs : List ℕ) (p : ℕ) → more ≡ false → p < 2 ^ 64 → Written xs p (parting more s) xs p
 unfolding parting
 parting-none more s xs p e h = rw e (written-nil xs p h)
-
--- ---- names
-
-module _ (v : ℕ) where
-  pub name-one : {xs ys : List ℕ} {at p : ℕ} → v % 702 < 26 → Written xs at ((97 + v % 702) ∷ []) ys p → Written xs at (nameOf v) ys p
-  unfolding nameOf nameBelow
-  name-one h w = rw (lt-ltb (v % 702) 26 h) w
-
-  pub name-two : {xs ys zs : List ℕ} {at p q : ℕ} → length xs < 2 ^ 64 → 26 ≤ v % 702 → Written xs at ((97 + (v % 702 - 26) / 26) ∷ []) ys p
-      → Written ys p ((97 + (v % 702 - 26) % 26) ∷ []) zs q → Written xs at (nameOf v) zs q
-  unfolding nameOf nameBelow
-  name-two g h w u = rw (le-ltb (v % 702) 26 h) (written-append g w u)
 
 -- ---- the texts of blocks and parts
 

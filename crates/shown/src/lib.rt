@@ -1,25 +1,13 @@
-// What the blocks and the parts of the trailer of a line share: the names of variables, what stands before a block and before a part, the bar
-// after the blocks, and the sites. The builder keeps marks, site lists, sums and sites as numbers and shows them last.
+// What the blocks and the parts of the trailer of a line share: the names of variables, as `variable` has them, what stands before a block
+// and before a part, the bar after the blocks, and the sites. The builder keeps marks, site lists, sums and sites as numbers and shows them last.
 // Each writer is of the kind of `emit`: it stores nothing past the end and counts on. A writer of blocks or of parts of the trailer is told
 // whether nothing of its kind stands before them, and writes what parts them. The texts are those of the reading rules.
 ghost use Rattle.emit.specs.Text.{Written};
-ghost use Rattle.reading.specs.Names.{nameOf};
 ghost use Rattle.shown.specs.Chained.{blockLead, partLead, blocksEnd, parting, numbered};
 use emit::put_byte;
 use emit::put_number;
 use emit::put_text;
-
-// The name of a variable; past zz the names begin again.
-pub fn put_name(out: &mut [u8], at: usize, v: u32) -> usize
-    ensures { λ r. ⌜ Written (now (out .entry)) at (nameOf v) (now (out .exit)) r ⌝ }
-{
-    let w = v % 702;
-    if w < 26 {
-        return put_byte(out, at, (97 + w) as u8);
-    }
-    let p = put_byte(out, at, (97 + (w - 26) / 26) as u8);
-    put_byte(out, p, (97 + (w - 26) % 26) as u8)
-}
+pub use variable::put_name;
 
 // The byte before each part of a list but the first.
 pub fn put_parting(out: &mut [u8], at: usize, more: bool, s: u8) -> usize

@@ -1,8 +1,8 @@
 use native.Mathlib.Omega.{arith}
-use Rattle.shown.proofs.Laws.{name-one, name-two}
+use Rattle.variable.proofs.Laws.{name-one, name-two}
 use borrow.Author.Needs.{needs}
-use Rattle.shown.proofs.put_name.Statement.{statement}
-use Rattle.shown.proofs.put_name.Tie as tie
+use Rattle.variable.proofs.put_name.Statement.{statement}
+use Rattle.variable.proofs.put_name.Tie as tie
 
 add-put-byte : tie.Need-add-put-byte
 add-put-byte c = search needs
