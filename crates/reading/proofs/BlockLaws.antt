@@ -12,19 +12,19 @@ use lib.Dec.{eqb}
 use borrow.Author.Tests.{le-leb, le-ltb, eqb-true, ne-eqb, eq-eqb, not-true}
 use Rattle.smiles.specs.Ascii.{ascii}
 use Rattle.smiles.specs.Lexer.{memb, within}
-use Rattle.reading.specs.Parting.{_>>=_, each, parted, two, three, follows, closed, enclosed, joined}
+use Rattle.words.specs.Parting.{_>>=_, each, parted, two, three, follows, closed, enclosed, joined}
 use Rattle.emit.specs.Text.{decimal}
 use Rattle.scan.specs.Number.{isDigit}
 use Rattle.scan.specs.Part.{sameBytes}
-use Rattle.reading.specs.Numeral.{number}
-use Rattle.reading.specs.Names.{nameCount, small, nameOf, variable}
-use Rattle.reading.specs.Molecule.{At, at, atomsOf, notesOf, look}
+use Rattle.words.specs.Numeral.{number}
+use Rattle.words.specs.Names.{nameCount, small, nameOf, variable}
+use Rattle.molecule.specs.Molecule.{At, at, atomsOf, notesOf, look}
 use Rattle.reading.specs.Blocks.{snDigit, labelOf, entryOf, labelled, someLabels, entriesOf, markOf, sitesOf, Blocks, blocks, onlySites, marksThen, readBlocks}
 use Rattle.reading.specs.Line.{distinct, times}
 use Rattle.reading.specs.Show.{showLabel, showEntry, entries, upToLast, labelBlock, showMark, showSites, labelBlocks, blockTexts}
-use Rattle.reading.proofs.PartingLaws.{and-left, and-right, every, All, all-map, all-any, NonEmpty, clear, Clears, clear-append, clear-class, clear-one, clear-joined, clears-shown, clears-append, parted-one, parted-then, each-shown, enclosed-between, list-read}
-use Rattle.reading.proofs.NumeralLaws.{decimal-digits, number-decimal}
-use Rattle.reading.proofs.NameLaws.{name-small, variable-name}
+use Rattle.words.proofs.PartingLaws.{and-left, and-right, every, All, all-map, all-any, NonEmpty, clear, Clears, clear-append, clear-class, clear-one, clear-joined, clears-shown, clears-append, parted-one, parted-then, each-shown, enclosed-between, list-read}
+use Rattle.words.proofs.NumeralLaws.{decimal-digits, number-decimal}
+use Rattle.words.proofs.NameLaws.{name-small, variable-name}
 
 -- a decimal number has no byte that is no digit, and a name none that is no small letter
 pub decimal-clear : (ss : List ℕ) (n : ℕ) → every (λ s. not (isDigit s)) ss ≡ true → clear ss (decimal n) ≡ true

@@ -13,17 +13,17 @@ use Rattle.scan.specs.Part.{sameBytes}
 use Rattle.emit.specs.Text.{decimal}
 use Rattle.smiles.specs.Ascii.{ascii}
 use Rattle.smiles.specs.Lexer.{within}
-use Rattle.reading.specs.Parting.{_>>=_, each, onFirst, parted, two, three, follows, closed, enclosed, led, joined}
-use Rattle.reading.specs.Numeral.{number}
-use Rattle.reading.specs.Names.{nameOf, variable}
-use Rattle.reading.specs.Molecule.{At, at, Sum, sum}
+use Rattle.words.specs.Parting.{_>>=_, each, onFirst, parted, two, three, follows, closed, enclosed, led, joined}
+use Rattle.words.specs.Numeral.{number}
+use Rattle.words.specs.Names.{nameOf, variable}
+use Rattle.molecule.specs.Molecule.{At, at, Sum, sum}
 use Rattle.reading.specs.Blocks.{snDigit, labelOf, entryOf, labelled, someLabels, entriesOf, markOf, sitesOf, Blocks, blocks, onlySites, marksThen, readBlocks}
 use Rattle.reading.specs.Trailer.{swapOf, sumOf, Trailer, trailer, onlySums, readTrailer}
 use Rattle.reading.specs.Line.{Apart, apart, barred, apartOf}
 use Rattle.reading.specs.Show.{showLabel, showEntry, showMark, showSites, showSwap, showSum, showTrailer, showBlocks}
-use Rattle.reading.proofs.PartingLaws.{and-left, and-right, NonEmpty}
-use Rattle.reading.proofs.NumeralLaws.{number-told}
-use Rattle.reading.proofs.NameLaws.{name-variable}
+use Rattle.words.proofs.PartingLaws.{and-left, and-right, NonEmpty}
+use Rattle.words.proofs.NumeralLaws.{number-told}
+use Rattle.words.proofs.NameLaws.{name-variable}
 
 -- ---- readers in a row
 

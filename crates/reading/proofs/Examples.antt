@@ -10,7 +10,7 @@ use lib.ListN.{length}
 use Rattle.smiles.specs.Ascii.{ascii}
 use Rattle.smiles.specs.Row.{Row}
 use Rattle.smiles.specs.Text.{readText}
-use Rattle.reading.specs.Molecule.{Bond, bond, bondsOf}
+use Rattle.molecule.specs.Molecule.{Bond, bond, bondsOf}
 
 pub data Example : Type 0 where
   reads : String → ℕ → List Bond → Example

@@ -8,7 +8,7 @@ use mathlib.Core.Option.{Option, none, some}
 use mathlib.Core.List.{List, [], _∷_, map}
 use Rattle.emit.specs.Text.{digits}
 use Rattle.smiles.specs.Ascii.{ascii}
-use Rattle.reading.specs.Molecule.{At, at, Atom, atom, Bond, bond, Sum, sum, Molecule, molecule}
+use Rattle.molecule.specs.Molecule.{At, at, Atom, atom, Bond, bond, Sum, sum, Molecule, molecule}
 use Rattle.reading.specs.Line.{readLine}
 use Rattle.reading.specs.Show.{showLine}
 

@@ -14,14 +14,14 @@ use Rattle.smiles.specs.Ascii.{ascii}
 use Rattle.smiles.specs.Lexer.{memb, within}
 use Rattle.smiles.specs.Row.{Row, row}
 use Rattle.smiles.specs.Text.{readText}
-use Rattle.reading.specs.Parting.{_>>=_, parted, follows, closed, enclosed, joined}
-use Rattle.reading.specs.Names.{nameCount}
-use Rattle.reading.specs.Molecule.{At, at, atomsOf, notesOf, look, Atom, atom, Bond, Sum, sum, variablesOf, numberOf, Molecule, molecule, atomsFrom, bondsOf, setOf, sumKey, moleculeOf}
+use Rattle.words.specs.Parting.{_>>=_, parted, follows, closed, enclosed, joined}
+use Rattle.words.specs.Names.{nameCount}
+use Rattle.molecule.specs.Molecule.{At, at, atomsOf, notesOf, look, Atom, atom, Bond, Sum, sum, variablesOf, numberOf, Molecule, molecule, atomsFrom, bondsOf, setOf, sumKey, moleculeOf}
 use Rattle.reading.specs.Blocks.{Blocks, blocks, readBlocks, labelled}
 use Rattle.reading.specs.Trailer.{Trailer, trailer, readTrailer}
 use Rattle.reading.specs.Line.{Apart, apart, barred, apartOf, flat, summed, below, distinct, times, once, rising, placedWell, swapsWell, sumsWell, judged, judgedApart, readLine}
 use Rattle.reading.specs.Show.{blockTexts, trailerTexts, labelBlocks, swapTexts, showTrailer, showBlocks, showLine, entries, upToLast}
-use Rattle.reading.proofs.PartingLaws.{and-left, and-right, and-both, All, all-map, NonEmpty, clear, Clears, clear-append, clear-one, clear-joined, parted-one, parted-then, parted-again, enclosed-between}
+use Rattle.words.proofs.PartingLaws.{and-left, and-right, and-both, All, all-map, NonEmpty, clear, Clears, clear-append, clear-one, clear-joined, parted-one, parted-then, parted-again, enclosed-between}
 use Rattle.reading.proofs.ListLaws.{below-all, all-below, times-all, all-times, once-elim, once-intro, distinct-times, once-self, rising-distinct}
 use Rattle.reading.proofs.BlockLaws.{LabelFits, MarkFits, SitesFit, blocks-clear, blocks-read, entriesShown, entries-length, all-last, readLabels, labels-look, labels-times}
 use Rattle.reading.proofs.TrailerLaws.{SumFits, trailer-clear, trailer-read}

@@ -9,7 +9,7 @@ use lib.Dec.{eqb, ltb}
 use borrow.Author.Tests.{eqb-true, eqb-false, eq-eqb, ne-eqb, ltb-true, lt-ltb, not-true}
 use Rattle.smiles.specs.Lexer.{memb}
 use Rattle.reading.specs.Line.{below, distinct, times, once, rising}
-use Rattle.reading.proofs.PartingLaws.{All, and-left, and-right, and-both}
+use Rattle.words.proofs.PartingLaws.{All, and-left, and-right, and-both}
 
 -- ---- below
 

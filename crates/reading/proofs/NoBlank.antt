@@ -13,7 +13,7 @@ use Rattle.smiles.specs.Row.{Row}
 use Rattle.smiles.specs.Piece.{Piece, atom}
 use Rattle.smiles.specs.Lexer.{memb, within, bracketed, organic, marks, pairs, second, Lex, between, inAtom, inBracket, inLabel, inTens, Fed, halt, fed, begin, ended, feed, before, onFed, lex, piecesOf}
 use Rattle.smiles.specs.Text.{readLexed, readText}
-use Rattle.reading.proofs.PartingLaws.{and-both, clear}
+use Rattle.words.proofs.PartingLaws.{and-both, clear}
 
 no-second : (b ls : List ℕ) → second 32 b ls ≡ false
 unfolding second pairs

@@ -11,12 +11,12 @@ use lib.Dec.{leb}
 use borrow.Author.Tests.{leb-true}
 use Rattle.smiles.specs.Row.{Row}
 use Rattle.smiles.specs.Text.{readText}
-use Rattle.reading.specs.Parting.{_>>=_, parted}
-use Rattle.reading.specs.Molecule.{At, at, atomsOf, notesOf, Sum, Molecule, moleculeOf}
+use Rattle.words.specs.Parting.{_>>=_, parted}
+use Rattle.molecule.specs.Molecule.{At, at, atomsOf, notesOf, Sum, Molecule, moleculeOf}
 use Rattle.reading.specs.Blocks.{Blocks, blocks, labelled}
 use Rattle.reading.specs.Trailer.{Trailer, trailer}
 use Rattle.reading.specs.Line.{Apart, apart, apartOf, flat, summed, below, distinct, times, once, rising, placedWell, swapsWell, sumsWell, judged, judgedApart, readLine}
-use Rattle.reading.proofs.PartingLaws.{and-left, and-right, All}
+use Rattle.words.proofs.PartingLaws.{and-left, and-right, All}
 use Rattle.reading.proofs.ListLaws.{below-all, once-elim, distinct-times}
 use Rattle.reading.proofs.Exact.{lineOf, apart-exact}
 

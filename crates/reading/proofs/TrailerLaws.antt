@@ -9,16 +9,16 @@ use Rattle.scan.specs.Number.{isDigit}
 use Rattle.emit.specs.Text.{decimal}
 use Rattle.smiles.specs.Ascii.{ascii}
 use Rattle.smiles.specs.Lexer.{memb, within}
-use Rattle.reading.specs.Parting.{_>>=_, each, parted, two, follows, closed, enclosed, joined}
-use Rattle.reading.specs.Numeral.{number}
-use Rattle.reading.specs.Names.{nameCount, small, nameOf, variable}
-use Rattle.reading.specs.Molecule.{At, at, notesOf, Sum, sum}
+use Rattle.words.specs.Parting.{_>>=_, each, parted, two, follows, closed, enclosed, joined}
+use Rattle.words.specs.Numeral.{number}
+use Rattle.words.specs.Names.{nameCount, small, nameOf, variable}
+use Rattle.molecule.specs.Molecule.{At, at, notesOf, Sum, sum}
 use Rattle.reading.specs.Blocks.{labelOf}
 use Rattle.reading.specs.Trailer.{swapOf, sumOf, Trailer, trailer, onlySums, readTrailer}
 use Rattle.reading.specs.Show.{showLabel, showSwap, showSum, swapTexts, trailerTexts}
-use Rattle.reading.proofs.PartingLaws.{every, All, all-map, all-any, NonEmpty, clear, Clears, clear-append, clear-joined, clears-shown, clears-append, parted-one, parted-then, each-shown, enclosed-between, list-read}
-use Rattle.reading.proofs.NumeralLaws.{number-decimal}
-use Rattle.reading.proofs.NameLaws.{variable-name}
+use Rattle.words.proofs.PartingLaws.{every, All, all-map, all-any, NonEmpty, clear, Clears, clear-append, clear-joined, clears-shown, clears-append, parted-one, parted-then, each-shown, enclosed-between, list-read}
+use Rattle.words.proofs.NumeralLaws.{number-decimal}
+use Rattle.words.proofs.NameLaws.{variable-name}
 use Rattle.reading.proofs.BlockLaws.{decimal-clear, name-clear, LabelFits, label-read, label-clear}
 
 -- what can be shown: variables that have a name of their own, at least one, and a number below 2^32

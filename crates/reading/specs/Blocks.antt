@@ -8,10 +8,10 @@ use mathlib.Core.List.{List, [], _∷_}
 use Rattle.scan.specs.Part.{sameBytes}
 use Rattle.smiles.specs.Ascii.{ascii}
 use Rattle.smiles.specs.Lexer.{within}
-use Rattle.reading.specs.Parting.{dollar, point, colon, semicolon, _>>=_, each, parted, two, three, follows, closed, enclosed}
-use Rattle.reading.specs.Numeral.{number}
-use Rattle.reading.specs.Names.{variable}
-use Rattle.reading.specs.Molecule.{At, at}
+use Rattle.words.specs.Parting.{dollar, point, colon, semicolon, _>>=_, each, parted, two, three, follows, closed, enclosed}
+use Rattle.words.specs.Numeral.{number}
+use Rattle.words.specs.Names.{variable}
+use Rattle.molecule.specs.Molecule.{At, at}
 
 -- ---- `$..$`
 

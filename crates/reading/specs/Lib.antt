@@ -7,10 +7,10 @@ pub use Rattle.smiles.specs.Text
 pub use Rattle.smiles.specs.Part
 pub use Rattle.smiles.specs.Chain
 pub use Rattle.smiles.specs.Template
-pub mod Parting
-pub mod Numeral
-pub mod Names
-pub mod Molecule
+pub use Rattle.words.specs.Parting
+pub use Rattle.words.specs.Numeral
+pub use Rattle.words.specs.Names
+pub use Rattle.molecule.specs.Molecule
 pub mod Blocks
 pub mod Trailer
 pub mod Line

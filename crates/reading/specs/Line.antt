@@ -9,8 +9,8 @@ use Rattle.smiles.specs.Ascii.{ascii}
 use Rattle.smiles.specs.Lexer.{memb}
 use Rattle.smiles.specs.Row.{Row}
 use Rattle.smiles.specs.Text.{readText}
-use Rattle.reading.specs.Parting.{blank, comma, semicolon, bar, _>>=_, parted, follows, closed, enclosed}
-use Rattle.reading.specs.Molecule.{At, at, atomsOf, notesOf, Sum, variablesOf, Molecule, moleculeOf}
+use Rattle.words.specs.Parting.{blank, comma, semicolon, bar, _>>=_, parted, follows, closed, enclosed}
+use Rattle.molecule.specs.Molecule.{At, at, atomsOf, notesOf, Sum, variablesOf, Molecule, moleculeOf}
 use Rattle.reading.specs.Blocks.{Blocks, blocks, readBlocks, labelled}
 use Rattle.reading.specs.Trailer.{Trailer, trailer, readTrailer}
 

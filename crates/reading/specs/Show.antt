@@ -4,10 +4,10 @@ use Prim.Native.Nat.{ℕ, zero, suc, _+_, max}
 use mathlib.Core.Option.{Option, none, some}
 use mathlib.Core.List.{List, [], _∷_, _++_, map}
 use Rattle.smiles.specs.Ascii.{ascii}
-use Rattle.reading.specs.Parting.{plus, comma, point, semicolon, joined}
+use Rattle.words.specs.Parting.{plus, comma, point, semicolon, joined}
 use Rattle.emit.specs.Text.{decimal}
-use Rattle.reading.specs.Names.{nameOf}
-use Rattle.reading.specs.Molecule.{At, at, notesOf, look, Sum, sum}
+use Rattle.words.specs.Names.{nameOf}
+use Rattle.molecule.specs.Molecule.{At, at, notesOf, look, Sum, sum}
 
 -- ---- the blocks
 

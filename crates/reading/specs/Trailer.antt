@@ -5,10 +5,10 @@ use Prim.Native.Nat.{ℕ}
 use mathlib.Core.Option.{Option, none, some}
 use mathlib.Core.List.{List, [], _∷_}
 use Rattle.smiles.specs.Ascii.{ascii}
-use Rattle.reading.specs.Parting.{closing, plus, comma, equals, _>>=_, each, parted, two, follows, closed, enclosed}
-use Rattle.reading.specs.Numeral.{number}
-use Rattle.reading.specs.Names.{variable}
-use Rattle.reading.specs.Molecule.{Sum, sum}
+use Rattle.words.specs.Parting.{closing, plus, comma, equals, _>>=_, each, parted, two, follows, closed, enclosed}
+use Rattle.words.specs.Numeral.{number}
+use Rattle.words.specs.Names.{variable}
+use Rattle.molecule.specs.Molecule.{Sum, sum}
 use Rattle.reading.specs.Blocks.{labelOf}
 
 -- the labels of a `swappable(..)`

@@ -9,7 +9,7 @@ use mathlib.Core.List.{List, [], _∷_, _++_, append-assoc, append-nil, map}
 use lib.Dec.{eqb}
 use borrow.Author.Tests.{eqb-true, eq-eqb}
 use Rattle.smiles.specs.Lexer.{memb}
-use Rattle.reading.specs.Parting.{_>>=_, each, onFirst, parted, closed, follows, enclosed, led, joined}
+use Rattle.words.specs.Parting.{_>>=_, each, onFirst, parted, closed, follows, enclosed, led, joined}
 
 -- ---- tests
 

@@ -15,8 +15,8 @@ use Rattle.scan.specs.declared.Number.the-variants.{Value, Unreadable}
 use Rattle.emit.specs.Text.{decimal}
 use Rattle.emit.proofs.Laws.{decimal-small, decimal-step}
 use Rattle.emit.proofs.ReadsBack.{decimal-reads-back}
-use Rattle.reading.specs.Numeral.{leads, valueOf, number}
-use Rattle.reading.proofs.PartingLaws.{and-left, and-right, every}
+use Rattle.words.specs.Numeral.{leads, valueOf, number}
+use Rattle.words.proofs.PartingLaws.{and-left, and-right, every}
 
 -- the first byte is a digit, and of a number of two digits or more it is no zero
 record Led (n : ℕ) (xs : List ℕ) : Type 0 where

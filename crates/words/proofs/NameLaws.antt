@@ -10,8 +10,8 @@ use mathlib.Core.List.{List, [], _∷_}
 use lib.Dec.{ltb, leb}
 use borrow.Author.Tests.{lt-ltb, le-ltb, le-leb, leb-true}
 use Rattle.smiles.specs.Lexer.{within}
-use Rattle.reading.specs.Names.{nameCount, small, nameBelow, nameOf, variable}
-use Rattle.reading.proofs.PartingLaws.{and-left, and-right, every}
+use Rattle.words.specs.Names.{nameCount, small, nameBelow, nameOf, variable}
+use Rattle.words.proofs.PartingLaws.{and-left, and-right, every}
 
 small-yes : (d : ℕ) → d < 26 → small (97 + d) ≡ true
 unfolding small within

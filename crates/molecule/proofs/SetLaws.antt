@@ -9,8 +9,8 @@ use mathlib.Core.Logic.{_⊎_, inl, inr, ⊎-elim}
 use mathlib.Core.List.{List, [], _∷_, _++_}
 use lib.Dec.{eqb, ltb}
 use borrow.Author.Tests.{ltb-true, ltb-false, lt-ltb, le-ltb, eqb-true, eqb-false, eq-eqb, ne-eqb}
-use Rattle.reading.specs.Molecule.{Bond, bond, Sum, sum, before, insert, setOf, bondKey, sumKey}
-use Rattle.reading.proofs.PartingLaws.{All, all-map}
+use Rattle.molecule.specs.Molecule.{Bond, bond, Sum, sum, before, insert, setOf, bondKey, sumKey}
+use Rattle.words.proofs.PartingLaws.{All, all-map}
 
 -- ---- the order of keys
 

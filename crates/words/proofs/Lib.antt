@@ -1,0 +1,3 @@
+pub mod PartingLaws
+pub mod NumeralLaws
+pub mod NameLaws
