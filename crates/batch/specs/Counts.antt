@@ -34,6 +34,11 @@ timesFrom times (n ∷ ns) = timesFrom (withAnswer times n) ns
 unfoldable pub timesOf : List ℕ → List ℕ
 timesOf ns = timesFrom noTimes ns
 
+-- how often an answer stands among some
+unfoldable pub occurrences : ℕ → List ℕ → ℕ
+occurrences n [] = 0
+occurrences n (m ∷ ms) = cond (eqb m n) (suc (occurrences n ms)) (occurrences n ms)
+
 -- the line of an answer, where it was met
 unfoldable pub countLine : ℕ → ℕ → List ℕ
 countLine n times = cond (eqb times 0) [] (tabbed (ascii "#" ∷ decimal n ∷ decimal times ∷ []))

@@ -1,0 +1,99 @@
+-- Each answer met is counted: it is one of the numbers that have a count, and the count is the number of times that it stands among the
+-- answers. 01, Put to each public function: "in any order each answer met stands there once, with its times". Assumes nothing.
+use Prim.Native.Nat.{ℕ, zero, suc, _+_, _≤_, _<_, min}
+use native.Mathlib.Omega.{arith}
+use mathlib.Core.Path.{_≡_, refl, sym, ap, _∙_}
+use mathlib.Core.Bool.{Bool, true, false, cond, not, _||_, true≢false}
+use mathlib.Core.List.{List, [], _∷_}
+use lib.ListN.{length, getD, set, take, length-set, length-replicate, getD-replicate}
+use lib.Seq.{getD-set-same, getD-set-other}
+use lib.Dec.{eqb, ltb}
+use borrow.Author.Tests.{eqb-true, eqb-false}
+use Rattle.template.specs.declared.Class.{Class}
+use Rattle.record.specs.Chain.{Chain}
+use Rattle.chain.specs.Lists.{anyOf}
+use Rattle.judge.specs.Verdict.{Verdict, Refused, Drawable, verdict, isRefusal}
+use Rattle.judge.proofs.Accepted.{refused-number}
+use Rattle.forward.specs.Answer.{short}
+use Rattle.sheet.specs.declared.Plan.{Plan}
+use Rattle.sheet.specs.declared.Asked.{Asked}
+use Rattle.sheet.specs.Sheet.{cellOf, snCells, Row, Unreadable, Asks, requestOf, told}
+use Rattle.sheet.proofs.Requested.{asked-nothing, asked-request, asked-count}
+use Rattle.batch.specs.Counts.{answers, noTimes, withAnswer, timesFrom, timesOf, occurrences}
+use Rattle.batch.specs.Reply.{Reply, refused, accepted, replyTo, replyOf}
+
+-- ---- the times of an answer
+
+times-from : (n : ℕ) (ts ns : List ℕ) → n < length ts → getD ts n 0 ≤ 18446744073709551615
+    → getD (timesFrom ts ns) n 0 ≡ min (getD ts n 0 + occurrences n ns) 18446744073709551615
+unfolding timesFrom occurrences
+times-from n ts [] l h = omega arith
+times-from n ts (m ∷ ns) l h = go (eqb m n) refl (times-from n (withAnswer ts m) ns (rw length-set l))
+  where
+    go : (b : Bool) → eqb m n ≡ b
+        → (getD (withAnswer ts m) n 0 ≤ 18446744073709551615
+        → getD (timesFrom (withAnswer ts m) ns) n 0 ≡ min (getD (withAnswer ts m) n 0 + occurrences n ns) 18446744073709551615)
+        → getD (timesFrom (withAnswer ts m) ns) n 0 ≡ min (getD ts n 0 + cond b (suc (occurrences n ns)) (occurrences n ns)) 18446744073709551615
+    go true e f =
+        let d : m ≡ n = eqb-true m n e in
+        let g : getD (withAnswer ts m) n 0 ≡ min (getD ts n 0 + 1) 18446744073709551615 = (rw d (getD-set-same ts n (min (getD ts n 0 + 1) 18446744073709551615) 0 l)) in
+        let i = f (omega (arith, g)) in
+        omega (arith, i, g)
+    go false e f =
+        let g : getD (withAnswer ts m) n 0 ≡ getD ts n 0 = getD-set-other ts m n (min (getD ts m 0 + 1) 18446744073709551615) 0 (λ z. eqb-false m n e (sym z)) in
+        let i = f (omega (arith, g)) in
+        omega (arith, i, g)
+
+pub times-told : (n : ℕ) (ns : List ℕ) → n < answers → getD (timesOf ns) n 0 ≡ min (occurrences n ns) 18446744073709551615
+unfolding timesOf
+times-told n ns h =
+    let z : getD noTimes n 0 ≡ 0 = getD-replicate answers n 0 0 h in
+    let i = times-from n noTimes ns (rw length-replicate h) (omega arith) in
+    omega (arith, i, z)
+
+-- ---- every answer has a count
+
+abbrev Small : List ℕ → Type 0
+Small [] = Unit {0}
+Small (k ∷ ks) = (k < answers) × Small ks
+
+among-small : (n : ℕ) (ks : List ℕ) → Small ks → anyOf (eqb n) ks ≡ true → n < answers
+unfolding anyOf
+among-small n [] s e = absurd (true≢false (sym e))
+among-small n (k ∷ ks) s e = go (eqb n k) refl e (among-small n ks (s .1))
+  where
+    go : (b : Bool) → eqb n k ≡ b → (b || anyOf (eqb n) ks) ≡ true → (anyOf (eqb n) ks ≡ true → n < answers) → n < answers
+    go true f g h = let z : n ≡ k = eqb-true n k f in omega (arith, z, s .0)
+    go false f g h = h g
+
+refusal-small : (n : ℕ) → isRefusal n ≡ true → n < answers
+unfolding isRefusal
+refusal-small n e =
+    among-small n (20 ∷ 21 ∷ 31 ∷ 11 ∷ 22 ∷ 23 ∷ 32 ∷ 33 ∷ 12 ∷ 13 ∷ 14 ∷ 15 ∷ [])
+    (omega arith, (omega arith, (omega arith, (omega arith, (omega arith, (omega arith, (omega arith, (omega arith, (omega arith, (omega arith, (omega arith, (omega arith, tt)))))))))))) e
+
+-- the number of a reply to a row
+pub reply-counted : (p : Plan) (row : List ℕ) (line index : ℕ) → replyOf (requestOf p row) line index .number < answers
+unfolding accepted
+reply-counted p row line index = go (told (requestOf p row) .readable) refl
+  where
+    a : Asked
+    a = told (requestOf p row)
+
+    drawn : (swap : Bool) (t : List ℕ) (v : Verdict) → ((n q : ℕ) → v ≡ Refused n q → isRefusal n ≡ true) → replyTo v swap t line index .number < answers
+    drawn swap t (Refused n q) f = refusal-small n (f n q refl)
+    drawn swap t (Drawable c ds) f = whole (short c swap t ds line index)
+      where
+        whole : (b : Bool) → cond b (refused 41 0) (accepted c swap t ds) .number < answers
+        whole true = omega arith
+        whole false = omega arith
+
+    go : (b : Bool) → told (requestOf p row) .readable ≡ b → replyOf (requestOf p row) line index .number < answers
+    go true e =
+        let h : not (a .readable) ≡ false = ap not e in
+        let ts : List (List ℕ) = take (a .count) (snCells p row) in
+        let n : length ts ≡ a .count = sym (asked-count p row a refl h) in
+        rw (asked-request p row a refl h, n)
+        (drawn (a .swap) (cellOf p 2 row) (verdict (cellOf p 0 row) (cellOf p 2 row) (a .count) ts)
+        (λ m q f. refused-number (cellOf p 0 row) (cellOf p 2 row) (a .count) (cellOf p 3 row) (cellOf p 4 row) (cellOf p 5 row) (cellOf p 6 row) m q f .0))
+    go false e = let h : not (a .readable) ≡ true = ap not e in rw (asked-nothing p row a refl h) (omega arith)
