@@ -64,7 +64,7 @@ length-insert p (q ∷ qs) = go (leb (p .sn) (q .sn)) (length-insert p qs)
     go true e = refl
     go false e = ap suc e
 
-length-sorted : (ps : List Placed) → length (bySn ps) ≡ length ps
+pub length-sorted : (ps : List Placed) → length (bySn ps) ≡ length ps
 unfolding bySn
 length-sorted [] = refl
 length-sorted (p ∷ ps) = length-insert p (bySn ps) ∙ ap suc (length-sorted ps)

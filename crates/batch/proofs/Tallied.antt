@@ -66,7 +66,7 @@ among-small n (k ∷ ks) s e = go (eqb n k) refl e (among-small n ks (s .1))
     go true f g h = let z : n ≡ k = eqb-true n k f in omega (arith, z, s .0)
     go false f g h = h g
 
-refusal-small : (n : ℕ) → isRefusal n ≡ true → n < answers
+pub refusal-small : (n : ℕ) → isRefusal n ≡ true → n < answers
 unfolding isRefusal
 refusal-small n e =
     among-small n (20 ∷ 21 ∷ 31 ∷ 11 ∷ 22 ∷ 23 ∷ 32 ∷ 33 ∷ 12 ∷ 13 ∷ 14 ∷ 15 ∷ [])

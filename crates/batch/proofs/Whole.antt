@@ -27,11 +27,11 @@ start-length : (text xs : List ℕ) → length text ≤ length xs → length (at
 unfolding atStart
 start-length text xs h = omega (arith, length-append text (drop (length text) xs), length-drop (length text) xs)
 
-either-left : (a b : Bool) → (a || b) ≡ false → a ≡ false
+pub either-left : (a b : Bool) → (a || b) ≡ false → a ≡ false
 either-left true b e = absurd (true≢false e)
 either-left false b e = refl
 
-either-right : (a b : Bool) → (a || b) ≡ false → b ≡ false
+pub either-right : (a b : Bool) → (a || b) ≡ false → b ≡ false
 either-right true b e = absurd (true≢false e)
 either-right false b e = e
 

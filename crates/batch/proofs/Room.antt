@@ -1,0 +1,170 @@
+-- How long a row of the output is: a reply has room in the slices' lengths, five bytes to an index, and 20 bytes more. So a row that is begun
+-- in a slice with that much room is written whole. Assumes nothing.
+use Prim.Native.Nat.{ℕ, zero, suc, _+_, _*_, _/_, _%_, _^_, _≤_, _<_}
+use native.Mathlib.Nat.{pow-suc}
+use native.Mathlib.Decide.{decLe}
+use native.Mathlib.Omega.{arith}
+use mathlib.Core.Path.{_≡_, refl, sym, ap, _∙_}
+use mathlib.Core.Bool.{Bool, true, false, cond, not, _||_, true≢false}
+use mathlib.Core.List.{List, [], _∷_, _++_, map}
+use lib.ListN.{length, take, length-append, length-map}
+use lib.Dec.{ltb, eqb}
+use borrow.Author.Tests.{ltb-false}
+use Rattle.emit.specs.Text.{decimal}
+use Rattle.emit.proofs.Laws.{decimal-small, decimal-step}
+use Rattle.record.specs.Chain.{Chain}
+use Rattle.reading.specs.Ascii.{ascii}
+use Rattle.reading.specs.Parting.{joined, led}
+use Rattle.reading.proofs.PartingLaws.{All}
+use Rattle.template.specs.declared.Class.{Class}
+use Rattle.template.specs.Request.{Placed, placed, bySn, indicesOf, allIndices, indexOf, lineOf}
+use Rattle.template.proofs.Sorted.{all-sorted}
+use Rattle.template.proofs.Theorem.{Accepted, indices-small}
+use Rattle.placed.proofs.Ready.{sns-few}
+use Rattle.judge.specs.Verdict.{Verdict, Refused, Drawable, verdict, isRefusal}
+use Rattle.judge.proofs.Accepted.{judged-accepted, refused-number}
+use Rattle.listing.proofs.PlacedLaws.{places-few}
+use Rattle.forward.specs.Answer.{short}
+use Rattle.sheet.specs.declared.Plan.{Plan}
+use Rattle.sheet.specs.declared.Asked.{Asked}
+use Rattle.sheet.specs.Sheet.{cellOf, snCells, requestOf, told}
+use Rattle.sheet.proofs.Requested.{asked-nothing, asked-request, asked-count}
+use Rattle.batch.specs.Text.{ended, tabbed, Carbons, chainText, chainsText, rowText}
+use Rattle.batch.specs.Counts.{answers, countLine, countLinesFrom}
+use Rattle.batch.specs.Reply.{Reply, refused, carbonsIn, accepted, replyTo, replyOf, replyText}
+use Rattle.batch.proofs.ReplyLaws.{length-sorted}
+use Rattle.batch.proofs.Whole.{either-left, either-right}
+use Rattle.batch.proofs.Tallied.{refusal-small}
+
+-- ---- numbers and lists
+
+-- the digits of a number below a power of ten
+pub digits-few : (k n : ℕ) → n < 10 ^ suc k → length (decimal n) ≤ suc k
+digits-few zero n h = let z : n < 10 = h in rw (decimal-small n z) (omega arith)
+digits-few (suc k) n h = go (decLe 10 n) (digits-few k (n / 10))
+  where
+    go : Dec (10 ≤ n) → (n / 10 < 10 ^ suc k → length (decimal (n / 10)) ≤ suc k) → length (decimal n) ≤ suc (suc k)
+    go (yes l) f =
+        let m : n < 10 ^ suc k * 10 = (rw pow-suc at h) in
+        let i = f (omega arith) in
+        rw (decimal-step n l, length-append (decimal (n / 10)) ((48 + n % 10) ∷ [])) (omega arith)
+    go (no l) f = rw (decimal-small n (omega arith)) (omega arith)
+
+-- the bytes of parts, with one more for each
+total : List (List ℕ) → ℕ
+total [] = 0
+total (p ∷ ps) = suc (length p) + total ps
+
+led-total : (s : ℕ) (ps : List (List ℕ)) → length (led s ps) ≡ total ps
+unfolding led total
+led-total s [] = refl
+led-total s (p ∷ ps) = omega (arith, length-append p (led s ps), led-total s ps)
+
+joined-total : (s : ℕ) (ps : List (List ℕ)) → length (joined s ps) ≤ total ps
+unfolding joined total
+joined-total s [] = omega arith
+joined-total s (p ∷ ps) = omega (arith, length-append p (led s ps), led-total s ps)
+
+-- ---- the chains
+
+numbers-total : (js : List ℕ) → All (λ j. j < 4000) js → total (map decimal js) ≤ 5 * length js
+unfolding total
+numbers-total [] a = omega arith
+numbers-total (j ∷ js) a = omega (arith, digits-few 3 j (omega (arith, a .0)), numbers-total js (a .1))
+
+chain-length : (p : Placed) → (1 ≤ p .sn) × (p .sn ≤ 4) → All (λ j. j < 4000) (indicesOf p) → length (chainText (carbonsIn p)) ≤ 2 + 5 * length (indicesOf p)
+unfolding chainText carbonsIn
+chain-length p n a =
+    let d : length (decimal (p .sn)) ≤ 1 = digits-few 0 (p .sn) (omega (arith, n .1)) in
+    omega (arith, d, length-append (decimal (p .sn)) (58 ∷ joined 46 (map decimal (indicesOf p))), joined-total 46 (map decimal (indicesOf p)), numbers-total (indicesOf p) a)
+
+chains-total : (ps : List Placed) → All (λ p. (1 ≤ p .sn) × (p .sn ≤ 4)) ps → All (λ p. All (λ j. j < 4000) (indicesOf p)) ps
+    → total (map chainText (map carbonsIn ps)) ≤ 3 * length ps + 5 * length (allIndices ps)
+unfolding total allIndices
+chains-total [] n a = omega arith
+chains-total (p ∷ ps) n a =
+    omega (arith, chain-length p (n .0) (a .0), chains-total ps (n .1) (a .1), length-append (indicesOf p) (allIndices ps))
+
+-- ---- a reply
+
+row-length : (a t : ℕ) (line : List ℕ) (cs : List Carbons) → length (rowText a t line cs) ≤ length (decimal a) + length (decimal t) + length line + length (chainsText cs) + 4
+unfolding rowText tabbed ended joined led
+row-length a t line cs =
+    omega (
+      arith,
+      length-append (decimal a ++ 9 ∷ (decimal t ++ 9 ∷ (line ++ 9 ∷ (chainsText cs ++ [])))) (10 ∷ []),
+      length-append (decimal a) (9 ∷ (decimal t ++ 9 ∷ (line ++ 9 ∷ (chainsText cs ++ [])))),
+      length-append (decimal t) (9 ∷ (line ++ 9 ∷ (chainsText cs ++ []))),
+      length-append line (9 ∷ (chainsText cs ++ [])),
+      length-append (chainsText cs) [],
+    )
+
+refused-room : (n q : ℕ) → n < answers → q ≤ 4 → length (replyText (refused n q)) ≤ 7
+unfolding replyText chainsText joined
+refused-room n q h k = omega (arith, row-length n q [] [], digits-few 1 n (omega arith), digits-few 0 q (omega arith))
+
+accepted-room : (c : Class) (swap : Bool) (t : List ℕ) (ds : List Chain) (line index : ℕ) → Accepted c t ds → short c swap t ds line index ≡ false
+    → length (replyText (accepted c swap t ds)) ≤ line + 5 * index + 20
+unfolding replyText accepted short chainsText indexOf
+accepted-room c swap t ds line index a e =
+    let ps : List Placed = bySn (placed c t ds) in
+    let l : length (lineOf c swap t ds) ≤ line = ltb-false line (length (lineOf c swap t ds)) (either-left _ _ e) in
+    let i : length (allIndices ps) ≤ index = ltb-false index (length (allIndices ps)) (either-right (ltb line (length (lineOf c swap t ds))) _ e) in
+    let few : length ps ≤ 4 = omega (arith, length-sorted (placed c t ds), places-few c t ds) in
+    let w : total (map chainText (map carbonsIn ps)) ≤ 3 * length ps + 5 * length (allIndices ps)
+    = chains-total ps (all-sorted (λ p. (1 ≤ p .sn) × (p .sn ≤ 4)) (placed c t ds) (sns-few c t ds))
+    (all-sorted (λ p. All (λ j. j < 4000) (indicesOf p)) (placed c t ds) (indices-small c t ds a)) in
+    let z : length (decimal 0) ≤ 1 = digits-few 0 0 (omega arith) in
+    omega (arith, row-length 0 0 (lineOf c swap t ds) (map carbonsIn ps), joined-total 59 (map chainText (map carbonsIn ps)), l, i, few, w, z)
+
+-- every reply to a row, for slices of these lengths
+pub reply-room : (p : Plan) (row : List ℕ) (line index : ℕ) → length (replyText (replyOf (requestOf p row) line index)) ≤ line + 5 * index + 20
+reply-room p row line index = go (told (requestOf p row) .readable) refl
+  where
+    a : Asked
+    a = told (requestOf p row)
+
+    drawn : (swap : Bool) (t : List ℕ) (v : Verdict) → ((n q : ℕ) → v ≡ Refused n q → (isRefusal n ≡ true) × (q ≤ 4)) → ((c : Class) (ds : List Chain) → v ≡ Drawable c ds → Accepted c t ds)
+        → length (replyText (replyTo v swap t line index)) ≤ line + 5 * index + 20
+    drawn swap t (Refused n q) f g = let z = f n q refl in omega (arith, refused-room n q (refusal-small n (z .0)) (z .1))
+    drawn swap t (Drawable c ds) f g = whole (short c swap t ds line index) refl
+      where
+        whole : (b : Bool) → short c swap t ds line index ≡ b → length (replyText (cond b (refused 41 0) (accepted c swap t ds))) ≤ line + 5 * index + 20
+        whole true e = omega (arith, refused-room 41 0 (omega arith) (omega arith))
+        whole false e = accepted-room c swap t ds line index (g c ds refl) e
+
+    go : (b : Bool) → told (requestOf p row) .readable ≡ b → length (replyText (replyOf (requestOf p row) line index)) ≤ line + 5 * index + 20
+    go true e =
+        let h : not (a .readable) ≡ false = ap not e in
+        let ts : List (List ℕ) = take (a .count) (snCells p row) in
+        let n : length ts ≡ a .count = sym (asked-count p row a refl h) in
+        rw (asked-request p row a refl h, n)
+        (drawn (a .swap) (cellOf p 2 row) (verdict (cellOf p 0 row) (cellOf p 2 row) (a .count) ts)
+        (refused-number (cellOf p 0 row) (cellOf p 2 row) (a .count) (cellOf p 3 row) (cellOf p 4 row) (cellOf p 5 row) (cellOf p 6 row))
+        (judged-accepted (cellOf p 0 row) (cellOf p 2 row) (a .count) (cellOf p 3 row) (cellOf p 4 row) (cellOf p 5 row) (cellOf p 6 row)))
+    go false e = let h : not (a .readable) ≡ true = ap not e in rw (asked-nothing p row a refl h) (omega (arith, refused-room 42 0 (omega arith) (omega arith)))
+
+-- ---- the counts
+
+line-room : (n t : ℕ) → n < answers → t < 2 ^ 64 → length (countLine n t) ≤ 26
+unfolding countLine tabbed ended joined led ascii
+line-room n t h k = go (eqb t 0)
+  where
+    go : (b : Bool) → length (cond b [] ((35 ∷ 9 ∷ (decimal n ++ 9 ∷ (decimal t ++ []))) ++ 10 ∷ [])) ≤ 26
+    go true = omega arith
+    go false =
+        omega (
+          arith,
+          length-append (35 ∷ 9 ∷ (decimal n ++ 9 ∷ (decimal t ++ []))) (10 ∷ []),
+          length-append (decimal n) (9 ∷ (decimal t ++ [])),
+          length-append (decimal t) [],
+          digits-few 1 n (omega arith),
+          digits-few 19 t (omega arith),
+        )
+
+-- the lines of all answers, of which each was met so often
+pub counts-room : (n : ℕ) (ts : List ℕ) → n + length ts ≤ answers → All (λ t. t < 2 ^ 64) ts → length (countLinesFrom n ts) ≤ 26 * length ts
+unfolding countLinesFrom
+counts-room n [] h a = omega arith
+counts-room n (t ∷ ts) h a =
+    omega (arith, length-append (countLine n t) (countLinesFrom (suc n) ts), line-room n t (omega arith) (a .0), counts-room (suc n) ts (omega arith) (a .1))
