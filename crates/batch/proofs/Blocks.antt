@@ -1,12 +1,12 @@
 -- The input in blocks. Of the bytes so far some are left after the last LF that was answered; `Fed` says that they and what was answered
 -- stand for all bytes so far, whatever comes next. It holds at the start, after one more block, after lines were answered, and where what
 -- is left is cut to its first 2,049 bytes; at the end it gives the whole batch. Assumes nothing.
-use Prim.Native.Nat.{ℕ, zero, suc, _+_, _-_, _≤_, _<_}
+use Prim.Native.Nat.{ℕ, zero, suc, _+_, _-_}
 use native.Mathlib.Omega.{arith}
 use mathlib.Core.Path.{_≡_, refl, sym, ap, _∙_}
 use mathlib.Core.Bool.{Bool, true, false, cond}
-use mathlib.Core.List.{List, [], _∷_, _++_, map, append-assoc, append-nil}
-use lib.ListN.{length, take, drop}
+use mathlib.Core.List.{List, [], _∷_, _++_, append-assoc, append-nil}
+use lib.ListN.{length, take}
 use lib.Dec.{eqb}
 use Rattle.form.specs.Parts.{onto, partsAt}
 use Rattle.sheet.specs.declared.Plan.{Plan}
@@ -14,8 +14,7 @@ use Rattle.sheet.specs.Sheet.{planOf, requestOf}
 use Rattle.sheet.proofs.Long.{cut-header, cut-row}
 use Rattle.batch.specs.declared.Stage.{Stage}
 use Rattle.batch.specs.declared.Stage.the-variants.{Header, Rows, Over}
-use Rattle.batch.specs.Reply.{Reply}
-use Rattle.batch.specs.Batch.{repliesAt, stageAfter, planAfter, lineAt, indexAt, textsOf, Held, batchAfter, heldAfter, heldFrom, isHeader, isLine, heldLast, heldEnd, kept}
+use Rattle.batch.specs.Batch.{repliesAt, stageAfter, planAfter, lineAt, indexAt, Held, batchAfter, heldAfter, heldFrom, isHeader, isLine, heldLast, heldEnd, kept}
 
 -- ---- the parts of bytes that are joined
 

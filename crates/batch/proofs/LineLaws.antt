@@ -1,6 +1,6 @@
 -- Laws of the lines of a sheet: each stage of a batch, and a turn and the ways out of the loop over the lines of a text.
 -- Assumes nothing.
-use Prim.Native.Nat.{ℕ, zero, suc, _+_, _-_, _^_, _≤_, _<_, min}
+use Prim.Native.Nat.{ℕ, suc, _+_, _-_, _^_, _≤_, _<_, min}
 use native.Mathlib.Nat.{sub-zero, min-eq-left, min-eq-right}
 use native.Mathlib.Numerals.{add-one}
 use native.Mathlib.Omega.{arith}
@@ -26,10 +26,9 @@ use Rattle.batch.specs.declared.Stage.{Stage}
 use Rattle.batch.specs.declared.Stage.the-variants.{Header, Rows, Over}
 use Rattle.batch.specs.declared.Batch.{Batch}
 use Rattle.batch.specs.declared.Lined.{Lined}
-use Rattle.batch.specs.declared.Lines.{Lines}
 use Rattle.batch.specs.Counts.{counting, withAnswer, timesFrom, countLines}
-use Rattle.batch.specs.Reply.{Reply, refused, replyOf, replyText, UnreadableWritten, RowAnswered}
-use Rattle.batch.specs.Batch.{repliesAt, stageAfter, planAfter, textsOf, numbersOf, Held, batchAfter, heldAfter, heldFrom, isHeader, heldLast, before, staged, Holds, HeaderAnswered, LinesAnswered, Finished, kept, keptOf, Moved}
+use Rattle.batch.specs.Reply.{refused, UnreadableWritten, RowAnswered}
+use Rattle.batch.specs.Batch.{textsOf, numbersOf, Held, batchAfter, heldAfter, heldFrom, isHeader, heldLast, before, staged, Holds, HeaderAnswered, LinesAnswered, Finished, kept, Moved}
 
 -- ---- the header
 

@@ -1,14 +1,14 @@
 -- Laws of the answer to a row: what is written of an answer of the call is the reply to the row.
 -- Assumes nothing.
-use Prim.Native.Nat.{ℕ, zero, suc, _+_, _-_, _^_, _≤_, _<_, min}
+use Prim.Native.Nat.{ℕ, suc, _+_, _-_, _^_, _≤_, _<_, min}
 use native.Mathlib.Omega.{arith}
-use mathlib.Core.Path.{_≡_, refl, sym, ap, _∙_, subst}
+use mathlib.Core.Path.{_≡_, refl, ap, _∙_, subst}
 use mathlib.Core.Bool.{Bool, true, false, cond, not}
-use mathlib.Core.List.{List, [], _∷_, _++_, map, append-assoc, append-nil}
+use mathlib.Core.List.{List, [], _∷_, _++_, map, append-assoc}
 use lib.ListN.{length, take, drop, replicate, length-map}
 use lib.Seq.{take-take, take-append-seam, drop-append-seam}
 use lib.Dec.{leb}
-use Rattle.emit.specs.Text.{Written, decimal}
+use Rattle.emit.specs.Text.{Written}
 use Rattle.emit.proofs.Laws.{written-append}
 use Rattle.reading.specs.Parting.{joined, led}
 use Rattle.record.specs.Chain.{Chain}
@@ -20,15 +20,15 @@ use Rattle.listing.specs.Four.{four}
 use Rattle.listing.specs.Lists.{noList, listOf}
 use Rattle.listing.proofs.PlacedLaws.{places-few}
 use Rattle.forward.specs.declared.Answer.{Answer}
-use Rattle.forward.specs.Answer.{listsOf, refusal, acceptance, short, answerTo, atStart, lineAfter, indexAfter}
+use Rattle.forward.specs.Answer.{refusal, acceptance, short, answerTo, atStart, lineAfter, indexAfter}
 use Rattle.forward.specs.Call.{Answers, Called}
 use Rattle.sheet.specs.declared.Plan.{Plan}
 use Rattle.sheet.specs.declared.Asked.{Asked}
 use Rattle.sheet.specs.Sheet.{cellOf, snCells, requestOf, told}
 use Rattle.sheet.proofs.Requested.{asked-nothing, asked-request, asked-count}
 use Rattle.batch.specs.declared.Answered.{Answered}
-use Rattle.batch.specs.Text.{ended, tabbed, Carbons, chainsText, carbonsOf, headText, rowText}
-use Rattle.batch.specs.Reply.{Reply, refused, carbonsIn, accepted, replyTo, replyText, answerText, UnreadableWritten, RowAnswered}
+use Rattle.batch.specs.Text.{ended, tabbed, chainsText, carbonsOf, headText, rowText}
+use Rattle.batch.specs.Reply.{refused, carbonsIn, accepted, replyTo, replyText, answerText, UnreadableWritten, RowAnswered}
 use Rattle.batch.proofs.Laws.{part-taken}
 
 -- ---- what is written of an answer

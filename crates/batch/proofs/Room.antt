@@ -4,10 +4,10 @@ use Prim.Native.Nat.{ℕ, zero, suc, _+_, _*_, _/_, _%_, _^_, _≤_, _<_}
 use native.Mathlib.Nat.{pow-suc}
 use native.Mathlib.Decide.{decLe}
 use native.Mathlib.Omega.{arith}
-use mathlib.Core.Path.{_≡_, refl, sym, ap, _∙_}
-use mathlib.Core.Bool.{Bool, true, false, cond, not, _||_, true≢false}
+use mathlib.Core.Path.{_≡_, refl, sym, ap}
+use mathlib.Core.Bool.{Bool, true, false, cond, not}
 use mathlib.Core.List.{List, [], _∷_, _++_, map}
-use lib.ListN.{length, take, length-append, length-map}
+use lib.ListN.{length, take, length-append}
 use lib.Dec.{ltb, eqb}
 use borrow.Author.Tests.{ltb-false}
 use Rattle.emit.specs.Text.{decimal}
@@ -31,7 +31,7 @@ use Rattle.sheet.specs.Sheet.{cellOf, snCells, requestOf, told}
 use Rattle.sheet.proofs.Requested.{asked-nothing, asked-request, asked-count}
 use Rattle.batch.specs.Text.{ended, tabbed, Carbons, chainText, chainsText, rowText}
 use Rattle.batch.specs.Counts.{answers, countLine, countLinesFrom}
-use Rattle.batch.specs.Reply.{Reply, refused, carbonsIn, accepted, replyTo, replyOf, replyText}
+use Rattle.batch.specs.Reply.{refused, carbonsIn, accepted, replyTo, replyOf, replyText}
 use Rattle.batch.proofs.ReplyLaws.{length-sorted}
 use Rattle.batch.proofs.Whole.{either-left, either-right}
 use Rattle.batch.proofs.Tallied.{refusal-small}

@@ -1,26 +1,24 @@
 -- Each answer met is counted: it is one of the numbers that have a count, and the count is the number of times that it stands among the
 -- answers. 01, Put to each public function: "in any order each answer met stands there once, with its times". Assumes nothing.
-use Prim.Native.Nat.{ℕ, zero, suc, _+_, _≤_, _<_, min}
+use Prim.Native.Nat.{ℕ, suc, _+_, _≤_, _<_, min}
 use native.Mathlib.Omega.{arith}
-use mathlib.Core.Path.{_≡_, refl, sym, ap, _∙_}
+use mathlib.Core.Path.{_≡_, refl, sym, ap}
 use mathlib.Core.Bool.{Bool, true, false, cond, not, _||_, true≢false}
 use mathlib.Core.List.{List, [], _∷_}
-use lib.ListN.{length, getD, set, take, length-set, length-replicate, getD-replicate}
+use lib.ListN.{length, getD, take, length-set, length-replicate, getD-replicate}
 use lib.Seq.{getD-set-same, getD-set-other}
-use lib.Dec.{eqb, ltb}
+use lib.Dec.{eqb}
 use borrow.Author.Tests.{eqb-true, eqb-false}
-use Rattle.template.specs.declared.Class.{Class}
-use Rattle.record.specs.Chain.{Chain}
 use Rattle.chain.specs.Lists.{anyOf}
 use Rattle.judge.specs.Verdict.{Verdict, Refused, Drawable, verdict, isRefusal}
 use Rattle.judge.proofs.Accepted.{refused-number}
 use Rattle.forward.specs.Answer.{short}
 use Rattle.sheet.specs.declared.Plan.{Plan}
 use Rattle.sheet.specs.declared.Asked.{Asked}
-use Rattle.sheet.specs.Sheet.{cellOf, snCells, Row, Unreadable, Asks, requestOf, told}
+use Rattle.sheet.specs.Sheet.{cellOf, snCells, requestOf, told}
 use Rattle.sheet.proofs.Requested.{asked-nothing, asked-request, asked-count}
 use Rattle.batch.specs.Counts.{answers, noTimes, withAnswer, timesFrom, timesOf, occurrences}
-use Rattle.batch.specs.Reply.{Reply, refused, accepted, replyTo, replyOf}
+use Rattle.batch.specs.Reply.{refused, accepted, replyTo, replyOf}
 
 -- ---- the times of an answer
 

@@ -1,11 +1,11 @@
 -- The batch line by line is the whole batch. And while the input comes in blocks, what is left of it may be cut: `Fed` holds from its first
 -- byte to its last, whatever the blocks are. Assumes nothing.
-use Prim.Native.Nat.{ℕ, zero, suc, _+_, _-_, _≤_, _<_}
+use Prim.Native.Nat.{ℕ, _+_, _-_, _≤_}
 use native.Mathlib.Omega.{arith}
 use mathlib.Core.Path.{_≡_, refl, sym, ap, _∙_}
 use mathlib.Core.Bool.{Bool, true, false, cond, _||_, true≢false}
 use mathlib.Core.List.{List, [], _∷_, _++_, map, append-assoc, append-nil}
-use lib.ListN.{length, take, drop, length-append, length-drop}
+use lib.ListN.{length, drop, length-append, length-drop}
 use lib.Dec.{ltb}
 use borrow.Author.Tests.{ltb-false}
 use Rattle.template.specs.Request.{lineOf, indexOf}
@@ -13,13 +13,12 @@ use Rattle.judge.specs.Verdict.{Verdict, Refused, Drawable, verdict}
 use Rattle.forward.specs.Answer.{short, atStart, lineAfter, indexAfter}
 use Rattle.form.specs.Parts.{partsAt}
 use Rattle.sheet.specs.declared.Plan.{Plan}
-use Rattle.sheet.specs.Sheet.{Row, Unreadable, Asks, noPlan, planOf, requestOf}
-use Rattle.batch.specs.declared.Stage.the-variants.{Header, Rows, Over}
-use Rattle.batch.specs.declared.Batch.{Batch}
+use Rattle.sheet.specs.Sheet.{Row, Unreadable, Asks, planOf, requestOf}
+use Rattle.batch.specs.declared.Stage.the-variants.{Rows, Over}
 use Rattle.batch.specs.Text.{titles}
 use Rattle.batch.specs.Counts.{counting, noTimes, timesFrom, timesOf, countLines}
 use Rattle.batch.specs.Reply.{Reply, refused, replyOf, replyText, lineIn, indexIn}
-use Rattle.batch.specs.Batch.{unlessBlank, rowsOf, repliesTo, repliesIn, textsOf, numbersOf, batchText, Held, batchAfter, heldAfter, heldLast, heldEnd, noBatch, before}
+use Rattle.batch.specs.Batch.{rowsOf, repliesTo, repliesIn, textsOf, numbersOf, batchText, Held, batchAfter, heldAfter, heldLast, heldEnd, noBatch, before}
 
 -- ---- the slices keep their lengths
 

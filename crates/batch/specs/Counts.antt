@@ -1,10 +1,9 @@
 -- How often each answer was met. 01, Batch program: "Last, per answer met, `#`, answer, times." The order is the program's choice: by rising
 -- answer. The answers are those of 01, from 0 to 42. Byte: `#` 35. Assumes nothing.
-use Prim.Native.Nat.{ℕ, suc, _+_, _<_}
-use mathlib.Core.Path.{_≡_}
+use Prim.Native.Nat.{ℕ, suc, _+_}
 use mathlib.Core.Bool.{cond}
 use mathlib.Core.List.{List, [], _∷_, _++_}
-use lib.ListN.{length, getD, set, replicate}
+use lib.ListN.{getD, set, replicate}
 use lib.Dec.{eqb}
 use Rattle.emit.specs.Text.{decimal, after}
 use Rattle.reading.specs.Ascii.{ascii}

@@ -12,8 +12,7 @@ use Rattle.template.specs.Request.{Placed, placed, bySn, indicesOf, lineOf}
 use Rattle.judge.specs.Verdict.{Verdict, Refused, Drawable, verdict}
 use Rattle.forward.specs.declared.Answer.{Answer}
 use Rattle.forward.specs.Answer.{short, lineAfter, indexAfter}
-use Rattle.sheet.specs.declared.Plan.{Plan}
-use Rattle.sheet.specs.Sheet.{Row, Unreadable, Asks, requestOf}
+use Rattle.sheet.specs.Sheet.{Row, Unreadable, Asks}
 use Rattle.batch.specs.declared.Answered.{Answered}
 use Rattle.batch.specs.Text.{Carbons, carbonsOf, rowText}
 

@@ -1,12 +1,11 @@
 -- Worked headers and rows, computed. Assumes nothing.
 use mathlib.Core.Path.{_≡_, refl}
-use mathlib.Core.Bool.{Bool, true, false}
+use mathlib.Core.Bool.{true, false}
 use mathlib.Core.List.{List, [], _∷_, _++_}
 use Prim.Native.Nat.{ℕ}
 use Rattle.scan.specs.Part.{sameBytes}
 use Rattle.form.specs.Parts.{partsAt}
 use Rattle.reading.specs.Ascii.{ascii}
-use Rattle.sheet.specs.declared.Plan.{Plan}
 use Rattle.sheet.specs.Sheet.{columnOf, noPlan, planFrom, planOf, cellAt, swapOf, lastNonblank, Unreadable, Asks, requestOf}
 
 -- the header `class`, `sn1` and the row `FA`, `6:1` of 01

@@ -1,7 +1,6 @@
 -- Laws of header and rows: for each loop a turn and each way out.
 -- Assumes nothing.
 use Prim.Native.Nat.{ℕ, zero, suc, _+_, _-_, _≤_, _<_}
-use native.Mathlib.Nat.{sub-zero}
 use native.Mathlib.Numerals.{add-one, unary-clauses}
 use native.Mathlib.Omega.{arith}
 use mathlib.Core.Path.{_≡_, refl, sym, ap, _∙_}
@@ -9,7 +8,7 @@ use mathlib.Core.Bool.{Bool, true, false, cond}
 use mathlib.Core.List.{List, [], _∷_}
 use lib.ListN.{length, getD, set, take, drop, replicate, List·getD-eq-default}
 use lib.Seq.{length-take-le}
-use lib.Dec.{eqb, ltb}
+use lib.Dec.{eqb}
 use borrow.Author.Tests.{eq-eqb, ne-eqb, lt-ltb, le-ltb}
 use Rattle.scan.specs.Part.{Place, indexOf, sameBytes}
 use Rattle.reading.specs.Ascii.{ascii}
@@ -18,7 +17,7 @@ use Rattle.sheet.specs.declared.Plan.{Plan}
 use Rattle.sheet.specs.declared.Asked.{Asked}
 use Rattle.sheet.specs.declared.Swap.{Swap}
 use Rattle.sheet.specs.declared.Swap.the-variants.{No, Yes, Other}
-use Rattle.sheet.specs.Sheet.{cellsOf, columnOf, noPlan, planFrom, planOf, cellAt, cellOf, swapOf, lastAfter, lastNonblank, snCells, tokensIn, Row, Unreadable, Asks, withSwap, requestOf, told}
+use Rattle.sheet.specs.Sheet.{cellsOf, columnOf, noPlan, planFrom, planOf, cellAt, cellOf, swapOf, lastAfter, lastNonblank, snCells, tokensIn, Unreadable, withSwap, requestOf, told}
 
 -- ---- the names of a header
 

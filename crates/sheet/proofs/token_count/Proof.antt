@@ -1,4 +1,3 @@
-use borrow.Author.Needs.{needs}
 use Rattle.sheet.proofs.Laws.{four-tokens, three-tokens, two-tokens, one-token, no-token}
 use Rattle.sheet.proofs.token_count.Statement.{statement}
 use Rattle.sheet.proofs.token_count.Tie as tie
