@@ -20,13 +20,13 @@ use Rattle.form.specs.Parts.{partsAt}
 use Rattle.form.proofs.Laws.{parts-last, parts-more}
 use Rattle.sheet.specs.declared.Plan.{Plan}
 use Rattle.sheet.specs.Sheet.{planOf, requestOf}
-use Rattle.batch.specs.declared.Counts.{Counts}
+use Rattle.tally.specs.declared.Counts.{Counts}
 use Rattle.batch.specs.declared.Answered.{Answered}
 use Rattle.batch.specs.declared.Stage.{Stage}
 use Rattle.batch.specs.declared.Stage.the-variants.{Header, Rows, Over}
 use Rattle.batch.specs.declared.Batch.{Batch}
 use Rattle.batch.specs.declared.Lined.{Lined}
-use Rattle.batch.specs.Counts.{counting, withAnswer, timesFrom, countLines}
+use Rattle.tally.specs.Counts.{counting, withAnswer, timesFrom, countLines}
 use Rattle.batch.specs.Reply.{refused, UnreadableWritten, RowAnswered}
 use Rattle.batch.specs.Batch.{textsOf, numbersOf, Held, batchAfter, heldAfter, heldFrom, isHeader, heldLast, before, staged, Holds, HeaderAnswered, LinesAnswered, Finished, kept, Moved}
 

@@ -27,9 +27,9 @@ use Rattle.sheet.specs.declared.Asked.{Asked}
 use Rattle.sheet.specs.Sheet.{cellOf, snCells, requestOf, told}
 use Rattle.sheet.proofs.Requested.{asked-nothing, asked-request, asked-count}
 use Rattle.batch.specs.declared.Answered.{Answered}
-use Rattle.batch.specs.Text.{ended, tabbed, chainsText, carbonsOf, headText, rowText}
+use Rattle.rows.specs.Text.{ended, tabbed, chainsText, carbonsOf, headText, rowText}
 use Rattle.batch.specs.Reply.{refused, carbonsIn, accepted, replyTo, replyText, answerText, UnreadableWritten, RowAnswered}
-use Rattle.batch.proofs.Laws.{part-taken}
+use Rattle.rows.proofs.Laws.{part-taken}
 
 -- ---- what is written of an answer
 

@@ -29,48 +29,15 @@ use Rattle.sheet.specs.declared.Plan.{Plan}
 use Rattle.sheet.specs.declared.Asked.{Asked}
 use Rattle.sheet.specs.Sheet.{cellOf, snCells, requestOf, told}
 use Rattle.sheet.proofs.Requested.{asked-nothing, asked-request, asked-count}
-use Rattle.batch.specs.Text.{ended, tabbed, Carbons, chainText, chainsText, rowText}
-use Rattle.batch.specs.Counts.{answers, countLine, countLinesFrom}
+use Rattle.rows.specs.Text.{ended, tabbed, Carbons, chainText, chainsText, rowText}
+use Rattle.tally.specs.Counts.{answers}
+use Rattle.rows.proofs.Room.{digits-few, total, joined-total, numbers-total, row-length}
 use Rattle.batch.specs.Reply.{refused, carbonsIn, accepted, replyTo, replyOf, replyText}
 use Rattle.batch.proofs.ReplyLaws.{length-sorted}
 use Rattle.batch.proofs.Whole.{either-left, either-right}
 use Rattle.batch.proofs.Tallied.{refusal-small}
 
--- ---- numbers and lists
-
--- the digits of a number below a power of ten
-pub digits-few : (k n : ℕ) → n < 10 ^ suc k → length (decimal n) ≤ suc k
-digits-few zero n h = let z : n < 10 = h in rw (decimal-small n z) (omega arith)
-digits-few (suc k) n h = go (decLe 10 n) (digits-few k (n / 10))
-  where
-    go : Dec (10 ≤ n) → (n / 10 < 10 ^ suc k → length (decimal (n / 10)) ≤ suc k) → length (decimal n) ≤ suc (suc k)
-    go (yes l) f =
-        let m : n < 10 ^ suc k * 10 = (rw pow-suc at h) in
-        let i = f (omega arith) in
-        rw (decimal-step n l, length-append (decimal (n / 10)) ((48 + n % 10) ∷ [])) (omega arith)
-    go (no l) f = rw (decimal-small n (omega arith)) (omega arith)
-
--- the bytes of parts, with one more for each
-total : List (List ℕ) → ℕ
-total [] = 0
-total (p ∷ ps) = suc (length p) + total ps
-
-led-total : (s : ℕ) (ps : List (List ℕ)) → length (led s ps) ≡ total ps
-unfolding led total
-led-total s [] = refl
-led-total s (p ∷ ps) = omega (arith, length-append p (led s ps), led-total s ps)
-
-joined-total : (s : ℕ) (ps : List (List ℕ)) → length (joined s ps) ≤ total ps
-unfolding joined total
-joined-total s [] = omega arith
-joined-total s (p ∷ ps) = omega (arith, length-append p (led s ps), led-total s ps)
-
 -- ---- the chains
-
-numbers-total : (js : List ℕ) → All (λ j. j < 4000) js → total (map decimal js) ≤ 5 * length js
-unfolding total
-numbers-total [] a = omega arith
-numbers-total (j ∷ js) a = omega (arith, digits-few 3 j (omega (arith, a .0)), numbers-total js (a .1))
 
 chain-length : (p : Placed) → (1 ≤ p .sn) × (p .sn ≤ 4) → All (λ j. j < 4000) (indicesOf p) → length (chainText (carbonsIn p)) ≤ 2 + 5 * length (indicesOf p)
 unfolding chainText carbonsIn
@@ -86,18 +53,6 @@ chains-total (p ∷ ps) n a =
     omega (arith, chain-length p (n .0) (a .0), chains-total ps (n .1) (a .1), length-append (indicesOf p) (allIndices ps))
 
 -- ---- a reply
-
-row-length : (a t : ℕ) (line : List ℕ) (cs : List Carbons) → length (rowText a t line cs) ≤ length (decimal a) + length (decimal t) + length line + length (chainsText cs) + 4
-unfolding rowText tabbed ended joined led
-row-length a t line cs =
-    omega (
-      arith,
-      length-append (decimal a ++ 9 ∷ (decimal t ++ 9 ∷ (line ++ 9 ∷ (chainsText cs ++ [])))) (10 ∷ []),
-      length-append (decimal a) (9 ∷ (decimal t ++ 9 ∷ (line ++ 9 ∷ (chainsText cs ++ [])))),
-      length-append (decimal t) (9 ∷ (line ++ 9 ∷ (chainsText cs ++ []))),
-      length-append line (9 ∷ (chainsText cs ++ [])),
-      length-append (chainsText cs) [],
-    )
 
 refused-room : (n q : ℕ) → n < answers → q ≤ 4 → length (replyText (refused n q)) ≤ 7
 unfolding replyText chainsText joined
@@ -143,28 +98,3 @@ reply-room p row line index = go (told (requestOf p row) .readable) refl
         (refused-number (cellOf p 0 row) (cellOf p 2 row) (a .count) (cellOf p 3 row) (cellOf p 4 row) (cellOf p 5 row) (cellOf p 6 row))
         (judged-accepted (cellOf p 0 row) (cellOf p 2 row) (a .count) (cellOf p 3 row) (cellOf p 4 row) (cellOf p 5 row) (cellOf p 6 row)))
     go false e = let h : not (a .readable) ≡ true = ap not e in rw (asked-nothing p row a refl h) (omega (arith, refused-room 42 0 (omega arith) (omega arith)))
-
--- ---- the counts
-
-line-room : (n t : ℕ) → n < answers → t < 2 ^ 64 → length (countLine n t) ≤ 26
-unfolding countLine tabbed ended joined led ascii
-line-room n t h k = go (eqb t 0)
-  where
-    go : (b : Bool) → length (cond b [] ((35 ∷ 9 ∷ (decimal n ++ 9 ∷ (decimal t ++ []))) ++ 10 ∷ [])) ≤ 26
-    go true = omega arith
-    go false =
-        omega (
-          arith,
-          length-append (35 ∷ 9 ∷ (decimal n ++ 9 ∷ (decimal t ++ []))) (10 ∷ []),
-          length-append (decimal n) (9 ∷ (decimal t ++ [])),
-          length-append (decimal t) [],
-          digits-few 1 n (omega arith),
-          digits-few 19 t (omega arith),
-        )
-
--- the lines of all answers, of which each was met so often
-pub counts-room : (n : ℕ) (ts : List ℕ) → n + length ts ≤ answers → All (λ t. t < 2 ^ 64) ts → length (countLinesFrom n ts) ≤ 26 * length ts
-unfolding countLinesFrom
-counts-room n [] h a = omega arith
-counts-room n (t ∷ ts) h a =
-    omega (arith, length-append (countLine n t) (countLinesFrom (suc n) ts), line-room n t (omega arith) (a .0), counts-room (suc n) ts (omega arith) (a .1))

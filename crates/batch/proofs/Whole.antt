@@ -15,10 +15,9 @@ use Rattle.form.specs.Parts.{partsAt}
 use Rattle.sheet.specs.declared.Plan.{Plan}
 use Rattle.sheet.specs.Sheet.{Row, Unreadable, Asks, planOf, requestOf}
 use Rattle.batch.specs.declared.Stage.the-variants.{Rows, Over}
-use Rattle.batch.specs.Text.{titles}
-use Rattle.batch.specs.Counts.{counting, noTimes, timesFrom, timesOf, countLines}
+use Rattle.tally.specs.Counts.{counting, noTimes, timesFrom, timesOf, countLines}
 use Rattle.batch.specs.Reply.{Reply, refused, replyOf, replyText, lineIn, indexIn}
-use Rattle.batch.specs.Batch.{rowsOf, repliesTo, repliesIn, textsOf, numbersOf, batchText, Held, batchAfter, heldAfter, heldLast, heldEnd, noBatch, before}
+use Rattle.batch.specs.Batch.{rowsOf, repliesTo, repliesIn, textsOf, numbersOf, titles, batchText, Held, batchAfter, heldAfter, heldLast, heldEnd, noBatch, before}
 
 -- ---- the slices keep their lengths
 

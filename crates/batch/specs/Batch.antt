@@ -6,6 +6,7 @@ use mathlib.Core.Bool.{Bool, true, false, cond}
 use mathlib.Core.List.{List, [], _∷_, _++_, map}
 use lib.ListN.{length, take, drop}
 use Rattle.emit.specs.Text.{Written}
+use Rattle.reading.specs.Ascii.{ascii}
 use Rattle.scan.specs.Part.{part}
 use Rattle.form.specs.Parts.{partsAt}
 use Rattle.forward.specs.Answer.{atStart}
@@ -16,8 +17,8 @@ use Rattle.batch.specs.declared.Stage.the-variants.{Header, Rows, Over}
 use Rattle.batch.specs.declared.Batch.{Batch}
 use Rattle.batch.specs.declared.Lined.{Lined}
 use Rattle.batch.specs.declared.Lines.{Lines}
-use Rattle.batch.specs.Text.{titles}
-use Rattle.batch.specs.Counts.{counting, noTimes, timesFrom, timesOf, countLines}
+use Rattle.rows.specs.Text.{tabbed}
+use Rattle.tally.specs.Counts.{counting, noTimes, timesFrom, timesOf, countLines}
 use Rattle.batch.specs.Reply.{Reply, refused, replyOf, replyText, lineIn, indexIn}
 
 -- ---- the whole batch
@@ -48,6 +49,10 @@ textsOf (r ∷ rs) = replyText r ++ textsOf rs
 
 unfoldable pub numbersOf : List Reply → List ℕ
 numbersOf rs = map (λ r. r .number) rs
+
+-- "the header line shown below"
+unfoldable pub titles : List ℕ
+titles = tabbed (ascii "answer" ∷ ascii "at" ∷ ascii "line" ∷ ascii "carbons" ∷ [])
 
 -- what is printed
 unfoldable pub batchText : List ℕ → ℕ → ℕ → List ℕ

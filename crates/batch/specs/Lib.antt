@@ -1,4 +1,2 @@
-pub mod Text
-pub mod Counts
 pub mod Reply
 pub mod Batch

@@ -14,7 +14,7 @@ use Rattle.forward.specs.declared.Answer.{Answer}
 use Rattle.forward.specs.Answer.{short, lineAfter, indexAfter}
 use Rattle.sheet.specs.Sheet.{Row, Unreadable, Asks}
 use Rattle.batch.specs.declared.Answered.{Answered}
-use Rattle.batch.specs.Text.{Carbons, carbonsOf, rowText}
+use Rattle.rows.specs.Text.{Carbons, carbonsOf, rowText}
 
 pub record Reply : Type 0 where
   pub number : ℕ

@@ -17,7 +17,8 @@ const LINE: usize = 65536;
 const INDICES: usize = 4096;
 
 // Room for the output, and how full it may be before one more row. A row has the bytes of the line slice, five to a number of the index
-// slice and 20 more at most, and the counts have 26 to each of 43 answers (crates/batch/proofs/Room.antt): together less than 98,304.
+// slice and 20 more at most, and the counts have 26 to each of 43 answers (proofs/Room.antt of `batch` and of `tally`): together less than
+// 98,304.
 const OUT: usize = 262144;
 
 const LIMIT: usize = 163840;
