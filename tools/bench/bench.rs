@@ -9,14 +9,18 @@ mod bench {
     /// Rounds of either, in turn; the table has the median of each.
     const ROUNDS: usize = 9;
     const ROUND: Duration = Duration::from_millis(60);
+    const SHORT_ROUNDS: usize = 200;
 
-    fn workloads() -> Vec<Case> {
-        let of = |class: &str, swap, tail: &str, tokens: &[&str]| Case {
+    fn of(class: &str, swap: bool, tail: &str, tokens: &[&str]) -> Case {
+        Case {
             class: class.as_bytes().to_vec(),
             swap,
             tail: tail.as_bytes().to_vec(),
             tokens: tokens.iter().map(|t| t.as_bytes().to_vec()).collect(),
-        };
+        }
+    }
+
+    fn workloads() -> Vec<Case> {
         vec![
             of("FA", false, "", &["18:1(9Z)"]),
             of("FA", false, "", &["20:4"]),
@@ -26,6 +30,17 @@ mod bench {
             of("SA", false, "O", &["d18:1(4E)", "24:0;2OH"]),
             of("FA", false, "", &["20:2(5Z,13E);[8-12cy5];9oxo,11OH,15OH"]),
             of("GL3", true, "", &["255:40;(OH)8"; 3]),
+        ]
+    }
+
+    /// Requests with little to do, by their answers: refused at the class, at the number of tokens
+    /// and at the first byte of a token; and the shortest chain.
+    fn least() -> Vec<(u32, Case)> {
+        vec![
+            (20, of("XX", false, "", &[])),
+            (21, of("FA", false, "", &[])),
+            (11, of("FA", false, "", &["x"])),
+            (0, of("FA", false, "", &["1:0"])),
         ]
     }
 
@@ -65,6 +80,35 @@ mod bench {
     fn median(mut of: Vec<f64>) -> f64 {
         of.sort_by(f64::total_cmp);
         of[of.len() / 2]
+    }
+
+    /// The fastest of many short rounds, of which some are not interrupted.
+    fn fastest(mut work: impl FnMut()) -> f64 {
+        let runs = runs_of_a_round(&mut work) / 30 + 1;
+        (0..SHORT_ROUNDS).map(|_| timed(runs, &mut work)).fold(f64::INFINITY, f64::min)
+    }
+
+    pub fn run_least() {
+        println!("what a request takes at least: ns, the fastest of {SHORT_ROUNDS} rounds of about 2 ms");
+        println!("{:<58}{:>8}{:>11}{:>11}", "request", "answer", "original", "call");
+        let mut line = vec![0; 65_536];
+        let mut index = vec![0; 4_096];
+        let mut report: Report = [0; 21];
+        for (number, case) in least() {
+            let request = case.as_text().expect("the requests are ASCII");
+            let answered = call::draw(&case, &mut line, &mut index, &mut report);
+            if answered != number || build_request(&request).is_some() != (number == 0) {
+                println!("bench: the answer to {} is {answered}", show(&case));
+                std::process::exit(1);
+            }
+            let original = fastest(|| {
+                black_box(build_request(black_box(&request)));
+            });
+            let ours = fastest(|| {
+                black_box(call::draw(black_box(&case), &mut line, &mut index, &mut report));
+            });
+            println!("{:<58}{number:>8}{original:>11.0}{ours:>11.0}", show(&case));
+        }
     }
 
     pub fn run() {
@@ -124,4 +168,6 @@ mod bench {
 
 fn main() {
     bench::run();
+    println!();
+    bench::run_least();
 }
