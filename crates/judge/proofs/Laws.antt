@@ -24,7 +24,7 @@ use Rattle.drawable.specs.Drawn.{Draws, chainOf, Says}
 use Rattle.judge.specs.declared.Fault.{Fault}
 use Rattle.judge.specs.declared.Chains.{Chains}
 use Rattle.judge.specs.Verdict.{firstOf, noFault, kindRefusal}
-use Rattle.judge.specs.Judged.{chainsOf, DrawsAt, DrawsAll, none, more, drawnIn, Longer, Drawing, FaultIs}
+use Rattle.judge.specs.Judged.{chainsOf, DrawsAt, DrawsAll, none, more, drawnIn, One, Longer, Drawing, FaultIs}
 
 -- ---- the first fault, chain by chain
 
@@ -119,6 +119,10 @@ pub one-longer : (x : Chains) (d : Drawn) → length (x .items) ≡ 4 → x .cou
 unfolding drawnIn
 one-longer x d m l = record { count = refl; items = rw (add-one (x .count)) (take-suc-set (x .items) (x .count) d (omega arith)) }
 
+pub one-is : (d : Drawn) → One d (record { count = 1; items = d ∷ d ∷ d ∷ d ∷ [] })
+unfolding drawnIn
+one-is d = record { count = refl; items = refl }
+
 -- a turn of the loop that draws them: the first i chains are drawn
 module _ (q : Request) (c : Class) where
   pub draw-start : (x : Chains) → x .count ≡ 0 → Drawing c (take 0 (chainsOf q)) x
@@ -146,6 +150,15 @@ module _ (q : Request) (c : Class) where
 
     pub draw-all : (i : ℕ) (xs : Chains) → q .count ≤ i → Drawing c (take i (chainsOf q)) xs → Drawing c (chainsOf q) xs
     draw-all i xs l h = rw (take-all i (chainsOf q) (omega (arith, chains-length q long few))) at h
+
+    pub draw-none : (xs : Chains) → q .count ≡ 0 → xs .count ≡ 0 → Drawing c (chainsOf q) xs
+    draw-none xs h e = draw-all 0 xs (omega arith) (draw-start xs e)
+
+    pub draw-first : (x : Drawn) (ys : Chains) → (q .count ≡ 0 → ⊥) → DrawsAt c q 0 x → One x ys → Drawing c (take 1 (chainsOf q)) ys
+    unfolding drawnIn
+    draw-first x ys h g o =
+        let nothing : Chains = record { count = 0; items = [] } in
+        draw-more 0 x nothing ys (omega (arith, h)) (draw-start nothing refl) g (record { count = o .count; items = o .items })
 
 -- ---- the first fault of chains that are drawn
 

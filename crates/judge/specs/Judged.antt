@@ -32,6 +32,11 @@ pub data DrawsAll : Class → ℕ → List Drawn → List Chain → Type 0 where
 unfoldable pub drawnIn : Chains → List Drawn
 drawnIn x = take (x .count) (x .items)
 
+-- y has one chain
+pub record One (d : Drawn) (y : Chains) : Type 0 where
+  pub count : y .count ≡ 1
+  pub items : drawnIn y ≡ d ∷ []
+
 -- y is x with one chain more
 pub record Longer (x : Chains) (d : Drawn) (y : Chains) : Type 0 where
   pub count : y .count ≡ x .count + 1

@@ -12,7 +12,7 @@ ghost use mathlib.Core.Path.{_≡_};
 ghost use Prim.Native.Nat.{_<_, _≤_};
 ghost use Rattle.chain.specs.Refusals.{placeRefusal, drawRefusal};
 ghost use Rattle.judge.specs.Verdict.{tokens, firstOf, kindRefusal, wrongTail, judgeChains, wrongCount, judgeTokens, verdict};
-ghost use Rattle.judge.specs.Judged.{chainsOf, DrawsAt, Longer, Drawing, FaultIs, JudgedIs, DrawnIs};
+ghost use Rattle.judge.specs.Judged.{chainsOf, DrawsAt, One, Longer, Drawing, FaultIs, JudgedIs, DrawnIs};
 
 // A class code that is none of the eight.
 pub const UNKNOWN_CLASS: u16 = 20;
@@ -51,6 +51,14 @@ impl Chains {
         let drawn = drawable::drawn_as(Role::Slot, chain);
         let items = [drawn; MAX_TOKENS];
         Chains { count: 0, items }
+    }
+
+    // One chain. It stands in the other places too, where nothing is counted: a copy costs less than an empty chain.
+    fn one(drawn: Drawn) -> Chains
+        ensures { λ r. ⌜ One drawn r ⌝ }
+    {
+        let items = [drawn; MAX_TOKENS];
+        Chains { count: 1, items }
     }
 
     // One chain more.
@@ -106,8 +114,11 @@ fn draw_all(class: Class, request: Request) -> Chains
     ensures { λ r. ⌜ Drawing class (chainsOf request) r ⌝ }
 {
     let n = request.count;
-    let mut chains = Chains::new();
-    let mut i = 0;
+    if n == 0 {
+        return Chains::new();
+    }
+    let mut chains = Chains::one(draw_one(class, request, 0));
+    let mut i = 1;
     while i < n {
         chains = chains.push(draw_one(class, request, i));
         i += 1;
