@@ -1,14 +1,14 @@
 -- Laws of a chain as it is drawn: what each step of `drawn_as` makes of the lists.
 -- Assumes nothing.
-use Prim.Native.Nat.{ℕ, _+_, _<_, _≤_, min}
+use Prim.Native.Nat.{ℕ, suc, _+_, _<_, _≤_, min}
 use native.Mathlib.Numerals.{add-one}
 use native.Mathlib.Omega.{arith}
 use mathlib.Core.Path.{_≡_, refl, sym, ap, _∙_}
 use mathlib.Core.Bool.{Bool, true, false, cond, not}
 use mathlib.Core.List.{List, [], _∷_, _++_, append-assoc, append-nil}
 use lib.Dec.{eqb}
-use lib.ListN.{length, take, drop, getD, length-append, length-take}
-use lib.Seq.{take-suc, take-all}
+use lib.ListN.{length, take, drop, set, getD, length-append, length-take}
+use lib.Seq.{take-suc, take-suc-set, take-all, getD-take}
 use borrow.Author.Tests.{eq-eqb, ne-eqb}
 use Rattle.record.specs.declared.ChainPrefix.{ChainPrefix}
 use Rattle.record.specs.declared.ChainPrefix.the-variants as prefix
@@ -22,9 +22,11 @@ use Rattle.chain.specs.declared.Role.the-variants.{Slot, Acyl, Base}
 use Rattle.chain.specs.Lists.{anyOf}
 use Rattle.chain.specs.Features.{alkenylBond, doubles, located, unlocated, oxygenAt, triolOxygen, baseOxygens, groupsOn, floating}
 use Rattle.groups.specs.Groups.{hydroxy}
-use Rattle.drawable.specs.Drawn.{groupsIn, ringsIn, noBond, noGroup, Length, groupAt, chainOf}
+use Rattle.drawable.specs.declared.Groups.{Groups}
+use Rattle.drawable.specs.Drawn.{bondsIn, groupsIn, ringsIn, noBond, noGroup, Length, groupAt, chainOf}
 use Rattle.drawable.proofs.Through.{only-skip, only-push, only-all}
-use Rattle.drawable.proofs.Lists.{length-only, take-front}
+use Rattle.drawable.proofs.Held.{held-more}
+use Rattle.drawable.proofs.Lists.{length-only, take-front, take-of-length}
 
 -- ---- a chain that a record holds, within its limits, is the one that its arrays say
 
@@ -36,8 +38,32 @@ unfolding chainOf
 held-chain {c} {d} k w =
     simp (k .prefix, k .written, k .carbon, k .branched, k .unlocated, k .oxygens, kept maxBonds (c .bonds) (c .«bond_count») (d .bonds) (k .bonds) (w .bonds), kept maxGroups (c .groups) (c .«group_count») (d .groups) (k .groups) (w .groups), kept maxRings (c .rings) (c .«ring_count») (d .rings) (k .rings) (w .rings))
 
--- ---- an acyl place is as a slot
+-- ---- how many double bonds a prefix adds
 
+pub adds-as : (p q : ChainPrefix) (n : ℕ) → n ≡ length (alkenylBond Slot q) → p ≡ q → n ≡ length (alkenylBond Slot p)
+adds-as p q n e h = rw h e
+
+pub adds-acyl : 0 ≡ length (alkenylBond Slot prefix.Acyl)
+unfolding alkenylBond
+adds-acyl = refl
+
+pub adds-alkyl : 0 ≡ length (alkenylBond Slot prefix.EtherAlkyl)
+unfolding alkenylBond
+adds-alkyl = refl
+
+pub adds-alkenyl : 1 ≡ length (alkenylBond Slot prefix.EtherAlkenyl)
+unfolding alkenylBond
+adds-alkenyl = refl
+
+pub adds-diol : 0 ≡ length (alkenylBond Slot prefix.SphingoidD)
+unfolding alkenylBond
+adds-diol = refl
+
+pub adds-triol : 0 ≡ length (alkenylBond Slot prefix.SphingoidT)
+unfolding alkenylBond
+adds-triol = refl
+
+-- an acyl place is as a slot
 alkenyl-as-slot : (p : ChainPrefix) → alkenylBond Slot p ≡ alkenylBond Acyl p
 unfolding alkenylBond
 alkenyl-as-slot prefix.Acyl = refl
@@ -46,43 +72,31 @@ alkenyl-as-slot prefix.EtherAlkenyl = refl
 alkenyl-as-slot prefix.SphingoidD = refl
 alkenyl-as-slot prefix.SphingoidT = refl
 
-pub alkenyl-slot : (r : Role) (p : ChainPrefix) (l : List DbPos) → r ≡ Acyl → l ≡ alkenylBond Slot p → l ≡ alkenylBond r p
-alkenyl-slot r p l h e = rw h (e ∙ alkenyl-as-slot p)
+pub adds-in-slot : (r : Role) (p : ChainPrefix) (n : ℕ) → r ≡ Slot → n ≡ length (alkenylBond Slot p) → n ≡ length (alkenylBond r p)
+adds-in-slot r p n h e = rw h e
 
--- ---- the double bond of a prefix
+pub adds-in-acyl : (r : Role) (p : ChainPrefix) (n : ℕ) → r ≡ Acyl → n ≡ length (alkenylBond Slot p) → n ≡ length (alkenylBond r p)
+adds-in-acyl r p n h e = e ∙ rw h (ap length (alkenyl-as-slot p))
 
-pub alkenyl-base : (r : Role) (p : ChainPrefix) (l : List DbPos) → r ≡ Base → l ≡ [] → l ≡ alkenylBond r p
+pub adds-in-base : (r : Role) (p : ChainPrefix) → r ≡ Base → 0 ≡ length (alkenylBond r p)
 unfolding alkenylBond
-alkenyl-base r p l h e = rw h e
+adds-in-base r p h = rw h
 
-pub alkenyl-same : (r q : Role) (p : ChainPrefix) (l : List DbPos) → r ≡ q → l ≡ alkenylBond q p → l ≡ alkenylBond r p
-alkenyl-same r q p l h e = rw h e
+-- ---- the double bonds: an array filled with that of `P-`, of which those that are added count
 
--- a prefix other than `P-` adds none
-pub alkenyl-none : (p q : ChainPrefix) (l : List DbPos) → alkenylBond Slot q ≡ [] → p ≡ q → l ≡ [] → l ≡ alkenylBond Slot p
-alkenyl-none p q l z h e = rw h (e ∙ sym z)
-
-pub none-acyl : alkenylBond Slot prefix.Acyl ≡ []
+alkenyl-front : (r : Role) (p : ChainPrefix) (t : List DbPos) → take (length (alkenylBond r p)) (record { pos = 1; geom = Unstated } ∷ t) ≡ alkenylBond r p
 unfolding alkenylBond
-none-acyl = refl
-
-pub none-alkyl : alkenylBond Slot prefix.EtherAlkyl ≡ []
-unfolding alkenylBond
-none-alkyl = refl
-
-pub none-diol : alkenylBond Slot prefix.SphingoidD ≡ []
-unfolding alkenylBond
-none-diol = refl
-
-pub none-triol : alkenylBond Slot prefix.SphingoidT ≡ []
-unfolding alkenylBond
-none-triol = refl
-
-pub alkenyl-one : (p : ChainPrefix) (l m : List DbPos) → p ≡ prefix.EtherAlkenyl → l ≡ [] → m ≡ take 33 (l ++ (record { pos = 1; geom = Unstated } ∷ [])) → m ≡ alkenylBond Slot p
-unfolding alkenylBond
-alkenyl-one p l m h e f = rw h (rw e at f)
-
--- ---- the double bonds
+alkenyl-front Base p t = refl
+alkenyl-front Slot prefix.Acyl t = refl
+alkenyl-front Slot prefix.EtherAlkyl t = refl
+alkenyl-front Slot prefix.EtherAlkenyl t = refl
+alkenyl-front Slot prefix.SphingoidD t = refl
+alkenyl-front Slot prefix.SphingoidT t = refl
+alkenyl-front Acyl prefix.Acyl t = refl
+alkenyl-front Acyl prefix.EtherAlkyl t = refl
+alkenyl-front Acyl prefix.EtherAlkenyl t = refl
+alkenyl-front Acyl prefix.SphingoidD t = refl
+alkenyl-front Acyl prefix.SphingoidT t = refl
 
 alkenyl-short : (r : Role) (p : ChainPrefix) → length (alkenylBond r p) ≤ 1
 unfolding alkenylBond
@@ -98,23 +112,26 @@ alkenyl-short Acyl prefix.EtherAlkenyl = omega arith
 alkenyl-short Acyl prefix.SphingoidD = omega arith
 alkenyl-short Acyl prefix.SphingoidT = omega arith
 
-pub alkenyl-fits : (r : Role) (p : ChainPrefix) (l : List DbPos) → l ≡ alkenylBond r p → length l ≤ 1
-alkenyl-fits r p l e = rw e (alkenyl-short r p)
+pub adds-few : (r : Role) (p : ChainPrefix) (k : ℕ) → k ≡ length (alkenylBond r p) → k ≤ 1
+adds-few r p k e = rw e (alkenyl-short r p)
 
-pub bonds-none : (a xs : List DbPos) → a ≡ a ++ take 0 xs
-bonds-none a xs = sym (append-nil a)
+pub bonds-none : (k : ℕ) (ys xs : List DbPos) → take (k + 0) ys ≡ take k ys ++ take 0 xs
+bonds-none k ys xs = let e : k + 0 ≡ k = omega arith in rw e (sym (append-nil (take k ys)))
 
 -- one bond more of those in the record's array, behind a
-module _ (a : List DbPos) (xs : List DbPos) (i n k : ℕ) (l m : List DbPos) (s : length xs ≡ 32) (j : length a ≤ 1) (e : n ≡ min k 32) where
-  pub bonds-next : l ≡ a ++ take i xs → i < n → m ≡ take 33 (l ++ (getD xs i noBond ∷ [])) → m ≡ a ++ take (i + 1) xs
-  bonds-next v h f =
-      f
-      ∙ rw (v, append-assoc, ← take-suc xs i noBond (omega arith), ← add-one i) (take-all 33 (a ++ take (i + 1) xs) (omega (arith, length-append a (take (i + 1) xs), length-take (i + 1) xs)))
+pub bonds-next : (a xs ys : List DbPos) (k i n : ℕ) → length xs ≡ 32 → length ys ≡ 33 → k ≤ 1 → n ≤ 32 → take (k + i) ys ≡ a ++ take i xs → i < n
+    → take (k + (i + 1)) (set ys (k + i) (getD xs i noBond)) ≡ a ++ take (i + 1) xs
+bonds-next a xs ys k i n s t j m v h =
+    let e : k + (i + 1) ≡ suc (k + i) = omega arith in
+    rw (e, take-suc-set ys (k + i) (getD xs i noBond) (omega arith), v, append-assoc, ← take-suc xs i noBond (omega arith), add-one i)
 
-pub bonds-all : (r : Role) (c : ParsedChain) (a : List DbPos) (i n : ℕ) (l : List DbPos) → a ≡ alkenylBond r (c .prefix) → n ≡ min (c .«bond_count») 32 → l ≡ a ++ take i (c .bonds) → i ≤ n
-    → n ≤ i → l ≡ doubles r (chainOf c)
-unfolding doubles chainOf
-bonds-all r c a i n l e f v h g = let k : i ≡ min (c .«bond_count») 32 = omega arith in v ∙ rw (e, k)
+pub bonds-all : (r : Role) (c : ParsedChain) (t ys : List DbPos) (k i n : ℕ) → k ≡ length (alkenylBond r (c .prefix)) → n ≡ min (c .«bond_count») 32
+    → take (k + i) ys ≡ take k (record { pos = 1; geom = Unstated } ∷ t) ++ take i (c .bonds) → i ≤ n → n ≤ i → bondsIn (record { count = k + n; items = ys }) ≡ doubles r (chainOf c)
+unfolding doubles chainOf bondsIn
+bonds-all r c t ys k i n e f v h g =
+    let m : n ≡ i = omega arith in
+    let l : i ≡ min (c .«bond_count») 32 = omega arith in
+    rw m (v ∙ rw (e, alkenyl-front r (c .prefix) t, l))
 
 -- ---- groups and rings as the record has them
 
@@ -155,19 +172,48 @@ module _ (l : List Mod) (n i : ℕ) (a : Mod) (k : List Mod) (w : Length 18 l n)
   unfolding unlocated
   floating-all v h = only-all (λ g. eqb (g .pos) 0) 18 l n i k w v h
 
--- none found yet
-pub located-none : (l k : List Mod) → k ≡ [] → k ++ located (drop 0 l) ≡ located l
-located-none l k e = rw e
+-- the same of a loop over an array of which n count, that writes those it keeps over the front of another
+module _ (xs : List Mod) (n i : ℕ) (s : length xs ≡ 18) (f : n ≤ 18) where
+  whole : Length 18 (take n xs) n
+  whole = record { is = omega (arith, length-take n xs); fits = f }
 
-pub floating-none : (l k : List Mod) → k ≡ [] → k ++ unlocated (drop 0 l) ≡ unlocated l
-floating-none l k e = rw e
+  here : i < n → getD xs i noGroup ≡ getD (take n xs) i noGroup
+  here h = sym (getD-take n xs i noGroup h)
 
-pub none-long : (k : List Mod) → k ≡ [] → length k ≤ 0
-none-long k e = rw e (omega arith)
+  pub located-pass : (k : List Mod) → k ++ located (drop i (take n xs)) ≡ located (take n xs) → i < n → getD xs i noGroup .pos ≡ 0
+      → k ++ located (drop (i + 1) (take n xs)) ≡ located (take n xs)
+  located-pass k v h g = located-skip (take n xs) n i (getD xs i noGroup) k whole v h (here h) g
 
--- one more
-pub push-long : (k m : List Mod) (a : Mod) (i : ℕ) → m ≡ take 18 (k ++ (a ∷ [])) → length k ≤ i → length m ≤ i + 1
-push-long k m a i e h = rw e (omega (arith, length-take 18 (k ++ (a ∷ [])), length-append k (a ∷ [])))
+  pub floating-pass : (k : List Mod) → k ++ unlocated (drop i (take n xs)) ≡ unlocated (take n xs) → i < n → (getD xs i noGroup .pos ≡ 0 → ⊥)
+      → k ++ unlocated (drop (i + 1) (take n xs)) ≡ unlocated (take n xs)
+  floating-pass k v h g = floating-skip (take n xs) n i (getD xs i noGroup) k whole v h (here h) g
+
+  module _ (ys : List Mod) (j : ℕ) (t : length ys ≡ 18) (b : j ≤ i) where
+    put : i < n → take (j + 1) (set ys j (getD xs i noGroup)) ≡ take 18 (take j ys ++ (getD xs i noGroup ∷ []))
+    put h = held-more ys j 18 t (getD xs i noGroup) (omega arith)
+
+    pub located-put : take j ys ++ located (drop i (take n xs)) ≡ located (take n xs) → i < n → (getD xs i noGroup .pos ≡ 0 → ⊥)
+        → take (j + 1) (set ys j (getD xs i noGroup)) ++ located (drop (i + 1) (take n xs)) ≡ located (take n xs)
+    located-put v h g =
+        located-push (take n xs) n i (getD xs i noGroup) (take j ys) whole (take (j + 1) (set ys j (getD xs i noGroup))) v h (here h) g (omega (arith, length-take j ys)) (put h)
+
+    pub floating-put : take j ys ++ unlocated (drop i (take n xs)) ≡ unlocated (take n xs) → i < n → getD xs i noGroup .pos ≡ 0
+        → take (j + 1) (set ys j (getD xs i noGroup)) ++ unlocated (drop (i + 1) (take n xs)) ≡ unlocated (take n xs)
+    floating-put v h g =
+        floating-push (take n xs) n i (getD xs i noGroup) (take j ys) whole (take (j + 1) (set ys j (getD xs i noGroup))) v h (here h) g (omega (arith, length-take j ys)) (put h)
+
+-- all of them
+front : (xs : List Mod) (m n : ℕ) → n ≡ length (take m xs) → take n xs ≡ take m xs
+front xs m n e = rw e (take-of-length xs m)
+
+module _ (g : Groups) (n i j : ℕ) (ys : List Mod) (w : Length 18 (groupsIn g) n) where
+  pub located-end : take j ys ++ located (drop i (take n (g .items))) ≡ located (take n (g .items)) → n ≤ i → groupsIn (record { count = j; items = ys }) ≡ located (groupsIn g)
+  unfolding groupsIn
+  located-end v h = located-all (groupsIn g) n i noGroup (take j ys) w (rw (front (g .items) (g .count) n (w .is)) at v) h
+
+  pub floating-end : take j ys ++ unlocated (drop i (take n (g .items))) ≡ unlocated (take n (g .items)) → n ≤ i → groupsIn (record { count = j; items = ys }) ≡ unlocated (groupsIn g)
+  unfolding groupsIn
+  floating-end v h = floating-all (groupsIn g) n i noGroup (take j ys) w (rw (front (g .items) (g .count) n (w .is)) at v) h
 
 -- ---- the groups on the chain
 

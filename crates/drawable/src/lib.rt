@@ -16,7 +16,7 @@ use record::Ring;
 ghost use mathlib.Core.Path.{_≡_};
 ghost use mathlib.Core.List.{[], _∷_, _++_};
 ghost use Prim.Native.Nat.{min};
-ghost use lib.ListN.{take, getD};
+ghost use lib.ListN.{length, take, getD};
 ghost use Rattle.chain.specs.declared.Role.the-variants.{Slot, Base};
 ghost use Rattle.chain.specs.Lists.{anyOf};
 ghost use Rattle.chain.specs.Features.{alkenylBond, doubles, located, unlocated, oxygenAt, baseOxygens};
@@ -71,17 +71,6 @@ fn at_most(n: usize, most: usize) -> usize
 }
 
 impl Bonds {
-    fn new() -> Bonds
-        ensures { λ r. ⌜ bondsIn r ≡ [] ⌝ }
-    {
-        let bond = DbPos {
-            pos: 0,
-            geom: Geometry::Unstated,
-        };
-        let items = [bond; BOND_ROOM];
-        Bonds { count: 0, items }
-    }
-
     pub fn len(self) -> usize
         ensures { λ r. ⌜ Length bondRoom (bondsIn self) r ⌝ }
     {
@@ -101,30 +90,9 @@ impl Bonds {
             geom: Geometry::Unstated,
         }
     }
-
-    // One more, where there is room.
-    fn push(mut self, bond: DbPos) -> Bonds
-        ensures { λ r. ⌜ bondsIn r ≡ take bondRoom (bondsIn self ++ (bond ∷ [])) ⌝ }
-    {
-        let at = self.count;
-        if at < BOND_ROOM {
-            self.items[at] = bond;
-            self.count = at + 1;
-            return self;
-        }
-        self
-    }
 }
 
 impl Groups {
-    fn new() -> Groups
-        ensures { λ r. ⌜ groupsIn r ≡ [] ⌝ }
-    {
-        let group = Mod { pos: 0, row: 0 };
-        let items = [group; GROUP_ROOM];
-        Groups { count: 0, items }
-    }
-
     pub fn len(self) -> usize
         ensures { λ r. ⌜ Length groupRoom (groupsIn self) r ⌝ }
     {
@@ -179,47 +147,53 @@ impl Rings {
     }
 }
 
-// The double bond of `P-`, as the first of a list.
-fn ether_bond(prefix: ChainPrefix) -> Bonds
-    ensures { λ r. ⌜ bondsIn r ≡ alkenylBond Slot prefix ⌝ }
+// How many double bonds a prefix adds where no base stands: `P-` adds one.
+fn ether_bonds(prefix: ChainPrefix) -> usize
+    ensures { λ r. ⌜ r ≡ length (alkenylBond Slot prefix) ⌝ }
 {
     match prefix {
-        ChainPrefix::Acyl => Bonds::new(),
-        ChainPrefix::EtherAlkyl => Bonds::new(),
-        ChainPrefix::EtherAlkenyl => Bonds::new().push(DbPos {
-            pos: 1,
-            geom: Geometry::Unstated,
-        }),
-        ChainPrefix::SphingoidD => Bonds::new(),
-        ChainPrefix::SphingoidT => Bonds::new(),
+        ChainPrefix::Acyl => 0,
+        ChainPrefix::EtherAlkyl => 0,
+        ChainPrefix::EtherAlkenyl => 1,
+        ChainPrefix::SphingoidD => 0,
+        ChainPrefix::SphingoidT => 0,
     }
 }
 
-// The double bond that a prefix adds, in a place that is no base's.
-fn alkenyl_bond(role: Role, prefix: ChainPrefix) -> Bonds
-    ensures { λ r. ⌜ bondsIn r ≡ alkenylBond role prefix ⌝ }
+// How many double bonds a prefix adds in a place.
+fn added_bonds(role: Role, prefix: ChainPrefix) -> usize
+    ensures { λ r. ⌜ r ≡ length (alkenylBond role prefix) ⌝ }
 {
     match role {
-        Role::Slot => ether_bond(prefix),
-        Role::Acyl => ether_bond(prefix),
-        Role::Base => Bonds::new(),
+        Role::Slot => ether_bonds(prefix),
+        Role::Acyl => ether_bonds(prefix),
+        Role::Base => 0,
     }
 }
 
-// The located double bonds: that of `P-`, then those of the token.
+// The located double bonds: that of `P-`, then those of the token. The array is filled with the bond of `P-`, so that it stands first where
+// it counts; those of the token are written behind it.
 fn double_bonds(role: Role, chain: ParsedChain) -> Bonds
     ensures { λ r. ⌜ bondsIn r ≡ doubles role (chainOf chain) ⌝ }
 {
     let prefix = chain.prefix;
+    let written = chain.bonds;
     let n = at_most(chain.bond_count, MAX_BONDS);
-    let mut bonds = alkenyl_bond(role, prefix);
+    let added = added_bonds(role, prefix);
+    let alkenyl = DbPos {
+        pos: 1,
+        geom: Geometry::Unstated,
+    };
+    let mut items = [alkenyl; BOND_ROOM];
     let mut i = 0;
     while i < n {
-        let bond = chain.bonds[i];
-        bonds = bonds.push(bond);
+        items[added + i] = written[i];
         i += 1;
     }
-    bonds
+    Bonds {
+        count: added + n,
+        items,
+    }
 }
 
 // The groups of a token.
@@ -240,22 +214,25 @@ fn written_rings(chain: ParsedChain) -> Rings
     Rings { count, items }
 }
 
-// The groups with a position, in order.
+// The groups with a position, in order. Those that are kept are written over the front of a copy: past them nothing is counted.
 fn located_groups(groups: Groups) -> Groups
     ensures { λ r. ⌜ groupsIn r ≡ located (groupsIn groups) ⌝ }
 {
     let n = groups.len();
-    let mut kept = Groups::new();
+    let written = groups.items;
+    let mut items = written;
+    let mut count = 0;
     let mut i = 0;
     while i < n {
-        let group = groups.at(i);
+        let group = written[i];
         i += 1;
         if group.pos == 0 {
             continue;
         }
-        kept = kept.push(group);
+        items[count] = group;
+        count += 1;
     }
-    kept
+    Groups { count, items }
 }
 
 // The groups without a position, in order.
@@ -263,17 +240,20 @@ fn floating_groups(groups: Groups) -> Groups
     ensures { λ r. ⌜ groupsIn r ≡ unlocated (groupsIn groups) ⌝ }
 {
     let n = groups.len();
-    let mut kept = Groups::new();
+    let written = groups.items;
+    let mut items = written;
+    let mut count = 0;
     let mut i = 0;
     while i < n {
-        let group = groups.at(i);
+        let group = written[i];
         i += 1;
         if group.pos != 0 {
             continue;
         }
-        kept = kept.push(group);
+        items[count] = group;
+        count += 1;
     }
-    kept
+    Groups { count, items }
 }
 
 // Whether a group sits on the carbon p.

@@ -1,32 +1,32 @@
 use borrow.Author.Needs.{needs}
-use Prim.Native.Nat.{_≤_, _-_}
+use Prim.Native.Nat.{_+_, _≤_, _-_}
 use native.Mathlib.Omega.{arith}
 use mathlib.Core.Path.{_≡_}
 use mathlib.Core.List.{_++_}
-use lib.ListN.{length, drop}
+use Rattle.record.proofs.Laws.{length-mapped}
+use lib.ListN.{length, take, drop}
 use Rattle.chain.specs.Features.{located}
-use Rattle.drawable.specs.Drawn.{groupsIn}
-use Rattle.drawable.proofs.Drawing.{located-skip, located-push, located-all, located-none, none-long, push-long}
+use Rattle.drawable.proofs.Drawing.{located-pass, located-put, located-end}
 use Rattle.drawable.proofs.located_groups.Statement.{statement}
 use Rattle.drawable.proofs.located_groups.Tie as tie
 
 abbrev Inv-loop : tie.InvT-loop
-Inv-loop groups n kept₀ i₀ kept i = (groupsIn kept ++ located (drop i (groupsIn groups)) ≡ located (groupsIn groups)) × (length (groupsIn kept) ≤ i) × (i ≤ n) × (n ≤ 18)
+Inv-loop n written items₀ count₀ i₀ items count i = (take count items ++ located (drop i (take n written)) ≡ located (take n written)) × (count ≤ i) × (i ≤ n) × (n ≤ 18) × (length items ≡ 18) × (length written ≡ 18)
 
 abbrev μ-loop : tie.MeasureT-loop
-μ-loop groups n kept₀ i₀ kept i = n - i
+μ-loop n written items₀ count₀ i₀ items count i = n - i
 
 len-requires : tie.Need-len-requires Inv-loop μ-loop
 len-requires c κs = search needs
 
-new-requires : tie.Need-new-requires Inv-loop μ-loop
-new-requires c κs = search needs
-
 loop-holds : tie.Need-loop-holds Inv-loop μ-loop
-loop-holds c = (search located-none, search none-long, omega arith, omega arith)
+loop-holds c = (search needs, omega arith, omega arith, omega arith, search length-mapped, search length-mapped)
 
-at-requires : tie.Need-at-requires Inv-loop μ-loop
-at-requires c κs = search needs
+mul-group : tie.Need-mul-group Inv-loop μ-loop
+mul-group c = search needs
+
+array-copy-out-group : tie.Need-array-copy-out-group Inv-loop μ-loop
+array-copy-out-group c = search needs
 
 add-i : tie.Need-add-i Inv-loop μ-loop
 add-i c = search needs
@@ -35,19 +35,25 @@ loop-less : tie.Need-loop-less Inv-loop μ-loop
 loop-less c = search needs
 
 loop-again : tie.Need-loop-again Inv-loop μ-loop
-loop-again c = (search located-skip, omega arith, omega arith, omega arith)
+loop-again c = (search located-pass, omega arith, omega arith, omega arith, search needs, search needs)
 
-push-requires : tie.Need-push-requires Inv-loop μ-loop
-push-requires c κs = search needs
+mul-items : tie.Need-mul-items Inv-loop μ-loop
+mul-items c = search needs
+
+array-set-from-items : tie.Need-array-set-from-items Inv-loop μ-loop
+array-set-from-items c = search needs
+
+add-count : tie.Need-add-count Inv-loop μ-loop
+add-count c = search needs
 
 loop-less-2 : tie.Need-loop-less-2 Inv-loop μ-loop
 loop-less-2 c = search needs
 
 loop-again-2 : tie.Need-loop-again-2 Inv-loop μ-loop
-loop-again-2 c = (search located-push, search push-long, omega arith, omega arith)
+loop-again-2 c = (search located-put, omega arith, omega arith, omega arith, search needs, search needs)
 
 returns : tie.Need-returns Inv-loop μ-loop
-returns c = search located-all
+returns c = search located-end
 
 pub located-groups-spec : {M : Type 1} → statement M
 located-groups-spec =
@@ -56,13 +62,15 @@ located-groups-spec =
     Inv-loop
     μ-loop
     len-requires
-    new-requires
     loop-holds
-    at-requires
+    mul-group
+    array-copy-out-group
     add-i
     loop-less
     loop-again
-    push-requires
+    mul-items
+    array-set-from-items
+    add-count
     loop-less-2
     loop-again-2
     returns)
