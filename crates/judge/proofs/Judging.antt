@@ -1,28 +1,32 @@
 -- Laws of the judging of a request: each way out of its tests, one after the other.
 -- Assumes nothing.
 use Prim.Native.Nat.{ℕ, _≤_, _<_}
+use native.Mathlib.Decide.{ℕ-discrete}
 use native.Mathlib.Omega.{arith}
 use mathlib.Core.Path.{_≡_, refl, sym, ap, _∙_}
-use mathlib.Core.Bool.{Bool, true, false, cond, not}
+use mathlib.Core.Bool.{Bool, true, false, cond, not, false≢true}
 use mathlib.Core.List.{List, [], _∷_}
-use lib.ListN.{length, take}
+use lib.ListN.{length, take, length-take}
 use lib.Dec.{eqb, ltb}
-use borrow.Author.Tests.{eq-eqb, ne-eqb, lt-ltb, le-ltb}
-use Rattle.token.specs.declared.Request.{Request}
-use Rattle.token.specs.Request.{RequestIs, tokensOf}
+use borrow.Author.Tests.{eq-eqb, ne-eqb, lt-ltb, le-ltb, ltb-false}
+use Rattle.record.specs.Chain.{Chain}
+use Rattle.token.specs.Request as token
 use Rattle.tail.specs.Grammar.{isTail}
 use Rattle.chain.specs.Refusals.{placeRefusal, drawRefusal}
 use Rattle.template.specs.declared.Class.{Class}
+use Rattle.template.specs.declared.Class.the-variants.{Fa, Gl1, Gl2, Gl3, Gp, Cl, Sb, Sa}
 use Rattle.template.specs.Template.{classOf, fewest, most, hasTail}
 use Rattle.class.specs.declared.Code.{Code}
 use Rattle.class.specs.declared.Code.the-variants.{Known, Unknown}
 use Rattle.class.specs.Class.{read}
+use Rattle.drawable.specs.declared.Drawn.{Drawn}
 use Rattle.judge.specs.declared.Fault.{Fault}
+use Rattle.judge.specs.declared.Faults.{Faults}
 use Rattle.judge.specs.declared.Chains.{Chains}
 use Rattle.judge.specs.declared.Judged.{Judged}
-use Rattle.judge.specs.Verdict.{Verdict, Refused, Drawable, tokens, firstOf, kindRefusal, wrongTail, orElse, judgeDrawn, judgeChains, wrongCount, judgeTokens, verdict}
-use Rattle.judge.specs.Judged.{chainsOf, Drawing, FaultIs, JudgedIs, DrawnIs}
-use Rattle.judge.proofs.Tokens.{request-chains, request-refused}
+use Rattle.judge.specs.Verdict.{Verdict, Refused, Drawable, tokens, noFault, firstOf, kindRefusal, wrongTail, orElse, judgeDrawn, judgeChains, judgeRead, wrongCount, judgeTokens, verdict}
+use Rattle.judge.specs.Judged.{drawnIn, Drawing, JudgedIs, dueOf}
+use Rattle.judge.proofs.Laws.{Met, draws-length}
 
 -- ---- a fault, or what follows
 
@@ -37,23 +41,31 @@ or-follows f v e = rw (eq-eqb (f .number) 0 e)
 refused-is : (j : Judged) (n p : ℕ) → 0 < n → j .fault ≡ record { number = n; place = p } → JudgedIs j (Refused n p)
 refused-is j n p h e = (ap (λ (x : Fault). x .number) e, ap (λ (x : Fault). x .place) e, h)
 
--- ---- the chains as they are drawn
+-- ---- the fault that is due
 
-module _ (c : Class) (x : Chains) (place : Fault) (p : FaultIs x placeRefusal place) where
-  pub drawn-place : (j : Judged) → (place .number ≡ 0 → ⊥) → j .fault ≡ place → DrawnIs c x j
-  unfolding judgeDrawn
-  drawn-place j n e = record { is = λ ds h. rw (← p .is c ds (h .drawn)) (or-refused j place _ n e) }
+module _ (f : Faults) (tail : Bool) where
+  pub due-token : (f .token .number ≡ 0 → ⊥) → f .token ≡ dueOf f tail
+  unfolding dueOf
+  due-token n = rw (ne-eqb (f .token .number) 0 n)
 
-  module _ (z : place .number ≡ 0) (draw : Fault) (q : FaultIs x drawRefusal draw) where
-    placed : (ds : List _) → Drawing c ds x → judgeDrawn c ds ≡ orElse draw (Drawable c ds)
-    unfolding judgeDrawn
-    placed ds h = rw (← p .is c ds (h .drawn), ← q .is c ds (h .drawn)) (or-follows place _ z)
+  module _ (t : f .token .number ≡ 0) where
+    pub due-kind : (f .kind .number ≡ 0 → ⊥) → f .kind ≡ dueOf f tail
+    unfolding dueOf
+    due-kind n = rw (eq-eqb (f .token .number) 0 t, ne-eqb (f .kind .number) 0 n)
 
-    pub drawn-draw : (j : Judged) → (draw .number ≡ 0 → ⊥) → j .fault ≡ draw → DrawnIs c x j
-    drawn-draw j n e = record { is = λ ds h. rw (placed ds h) (or-refused j draw _ n e) }
+    module _ (k : f .kind .number ≡ 0) where
+      pub due-tail : tail ≡ true → record { number = 23; place = 0 } ≡ dueOf f tail
+      unfolding dueOf
+      due-tail h = rw (eq-eqb (f .token .number) 0 t, eq-eqb (f .kind .number) 0 k, h)
 
-    pub drawn-fits : draw .number ≡ 0 → DrawnIs c x (record { fault = draw; class = c; chains = x })
-    drawn-fits n = record { is = λ ds h. rw (placed ds h, or-follows draw (Drawable c ds) n) (n, refl, h) }
+      module _ (h : tail ≡ false) where
+        pub due-place : (f .place .number ≡ 0 → ⊥) → f .place ≡ dueOf f tail
+        unfolding dueOf
+        due-place n = rw (eq-eqb (f .token .number) 0 t, eq-eqb (f .kind .number) 0 k, h, ne-eqb (f .place .number) 0 n)
+
+        pub due-draw : f .place .number ≡ 0 → f .draw ≡ dueOf f tail
+        unfolding dueOf
+        due-draw e = rw (eq-eqb (f .token .number) 0 t, eq-eqb (f .kind .number) 0 k, h, eq-eqb (f .place .number) 0 e)
 
 -- ---- the tail
 
@@ -66,24 +78,6 @@ module _ (c : Class) (t : List ℕ) (a : Bool) (e : a ≡ hasTail c) where
   unfolding wrongTail
   tail-elsewhere h = rw (sym e ∙ h)
 
--- ---- the chains and the tail
-
-module _ (c : Class) (t : List ℕ) (q : Request) (kind : Fault) (k : kind ≡ firstOf kindRefusal c 1 (chainsOf q)) where
-  pub chains-kind : (j : Judged) → (kind .number ≡ 0 → ⊥) → j .fault ≡ kind → JudgedIs j (judgeChains c t (chainsOf q))
-  unfolding judgeChains
-  chains-kind j n e = rw (← k) (or-refused j kind _ n e)
-
-  module _ (z : kind .number ≡ 0) (b : Bool) (e : b ≡ wrongTail c t) where
-    kinds : judgeChains c t (chainsOf q) ≡ cond b (Refused 23 0) (judgeDrawn c (chainsOf q))
-    unfolding judgeChains
-    kinds = rw (← k, ← e) (or-follows kind _ z)
-
-    pub chains-tail : (j : Judged) → b ≡ true → j .fault ≡ record { number = 23; place = 0 } → JudgedIs j (judgeChains c t (chainsOf q))
-    chains-tail j h f = rw (kinds, h) (refused-is j 23 0 (omega arith) f)
-
-    pub chains-drawn : (x : Chains) (j : Judged) → b ≡ false → Drawing c (chainsOf q) x → DrawnIs c x j → JudgedIs j (judgeChains c t (chainsOf q))
-    chains-drawn x j h d w = rw (kinds, h) (w .is (chainsOf q) d)
-
 -- ---- the number of tokens
 
 pub count-few : (c : Class) (n m : ℕ) → m ≡ fewest c → n < m → true ≡ wrongCount c n
@@ -94,22 +88,100 @@ pub count-enough : (c : Class) (n m k : ℕ) → m ≡ fewest c → m ≤ n → 
 unfolding wrongCount
 count-enough c n m k e h f = rw (← e, le-ltb n m h, ← f)
 
+some-fewest : (c : Class) → 0 < fewest c
+some-fewest Fa = omega arith
+some-fewest Gl1 = omega arith
+some-fewest Gl2 = omega arith
+some-fewest Gl3 = omega arith
+some-fewest Gp = omega arith
+some-fewest Cl = omega arith
+some-fewest Sb = omega arith
+some-fewest Sa = omega arith
+
+most-four : (c : Class) → most c ≤ 4
+most-four Fa = omega arith
+most-four Gl1 = omega arith
+most-four Gl2 = omega arith
+most-four Gl3 = omega arith
+most-four Gp = omega arith
+most-four Cl = omega arith
+most-four Sb = omega arith
+most-four Sa = omega arith
+
+-- a class takes one token at least, and four at most
+module _ (c : Class) (n : ℕ) (b : Bool) (e : b ≡ wrongCount c n) (h : b ≡ false) where
+  counted : (fewest c ≤ n) × (n ≤ most c)
+  unfolding wrongCount
+  counted = go (ltb n (fewest c)) (ltb (most c) n) refl refl (sym e ∙ h)
+    where
+      go : (x y : Bool) → ltb n (fewest c) ≡ x → ltb (most c) n ≡ y → cond x true y ≡ false → (fewest c ≤ n) × (n ≤ most c)
+      go true y f g w = absurd (false≢true (sym w))
+      go false true f g w = absurd (false≢true (sym w))
+      go false false f g w = (ltb-false n (fewest c) f, ltb-false (most c) n g)
+
+  pub count-some : 0 < n
+  count-some = omega (arith, some-fewest c, counted .0)
+
+  pub count-four : n ≤ 4
+  count-four = omega (arith, most-four c, counted .1)
+
 -- ---- the tokens
 
-module _ (c : Class) (t : List ℕ) (count : ℕ) (sn1 sn2 sn3 sn4 : List ℕ) (b : Bool) (e : b ≡ wrongCount c count) where
-  pub tokens-count : (j : Judged) → b ≡ true → j .fault ≡ record { number = 21; place = 0 } → JudgedIs j (judgeTokens c t count (tokens count sn1 sn2 sn3 sn4))
+-- the fault that is due of chains is that which their verdict says
+module _ (c : Class) (t : List ℕ) (b : Bool) (e : b ≡ wrongTail c t) (f : Faults) (x : Chains) (ds : List Chain) (z : f .token ≡ noFault) (d : Drawing c ds x) where
+  unread : f .token .number ≡ 0
+  unread = ap (λ (y : Fault). y .number) z
+
+  drawing-judged : f .kind ≡ firstOf kindRefusal c 1 ds → f .place ≡ firstOf placeRefusal c 1 ds → f .draw ≡ firstOf drawRefusal c 1 ds
+      → JudgedIs (record { fault = dueOf f b; class = c; chains = x }) (judgeChains c t ds)
+  unfolding judgeChains judgeDrawn
+  drawing-judged k p q =
+      rw (← k, ← p, ← q, ← e) (by-kind (ℕ-discrete (f .kind .number) 0))
+    where
+      j : Judged
+      j = record { fault = dueOf f b; class = c; chains = x }
+
+      by-draw : f .kind .number ≡ 0 → b ≡ false → f .place .number ≡ 0 → Dec (f .draw .number ≡ 0) → JudgedIs j (orElse (f .draw) (Drawable c ds))
+      by-draw k h p (no n) = or-refused j (f .draw) (Drawable c ds) n (sym (due-draw f b unread k h p))
+      by-draw k h p (yes q) = rw (or-follows (f .draw) (Drawable c ds) q) (ap (λ (y : Fault). y .number) (sym (due-draw f b unread k h p)) ∙ q, refl, d)
+
+      by-place : f .kind .number ≡ 0 → b ≡ false → Dec (f .place .number ≡ 0) → JudgedIs j (orElse (f .place) (orElse (f .draw) (Drawable c ds)))
+      by-place k h (no n) = or-refused j (f .place) (orElse (f .draw) (Drawable c ds)) n (sym (due-place f b unread k h n))
+      by-place k h (yes p) = rw (or-follows (f .place) (orElse (f .draw) (Drawable c ds)) p) (by-draw k h p (ℕ-discrete (f .draw .number) 0))
+
+      by-tail : f .kind .number ≡ 0 → (y : Bool) → b ≡ y → JudgedIs j (cond y (Refused 23 0) (orElse (f .place) (orElse (f .draw) (Drawable c ds))))
+      by-tail k true h = refused-is j 23 0 (omega arith) (sym (due-tail f b unread k h))
+      by-tail k false h = by-place k h (ℕ-discrete (f .place .number) 0)
+
+      by-kind : Dec (f .kind .number ≡ 0) → JudgedIs j (orElse (f .kind) (cond b (Refused 23 0) (orElse (f .place) (orElse (f .draw) (Drawable c ds)))))
+      by-kind (no n) = or-refused j (f .kind) _ n (sym (due-kind f b unread n))
+      by-kind (yes k) = rw (or-follows (f .kind) (cond b (Refused 23 0) (orElse (f .place) (orElse (f .draw) (Drawable c ds)))) k) (by-tail k b refl)
+
+module _ (c : Class) (t : List ℕ) (b : Bool) (e : b ≡ wrongTail c t) (f : Faults) (xs : List Drawn) (n : ℕ) (l : length xs ≡ 4) (few : n ≤ 4) where
+  met-judged : (v : token.Verdict) → Met c f (take n xs) v → JudgedIs (record { fault = dueOf f b; class = c; chains = record { count = n; items = xs } }) (judgeRead c t v)
+  unfolding drawnIn
+  met-judged (token.First m p) h =
+      let y : f .token .number ≡ m = ap (λ (x : Fault). x .number) (h .0) in
+      refused-is (record { fault = dueOf f b; class = c; chains = record { count = n; items = xs } }) m p (h .1) (sym (due-token f b (λ z. omega (arith, y, z, h .1))) ∙ h .0)
+  met-judged (token.All ds) h =
+      drawing-judged c t b e f (record { count = n; items = xs }) ds (h .0) (record { few = few; counted = omega (arith, length-take n xs, draws-length (h .4)); drawn = h .4 }) (h .1) (h .2) (h .3)
+
+  pub tokens-judged : (sn1 sn2 sn3 sn4 : List ℕ) (i : ℕ) (g : Fault) → n ≤ i → i ≤ n → Met c f (take i xs) (token.tokensOf (take i (sn1 ∷ sn2 ∷ sn3 ∷ sn4 ∷ []))) → g ≡ dueOf f b
+      → JudgedIs (record { fault = g; class = c; chains = record { count = n; items = xs } }) (judgeRead c t (token.tokensOf (tokens n sn1 sn2 sn3 sn4)))
+  tokens-judged sn1 sn2 sn3 sn4 i g h k m w =
+      let y : i ≡ n = omega arith in
+      rw w (met-judged (token.tokensOf (tokens n sn1 sn2 sn3 sn4)) (rw y at m))
+
+-- ---- the number of tokens, then the tokens
+
+module _ (c : Class) (t : List ℕ) (count : ℕ) (ss : List (List ℕ)) (b : Bool) (e : b ≡ wrongCount c count) (j : Judged) where
+  pub tokens-count : b ≡ true → j .fault ≡ record { number = 21; place = 0 } → JudgedIs j (judgeTokens c t count ss)
   unfolding judgeTokens
-  tokens-count j h f = rw (sym e ∙ h) (refused-is j 21 0 (omega arith) f)
+  tokens-count h f = rw (sym e ∙ h) (refused-is j 21 0 (omega arith) f)
 
-  module _ (h : b ≡ false) (q : Request) (k : RequestIs q (tokensOf (take count (sn1 ∷ sn2 ∷ sn3 ∷ sn4 ∷ [])))) where
-    pub tokens-refused : (j : Judged) → (q .refusal ≡ 0 → ⊥) → j .fault ≡ record { number = q .refusal; place = q .place }
-        → JudgedIs j (judgeTokens c t count (tokens count sn1 sn2 sn3 sn4))
-    unfolding judgeTokens
-    tokens-refused j n f = rw (sym e ∙ h, request-refused (tokens count sn1 sn2 sn3 sn4) q k n) (refused-is j (q .refusal) (q .place) (omega (arith, n)) f)
-
-    pub tokens-read : (j : Judged) → q .refusal ≡ 0 → JudgedIs j (judgeChains c t (chainsOf q)) → JudgedIs j (judgeTokens c t count (tokens count sn1 sn2 sn3 sn4))
-    unfolding judgeTokens
-    tokens-read j z w = rw (sym e ∙ h, request-chains (tokens count sn1 sn2 sn3 sn4) q k z) w
+  pub tokens-read : b ≡ false → JudgedIs j (judgeRead c t (token.tokensOf ss)) → JudgedIs j (judgeTokens c t count ss)
+  unfolding judgeTokens
+  tokens-read h w = rw (sym e ∙ h) w
 
 -- ---- the class
 

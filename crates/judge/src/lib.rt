@@ -7,12 +7,16 @@ use record::ChainPrefix;
 use record::ParsedChain;
 use template::Class;
 use token::MAX_TOKENS;
-use token::Request;
 ghost use mathlib.Core.Path.{_≡_};
-ghost use Prim.Native.Nat.{_<_, _≤_};
-ghost use Rattle.chain.specs.Refusals.{placeRefusal, drawRefusal};
-ghost use Rattle.judge.specs.Verdict.{tokens, firstOf, kindRefusal, wrongTail, judgeChains, wrongCount, judgeTokens, verdict};
-ghost use Rattle.judge.specs.Judged.{chainsOf, DrawsAt, One, Longer, Drawing, FaultIs, JudgedIs, DrawnIs};
+ghost use Prim.Native.Nat.{_+_, _<_, _≤_};
+ghost use mathlib.Core.List.{[], _∷_};
+ghost use lib.ListN.{getD};
+ghost use Rattle.token.specs.Token.{tokenOf};
+ghost use Rattle.token.specs.Request.{tokensOf};
+ghost use Rattle.template.specs.Template.{roleOf};
+ghost use Rattle.drawable.specs.Drawn.{chainOf};
+ghost use Rattle.judge.specs.Verdict.{tokens, kindRefusal, wrongTail, wrongCount, judgeRead, judgeTokens, verdict};
+ghost use Rattle.judge.specs.Judged.{JudgedIs, SeenIs, noFaults, earlierOf, withReasons, dueOf};
 
 // A class code that is none of the eight.
 pub const UNKNOWN_CLASS: u16 = 20;
@@ -42,6 +46,29 @@ pub struct Judged {
     pub chains: Chains,
 }
 
+// What one token is refused for: 31 or 11; and its chain, where it is read: 22; 32 or 33; 12 to 15. Each is 0 where nothing is due.
+struct Reasons {
+    token: u16,
+    kind: u16,
+    place: u16,
+    draw: u16,
+}
+
+// A token that was looked at: what it is refused for, and its chain as it is drawn.
+struct Seen {
+    reasons: Reasons,
+    drawn: Drawn,
+}
+
+// The first fault of each sort among the tokens looked at so far. The sorts have an order of their own: a fault of a later token comes
+// before one of an earlier token where its sort does.
+struct Faults {
+    token: Fault,
+    kind: Fault,
+    place: Fault,
+    draw: Fault,
+}
+
 impl Chains {
     // No chains.
     fn new() -> Chains
@@ -52,130 +79,10 @@ impl Chains {
         let items = [drawn; MAX_TOKENS];
         Chains { count: 0, items }
     }
-
-    // One chain. It stands in the other places too, where nothing is counted: a copy costs less than an empty chain.
-    fn one(drawn: Drawn) -> Chains
-        ensures { λ r. ⌜ One drawn r ⌝ }
-    {
-        let items = [drawn; MAX_TOKENS];
-        Chains { count: 1, items }
-    }
-
-    // One chain more.
-    fn push(mut self, drawn: Drawn) -> Chains
-        requires { ⌜ self .count < 4 ⌝ }
-        ensures { λ r. ⌜ Longer self drawn r ⌝ }
-    {
-        let at = self.count;
-        self.items[at] = drawn;
-        self.count = at + 1;
-        self
-    }
-}
-
-// The first chain that is of the wrong kind for its place.
-fn first_kind(class: Class, request: Request) -> Fault
-    requires { ⌜ request .count ≤ 4 ⌝ }
-    ensures { λ r. ⌜ r ≡ firstOf kindRefusal class 1 (chainsOf request) ⌝ }
-{
-    let n = request.count;
-    let mut i = 0;
-    while i < n {
-        let chain = request.chains[i];
-        let role = class::role_of(class, i + 1);
-        if refusals::wrong_kind(role, chain) {
-            return Fault {
-                number: WRONG_KIND,
-                place: i + 1,
-            };
-        }
-        i += 1;
-    }
-    Fault {
-        number: 0,
-        place: 0,
-    }
-}
-
-// Chain i, counted from 0, as the class draws it.
-fn draw_one(class: Class, request: Request, i: usize) -> Drawn
-    requires { ⌜ request .count ≤ 4 ⌝ }
-    requires { ⌜ i < request .count ⌝ }
-    ensures { λ r. ⌜ DrawsAt class request i r ⌝ }
-{
-    let chain = request.chains[i];
-    let role = class::role_of(class, i + 1);
-    drawable::drawn_as(role, chain)
-}
-
-// The chains as the class draws them.
-fn draw_all(class: Class, request: Request) -> Chains
-    requires { ⌜ request .count ≤ 4 ⌝ }
-    ensures { λ r. ⌜ Drawing class (chainsOf request) r ⌝ }
-{
-    let n = request.count;
-    if n == 0 {
-        return Chains::new();
-    }
-    let mut chains = Chains::one(draw_one(class, request, 0));
-    let mut i = 1;
-    while i < n {
-        chains = chains.push(draw_one(class, request, i));
-        i += 1;
-    }
-    chains
-}
-
-// The first chain with a feature off the chain or with two that clash.
-fn first_place(chains: Chains) -> Fault
-    requires { ⌜ chains .count ≤ 4 ⌝ }
-    ensures { λ r. ⌜ FaultIs chains placeRefusal r ⌝ }
-{
-    let n = chains.count;
-    let mut i = 0;
-    while i < n {
-        let x = chains.items[i];
-        let number = refusals::place_refusal(x);
-        if number != 0 {
-            return Fault {
-                number,
-                place: i + 1,
-            };
-        }
-        i += 1;
-    }
-    Fault {
-        number: 0,
-        place: 0,
-    }
-}
-
-// The first chain that has no drawing.
-fn first_draw(chains: Chains) -> Fault
-    requires { ⌜ chains .count ≤ 4 ⌝ }
-    ensures { λ r. ⌜ FaultIs chains drawRefusal r ⌝ }
-{
-    let n = chains.count;
-    let mut i = 0;
-    while i < n {
-        let x = chains.items[i];
-        let number = refusals::draw_refusal(x);
-        if number != 0 {
-            return Fault {
-                number,
-                place: i + 1,
-            };
-        }
-        i += 1;
-    }
-    Fault {
-        number: 0,
-        place: 0,
-    }
 }
 
 impl Judged {
-    // A request that is refused.
+    // A request that is refused before its tokens are looked at.
     fn refused(fault: Fault) -> Judged
         ensures { λ r. ⌜ r .fault ≡ fault ⌝ }
     {
@@ -187,24 +94,97 @@ impl Judged {
     }
 }
 
-// What is asked of the chains as they are drawn.
-fn judge_drawn(class: Class, chains: Chains) -> Judged
-    requires { ⌜ chains .count ≤ 4 ⌝ }
-    ensures { λ r. ⌜ DrawnIs class chains r ⌝ }
+// A fault, or the next one where there is none: a number at a place.
+fn earlier(fault: Fault, number: u16, place: usize) -> Fault
+    ensures { λ r. ⌜ r ≡ earlierOf fault number place ⌝ }
 {
-    let place = first_place(chains);
-    if place.number != 0 {
-        return Judged::refused(place);
+    if fault.number != 0 {
+        return fault;
     }
-    let draw = first_draw(chains);
-    if draw.number != 0 {
-        return Judged::refused(draw);
+    if number == 0 {
+        return fault;
     }
-    Judged {
-        fault: draw,
-        class,
-        chains,
+    Fault { number, place }
+}
+
+impl Faults {
+    fn new() -> Faults
+        ensures { λ r. ⌜ r ≡ noFaults ⌝ }
+    {
+        let none = Fault {
+            number: 0,
+            place: 0,
+        };
+        Faults {
+            token: none,
+            kind: none,
+            place: none,
+            draw: none,
+        }
     }
+
+    // One token more, with its place.
+    fn join(self, reasons: Reasons, place: usize) -> Faults
+        ensures { λ r. ⌜ r ≡ withReasons self reasons place ⌝ }
+    {
+        Faults {
+            token: earlier(self.token, reasons.token, place),
+            kind: earlier(self.kind, reasons.kind, place),
+            place: earlier(self.place, reasons.place, place),
+            draw: earlier(self.draw, reasons.draw, place),
+        }
+    }
+
+    // The fault that is due: that of a token, of a kind, of the tail if it is outside the grammar, of a place, of a drawing.
+    fn due(self, outside: bool) -> Fault
+        ensures { λ r. ⌜ r ≡ dueOf self outside ⌝ }
+    {
+        let token = self.token;
+        let kind = self.kind;
+        let place = self.place;
+        if token.number != 0 {
+            return token;
+        }
+        if kind.number != 0 {
+            return kind;
+        }
+        if outside {
+            return Fault {
+                number: WRONG_TAIL,
+                place: 0,
+            };
+        }
+        if place.number != 0 {
+            return place;
+        }
+        self.draw
+    }
+}
+
+// 22 for a chain of the wrong kind for its place, else 0.
+fn kind_refusal(role: Role, chain: ParsedChain) -> u16
+    ensures { λ r. ⌜ r ≡ kindRefusal role (chainOf chain) ⌝ }
+{
+    if refusals::wrong_kind(role, chain) {
+        return WRONG_KIND;
+    }
+    0
+}
+
+// One token in its place. A chain is drawn before its kind is known to fit: most do.
+fn look_as(role: Role, token: &[u8]) -> Seen
+    ensures { λ r. ⌜ SeenIs role r (tokenOf (now (token .entry))) ⌝ }
+{
+    let parsed = token::parse_chain_token(token);
+    let chain = parsed.chain;
+    let drawn = drawable::drawn_as(role, chain);
+    let reasons = Reasons {
+        token: parsed.refusal,
+        kind: kind_refusal(role, chain),
+        place: refusals::place_refusal(drawn),
+        draw: refusals::draw_refusal(drawn),
+    };
+    Seen { reasons, drawn }
 }
 
 // Whether a tail is outside the grammar, or stands where there is none.
@@ -217,22 +197,71 @@ fn wrong_tail(class: Class, tail: &[u8]) -> bool
     tail.len() != 0
 }
 
-// The chains of a class, and its tail.
-fn judge_chains(class: Class, tail: &[u8], request: Request) -> Judged
-    requires { ⌜ request .count ≤ 4 ⌝ }
-    ensures { λ r. ⌜ JudgedIs r (judgeChains class (now (tail .entry)) (chainsOf request)) ⌝ }
+// Token i, counted from 0.
+fn token_at<'a>(i: usize, sn1: &'a [u8], sn2: &'a [u8], sn3: &'a [u8], sn4: &'a [u8]) -> &'a [u8]
+    requires { ⌜ i < 4 ⌝ }
+    ensures { λ r. ⌜ now r ≡ getD (now (sn1 .entry) ∷ now (sn2 .entry) ∷ now (sn3 .entry) ∷ now (sn4 .entry) ∷ []) i [] ⌝ }
 {
-    let kind = first_kind(class, request);
-    if kind.number != 0 {
-        return Judged::refused(kind);
+    if i == 0 {
+        return sn1;
     }
-    if wrong_tail(class, tail) {
-        return Judged::refused(Fault {
-            number: WRONG_TAIL,
-            place: 0,
-        });
+    if i == 1 {
+        return sn2;
     }
-    judge_drawn(class, draw_all(class, request))
+    if i == 2 {
+        return sn3;
+    }
+    sn4
+}
+
+// Token i, counted from 0, in its place.
+fn look<'a>(
+    class: Class,
+    i: usize,
+    sn1: &'a [u8],
+    sn2: &'a [u8],
+    sn3: &'a [u8],
+    sn4: &'a [u8],
+) -> Seen
+    requires { ⌜ i < 4 ⌝ }
+    ensures { λ r. ⌜ SeenIs (roleOf class (i + 1)) r (tokenOf (getD (now (sn1 .entry) ∷ now (sn2 .entry) ∷ now (sn3 .entry) ∷ now (sn4 .entry) ∷ []) i [])) ⌝ }
+{
+    let role = class::role_of(class, i + 1);
+    look_as(role, token_at(i, sn1, sn2, sn3, sn4))
+}
+
+// The tokens of a class, of which there are as many as it takes. The first chain fills the array: past the last chain nothing is counted,
+// and a copy costs less than an empty chain.
+fn judge_tokens<'a>(
+    class: Class,
+    tail: &[u8],
+    count: usize,
+    sn1: &'a [u8],
+    sn2: &'a [u8],
+    sn3: &'a [u8],
+    sn4: &'a [u8],
+) -> Judged
+    requires { ⌜ 0 < count ⌝ }
+    requires { ⌜ count ≤ 4 ⌝ }
+    ensures { λ r. ⌜ JudgedIs r (judgeRead class (now (tail .entry)) (tokensOf (tokens count (now (sn1 .entry)) (now (sn2 .entry)) (now (sn3 .entry)) (now (sn4 .entry))))) ⌝ }
+{
+    let seen = look(class, 0, sn1, sn2, sn3, sn4);
+    let first = seen.drawn;
+    let mut faults = Faults::new().join(seen.reasons, 1);
+    let mut items = [first; MAX_TOKENS];
+    let mut i = 1;
+    while i < count {
+        let next = look(class, i, sn1, sn2, sn3, sn4);
+        let drawn = next.drawn;
+        faults = faults.join(next.reasons, i + 1);
+        items[i] = drawn;
+        i += 1;
+    }
+    Judged {
+        fault: faults.due(wrong_tail(class, tail)),
+        class,
+        chains: Chains { count, items },
+    }
 }
 
 // Whether a class takes another number of tokens.
@@ -245,8 +274,8 @@ fn wrong_count(class: Class, count: usize) -> bool
     class::most(class) < count
 }
 
-// The tokens of a class.
-fn judge_tokens<'a>(
+// The class, and the number of its tokens.
+fn judge_class<'a>(
     class: Class,
     tail: &[u8],
     count: usize,
@@ -263,15 +292,7 @@ fn judge_tokens<'a>(
             place: 0,
         });
     }
-    let request = token::parse_tokens(count, sn1, sn2, sn3, sn4);
-    let refusal = request.refusal;
-    if refusal != 0 {
-        return Judged::refused(Fault {
-            number: refusal,
-            place: request.place,
-        });
-    }
-    judge_chains(class, tail, request)
+    judge_tokens(class, tail, count, sn1, sn2, sn3, sn4)
 }
 
 // Whether a request is refused, and for what; or its class and its chains.
@@ -292,5 +313,5 @@ pub fn judge<'a>(
             place: 0,
         });
     };
-    judge_tokens(known, tail, count, sn1, sn2, sn3, sn4)
+    judge_class(known, tail, count, sn1, sn2, sn3, sn4)
 }

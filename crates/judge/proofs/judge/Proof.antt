@@ -18,8 +18,8 @@ refused-requires c κs = search needs
 returns : tie.Need-returns
 returns c = search class-unknown
 
-judge-tokens-requires : tie.Need-judge-tokens-requires
-judge-tokens-requires c κs = search needs
+judge-class-requires : tie.Need-judge-class-requires
+judge-class-requires c κs = search needs
 
 returns-2 : tie.Need-returns-2
 returns-2 c = search class-known
@@ -33,5 +33,5 @@ judge-spec =
     enum-told
     refused-requires
     returns
-    judge-tokens-requires
+    judge-class-requires
     returns-2)

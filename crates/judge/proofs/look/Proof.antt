@@ -1,0 +1,23 @@
+use Rattle.judge.proofs.Laws.{seen-at}
+use borrow.Author.Needs.{needs}
+use Rattle.judge.proofs.look.Statement.{statement}
+use Rattle.judge.proofs.look.Tie as tie
+
+add-role-of : tie.Need-add-role-of
+add-role-of c = search needs
+
+role-of-requires : tie.Need-role-of-requires
+role-of-requires c κs = search needs
+
+token-at-requires : tie.Need-token-at-requires
+token-at-requires c κs = search needs
+
+look-as-requires : tie.Need-look-as-requires
+look-as-requires c κs = search needs
+
+returns : tie.Need-returns
+returns c = search seen-at
+
+pub look-spec : {M : Type 1} → statement M
+look-spec =
+    tie.close (tie.spec add-role-of role-of-requires token-at-requires look-as-requires returns)
