@@ -12,7 +12,7 @@ ghost use lib.ListN.{drop};
 ghost use Rattle.chain.specs.Lists.{anyOf, anyTwo};
 ghost use Rattle.chain.specs.Refusals.{sameBond, epoxideOn, smallRing, sameRing, clashes};
 ghost use Rattle.drawable.specs.Drawn.{bondsIn, ringsIn, Says};
-ghost use Rattle.clash.specs.Places.{bondAt};
+ghost use Rattle.clash.specs.Places.{bondAt, rising};
 
 // Whether a double bond stands at p.
 fn starts_at(bond: DbPos, p: u32) -> bool
@@ -37,8 +37,31 @@ fn bond_from(bonds: Bonds, from: usize, p: u32) -> bool
     false
 }
 
-// Whether some two double bonds stand at one carbon.
-fn repeated_bond(bonds: Bonds) -> bool
+// Whether the double bonds stand in rising order, none of them at 0. The array is read in a local of its own, which is made only where there
+// is a bond.
+fn rising_bonds(bonds: Bonds) -> bool
+    ensures { λ r. ⌜ r ≡ rising 0 (bondsIn bonds) ⌝ }
+{
+    let n = bonds.len();
+    if n == 0 {
+        return true;
+    }
+    let items = bonds.items;
+    let mut last = 0;
+    let mut i = 0;
+    while i < n {
+        let bond = items[i];
+        if bond.pos <= last {
+            return false;
+        }
+        last = bond.pos;
+        i += 1;
+    }
+    true
+}
+
+// Whether some two double bonds stand at one carbon, each held against all that follow.
+fn repeated_anywhere(bonds: Bonds) -> bool
     ensures { λ r. ⌜ r ≡ anyTwo sameBond (bondsIn bonds) ⌝ }
 {
     let n = bonds.len();
@@ -51,6 +74,16 @@ fn repeated_bond(bonds: Bonds) -> bool
         }
     }
     false
+}
+
+// Whether some two double bonds stand at one carbon. Most lists rise, and then no two do.
+fn repeated_bond(bonds: Bonds) -> bool
+    ensures { λ r. ⌜ r ≡ anyTwo sameBond (bondsIn bonds) ⌝ }
+{
+    if rising_bonds(bonds) {
+        return false;
+    }
+    repeated_anywhere(bonds)
 }
 
 // Whether a ring is an epoxide where a double bond stands.

@@ -1,4 +1,3 @@
-use borrow.Author.Needs.{needs}
 use Rattle.clash.proofs.Clashes.{ring-start, ring-end, ring-both}
 use Rattle.clash.proofs.same_ring.Statement.{statement}
 use Rattle.clash.proofs.same_ring.Tie as tie
