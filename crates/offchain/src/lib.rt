@@ -57,14 +57,18 @@ fn ring_off(ring: Ring, first: u16, acyl: bool) -> bool
     false
 }
 
-// Whether some double bond is off the chain.
+// Whether some double bond is off the chain. The array is read in a local of its own, which is made only where there is a bond.
 fn any_bond_off(bonds: Bonds, first: u16, carbon: u16) -> bool
     ensures { λ r. ⌜ r ≡ anyOf (doubleOff first carbon) (bondsIn bonds) ⌝ }
 {
     let n = bonds.len();
+    if n == 0 {
+        return false;
+    }
+    let items = bonds.items;
     let mut i = 0;
     while i < n {
-        let bond = bonds.at(i);
+        let bond = items[i];
         if bond_off(bond, first, carbon) {
             return true;
         }
