@@ -8,7 +8,7 @@ use mathlib.Core.Bool.{Bool, true, false, cond, not}
 use mathlib.Core.List.{List, [], _∷_, _++_, append-assoc, append-nil}
 use lib.Dec.{eqb}
 use lib.ListN.{length, take, drop, set, getD, length-append, length-take}
-use lib.Seq.{take-suc, take-suc-set, take-all, getD-take}
+use lib.Seq.{take-suc, take-suc-set, take-all, getD-take, getD-drop, drop-drop, drop-set-lt}
 use borrow.Author.Tests.{eq-eqb, ne-eqb}
 use Rattle.record.specs.declared.ChainPrefix.{ChainPrefix}
 use Rattle.record.specs.declared.ChainPrefix.the-variants as prefix
@@ -172,35 +172,45 @@ module _ (l : List Mod) (n i : ℕ) (a : Mod) (k : List Mod) (w : Length 18 l n)
   unfolding unlocated
   floating-all v h = only-all (λ g. eqb (g .pos) 0) 18 l n i k w v h
 
--- the same of a loop over an array of which n count, that writes those it keeps over the front of another
-module _ (xs : List Mod) (n i : ℕ) (s : length xs ≡ 18) (f : n ≤ 18) where
+-- the same of a loop over an array xs of which n count, that writes those it keeps over its front: it is ys now, the same from i on
+pub rest-same : (xs ys : List Mod) (i : ℕ) → drop i ys ≡ drop i xs → drop (i + 1) ys ≡ drop (i + 1) xs
+rest-same xs ys i k = sym (drop-drop 1 i ys) ∙ (ap (drop 1) k ∙ drop-drop 1 i xs)
+
+pub rest-put : (xs ys : List Mod) (i j : ℕ) (a : Mod) → drop i ys ≡ drop i xs → j ≤ i → drop (i + 1) (set ys j a) ≡ drop (i + 1) xs
+rest-put xs ys i j a k h = drop-set-lt (i + 1) ys j a (omega arith) ∙ rest-same xs ys i k
+
+module _ (xs ys : List Mod) (n i : ℕ) (s : length xs ≡ 18) (f : n ≤ 18) (k : drop i ys ≡ drop i xs) where
   whole : Length 18 (take n xs) n
   whole = record { is = omega (arith, length-take n xs); fits = f }
 
-  here : i < n → getD xs i noGroup ≡ getD (take n xs) i noGroup
-  here h = sym (getD-take n xs i noGroup h)
+  here : i < n → getD ys i noGroup ≡ getD (take n xs) i noGroup
+  here h =
+      let z : i + 0 ≡ i = omega arith in
+      let e : getD (drop i ys) 0 noGroup ≡ getD ys i noGroup = rw z at (getD-drop i ys 0 noGroup) in
+      let g : getD (drop i xs) 0 noGroup ≡ getD xs i noGroup = rw z at (getD-drop i xs 0 noGroup) in
+      sym e ∙ (ap (λ (l : List Mod). getD l 0 noGroup) k ∙ (g ∙ sym (getD-take n xs i noGroup h)))
 
-  pub located-pass : (k : List Mod) → k ++ located (drop i (take n xs)) ≡ located (take n xs) → i < n → getD xs i noGroup .pos ≡ 0
-      → k ++ located (drop (i + 1) (take n xs)) ≡ located (take n xs)
-  located-pass k v h g = located-skip (take n xs) n i (getD xs i noGroup) k whole v h (here h) g
+  pub located-pass : (l : List Mod) → l ++ located (drop i (take n xs)) ≡ located (take n xs) → i < n → getD ys i noGroup .pos ≡ 0
+      → l ++ located (drop (i + 1) (take n xs)) ≡ located (take n xs)
+  located-pass l v h g = located-skip (take n xs) n i (getD ys i noGroup) l whole v h (here h) g
 
-  pub floating-pass : (k : List Mod) → k ++ unlocated (drop i (take n xs)) ≡ unlocated (take n xs) → i < n → (getD xs i noGroup .pos ≡ 0 → ⊥)
-      → k ++ unlocated (drop (i + 1) (take n xs)) ≡ unlocated (take n xs)
-  floating-pass k v h g = floating-skip (take n xs) n i (getD xs i noGroup) k whole v h (here h) g
+  pub floating-pass : (l : List Mod) → l ++ unlocated (drop i (take n xs)) ≡ unlocated (take n xs) → i < n → (getD ys i noGroup .pos ≡ 0 → ⊥)
+      → l ++ unlocated (drop (i + 1) (take n xs)) ≡ unlocated (take n xs)
+  floating-pass l v h g = floating-skip (take n xs) n i (getD ys i noGroup) l whole v h (here h) g
 
-  module _ (ys : List Mod) (j : ℕ) (t : length ys ≡ 18) (b : j ≤ i) where
-    put : i < n → take (j + 1) (set ys j (getD xs i noGroup)) ≡ take 18 (take j ys ++ (getD xs i noGroup ∷ []))
-    put h = held-more ys j 18 t (getD xs i noGroup) (omega arith)
+  module _ (j : ℕ) (t : length ys ≡ 18) (b : j ≤ i) where
+    put : i < n → take (j + 1) (set ys j (getD ys i noGroup)) ≡ take 18 (take j ys ++ (getD ys i noGroup ∷ []))
+    put h = held-more ys j 18 t (getD ys i noGroup) (omega arith)
 
-    pub located-put : take j ys ++ located (drop i (take n xs)) ≡ located (take n xs) → i < n → (getD xs i noGroup .pos ≡ 0 → ⊥)
-        → take (j + 1) (set ys j (getD xs i noGroup)) ++ located (drop (i + 1) (take n xs)) ≡ located (take n xs)
+    pub located-put : take j ys ++ located (drop i (take n xs)) ≡ located (take n xs) → i < n → (getD ys i noGroup .pos ≡ 0 → ⊥)
+        → take (j + 1) (set ys j (getD ys i noGroup)) ++ located (drop (i + 1) (take n xs)) ≡ located (take n xs)
     located-put v h g =
-        located-push (take n xs) n i (getD xs i noGroup) (take j ys) whole (take (j + 1) (set ys j (getD xs i noGroup))) v h (here h) g (omega (arith, length-take j ys)) (put h)
+        located-push (take n xs) n i (getD ys i noGroup) (take j ys) whole (take (j + 1) (set ys j (getD ys i noGroup))) v h (here h) g (omega (arith, length-take j ys)) (put h)
 
-    pub floating-put : take j ys ++ unlocated (drop i (take n xs)) ≡ unlocated (take n xs) → i < n → getD xs i noGroup .pos ≡ 0
-        → take (j + 1) (set ys j (getD xs i noGroup)) ++ unlocated (drop (i + 1) (take n xs)) ≡ unlocated (take n xs)
+    pub floating-put : take j ys ++ unlocated (drop i (take n xs)) ≡ unlocated (take n xs) → i < n → getD ys i noGroup .pos ≡ 0
+        → take (j + 1) (set ys j (getD ys i noGroup)) ++ unlocated (drop (i + 1) (take n xs)) ≡ unlocated (take n xs)
     floating-put v h g =
-        floating-push (take n xs) n i (getD xs i noGroup) (take j ys) whole (take (j + 1) (set ys j (getD xs i noGroup))) v h (here h) g (omega (arith, length-take j ys)) (put h)
+        floating-push (take n xs) n i (getD ys i noGroup) (take j ys) whole (take (j + 1) (set ys j (getD ys i noGroup))) v h (here h) g (omega (arith, length-take j ys)) (put h)
 
 -- all of them
 front : (xs : List Mod) (m n : ℕ) → n ≡ length (take m xs) → take n xs ≡ take m xs

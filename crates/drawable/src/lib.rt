@@ -214,17 +214,17 @@ fn written_rings(chain: ParsedChain) -> Rings
     Rings { count, items }
 }
 
-// The groups with a position, in order. Those that are kept are written over the front of a copy: past them nothing is counted.
+// The groups with a position, in order. Those that are kept are written over the front of the array, never past the one that is read: behind
+// them nothing is counted.
 fn located_groups(groups: Groups) -> Groups
     ensures { λ r. ⌜ groupsIn r ≡ located (groupsIn groups) ⌝ }
 {
     let n = groups.len();
-    let written = groups.items;
-    let mut items = written;
+    let mut items = groups.items;
     let mut count = 0;
     let mut i = 0;
     while i < n {
-        let group = written[i];
+        let group = items[i];
         i += 1;
         if group.pos == 0 {
             continue;
@@ -240,12 +240,11 @@ fn floating_groups(groups: Groups) -> Groups
     ensures { λ r. ⌜ groupsIn r ≡ unlocated (groupsIn groups) ⌝ }
 {
     let n = groups.len();
-    let written = groups.items;
-    let mut items = written;
+    let mut items = groups.items;
     let mut count = 0;
     let mut i = 0;
     while i < n {
-        let group = written[i];
+        let group = items[i];
         i += 1;
         if group.pos != 0 {
             continue;

@@ -6,21 +6,21 @@ use mathlib.Core.List.{_++_}
 use Rattle.record.proofs.Laws.{length-mapped}
 use lib.ListN.{length, take, drop}
 use Rattle.chain.specs.Features.{located}
-use Rattle.drawable.proofs.Drawing.{located-pass, located-put, located-end}
+use Rattle.drawable.proofs.Drawing.{rest-same, rest-put, located-pass, located-put, located-end}
 use Rattle.drawable.proofs.located_groups.Statement.{statement}
 use Rattle.drawable.proofs.located_groups.Tie as tie
 
 abbrev Inv-loop : tie.InvT-loop
-Inv-loop n written items₀ count₀ i₀ items count i = (take count items ++ located (drop i (take n written)) ≡ located (take n written)) × (count ≤ i) × (i ≤ n) × (n ≤ 18) × (length items ≡ 18) × (length written ≡ 18)
+Inv-loop n items₀ count₀ i₀ items count i = (take count items ++ located (drop i (take n items₀)) ≡ located (take n items₀)) × (drop i items ≡ drop i items₀) × (count ≤ i) × (i ≤ n) × (n ≤ 18) × (length items ≡ 18) × (length items₀ ≡ 18)
 
 abbrev μ-loop : tie.MeasureT-loop
-μ-loop n written items₀ count₀ i₀ items count i = n - i
+μ-loop n items₀ count₀ i₀ items count i = n - i
 
 len-requires : tie.Need-len-requires Inv-loop μ-loop
 len-requires c κs = search needs
 
 loop-holds : tie.Need-loop-holds Inv-loop μ-loop
-loop-holds c = (search needs, omega arith, omega arith, omega arith, search length-mapped, search length-mapped)
+loop-holds c = (search needs, search needs, omega arith, omega arith, omega arith, search length-mapped, search length-mapped)
 
 mul-group : tie.Need-mul-group Inv-loop μ-loop
 mul-group c = search needs
@@ -35,7 +35,7 @@ loop-less : tie.Need-loop-less Inv-loop μ-loop
 loop-less c = search needs
 
 loop-again : tie.Need-loop-again Inv-loop μ-loop
-loop-again c = (search located-pass, omega arith, omega arith, omega arith, search needs, search needs)
+loop-again c = (search located-pass, search rest-same, omega arith, omega arith, omega arith, search needs, search needs)
 
 mul-items : tie.Need-mul-items Inv-loop μ-loop
 mul-items c = search needs
@@ -50,7 +50,7 @@ loop-less-2 : tie.Need-loop-less-2 Inv-loop μ-loop
 loop-less-2 c = search needs
 
 loop-again-2 : tie.Need-loop-again-2 Inv-loop μ-loop
-loop-again-2 c = (search located-put, omega arith, omega arith, omega arith, search needs, search needs)
+loop-again-2 c = (search located-put, search rest-put, omega arith, omega arith, omega arith, search needs, search needs)
 
 returns : tie.Need-returns Inv-loop μ-loop
 returns c = search located-end
