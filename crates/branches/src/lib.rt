@@ -9,7 +9,7 @@ fn put_branch(out: &mut [u8], at: usize, row: u8) -> usize
     ensures { λ r. ⌜ Written (now (out .entry)) at (branchText row) (now (out .exit)) r ⌝ }
 {
     let group = groups::row_at(row);
-    let n = group.branch_len;
+    let n = group.branch_len as usize;
     let branch = group.branch;
     emit::put_text(out, at, &branch[0..n])
 }

@@ -8,7 +8,7 @@ use mathlib.Core.Path.{_≡_, refl, sym, ap, _∙_}
 use mathlib.Core.Bool.{Bool, true, false, cond, true≢false}
 use mathlib.Core.List.{List, [], _∷_, map}
 use lib.Dec.{leb, eqb}
-use lib.ListN.{length, getD, take, drop, drop-of-length-le}
+use lib.ListN.{length, getD, take, drop, drop-of-length-le, length-map}
 use lib.Seq.{drop-cons}
 use borrow.Author.Tests.{leb-true, eqb-true}
 use Rattle.scan.specs.Part.{sameBytes}
@@ -52,6 +52,14 @@ both true b e = (refl, e)
 both false b e = absurd (true≢false (sym e))
 
 -- the code's rows are the table's entries, and their lengths are within their arrays
+pub record Table (l : List Row) : Type 0 where
+  pub rows : map entryOf l ≡ entries
+  pub fits : every short l ≡ true
+
+long : length entries ≡ 17
+unfolding entries
+long = refl
+
 pub row-rule : (l : List Row) (i : ℕ) (d : Row) → map entryOf l ≡ entries → every short l ≡ true → i < length l → RowIs i (getD l i d)
 unfolding entryAt
 row-rule l i d e f h =
@@ -62,9 +70,12 @@ row-rule l i d e f h =
       branch-fits = leb-true _ 12 (s .1);
     }
 
-long : length entries ≡ 17
-unfolding entries
-long = refl
+module _ (l : List Row) (w : Table l) where
+  pub table-length : length l ≡ 17
+  table-length = sym (length-map l entryOf) ∙ ap (λ (k : List Entry). length k) (w .rows) ∙ long
+
+  pub table-row : (i : ℕ) (d : Row) → i < 17 → RowIs i (getD l i d)
+  table-row i d h = row-rule l i d (w .rows) (w .fits) (omega (arith, table-length))
 
 getD-past : {A : Type 0} (l : List A) (i : ℕ) (d : A) → length l ≤ i → getD l i d ≡ d
 getD-past [] i d h = refl

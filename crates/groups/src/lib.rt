@@ -18,9 +18,9 @@ pub const KETO: u8 = 12;
 
 // One group: its abbreviation, the branch that its carbon carries, and the atoms of that branch.
 pub struct Row {
-    pub abbr_len: usize,
+    pub abbr_len: u8,
     pub abbr: [u8; MAX_ABBR],
-    pub branch_len: usize,
+    pub branch_len: u8,
     pub branch: [u8; MAX_BRANCH],
     pub atoms: u8,
 }
@@ -211,23 +211,26 @@ pub enum Found {
     Nothing,
 }
 
-// Whether s is the abbreviation of row i.
-fn named(s: &[u8], i: u8) -> bool
+// Whether s is the abbreviation of row i, which is at hand.
+fn named(s: &[u8], i: u8, row: Row) -> bool
+    requires { ⌜ RowIs i row ⌝ }
     ensures { λ b. ⌜ b ≡ sameBytes (now (s .entry)) (entryAt i .abbr) ⌝ }
 {
-    let r = row_at(i);
-    let n = r.abbr_len;
-    let abbr = r.abbr;
+    let n = row.abbr_len as usize;
+    let abbr = row.abbr;
     scan::same(s, &abbr[0..n])
 }
 
-// The row of the table with an abbreviation.
+// The row of the table with an abbreviation. The rows are laid out once for the whole search.
 fn lookup(s: &[u8]) -> Found
     ensures { λ r. ⌜ r ≡ lookupFrom 0 entries (now (s .entry)) ⌝ }
 {
+    let rows = ROWS;
     let mut i = 0;
     while i < ROW_COUNT {
-        if named(s, i) {
+        let at = i as usize;
+        let row = rows[at];
+        if named(s, i, row) {
             return Found::At(i);
         }
         i += 1;

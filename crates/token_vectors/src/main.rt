@@ -66,7 +66,7 @@ fn put_bonds(out: &mut [u8], at: usize, chain: ParsedChain) -> usize {
 
 fn put_branch(out: &mut [u8], at: usize, row: u8) -> usize {
     let r = groups::row_at(row);
-    let n = r.branch_len;
+    let n = r.branch_len as usize;
     let branch = r.branch;
     emit::put_text(out, at, &branch[0..n])
 }

@@ -4,8 +4,8 @@ use borrow.Author.Needs.{needs}
 use Rattle.groups.proofs.named.Statement.{statement}
 use Rattle.groups.proofs.named.Tie as tie
 
-row-at-requires : tie.Need-row-at-requires
-row-at-requires c κs = search needs
+cast-n : tie.Need-cast-n
+cast-n c = search needs
 
 sub-same : tie.Need-sub-same
 sub-same c = search needs
@@ -24,5 +24,4 @@ returns c = search named-is
 
 pub named-spec : {M : Type 1} → statement M
 named-spec =
-    tie.close
-    (tie.spec row-at-requires sub-same part-same-start part-same-end same-requires returns)
+    tie.close (tie.spec cast-n sub-same part-same-start part-same-end same-requires returns)
