@@ -142,19 +142,19 @@ fn branch_offset(b: Branch) -> u16
     }
 }
 
-// A chain with a branch word: one carbon of those written is the methyl.
-fn branched_chain(prefix: ChainPrefix, offset: u16, written: u16) -> Parsed
+// A chain with a branch word: one carbon of those written is the methyl. The chain is made in the room of one at hand.
+fn branched_chain(prefix: ChainPrefix, offset: u16, written: u16, room: ParsedChain) -> Parsed
     requires { ⌜ offset ≤ 2 ⌝ }
     ensures { λ r. ⌜ Stands r (branched prefix offset written) ⌝ }
 {
     if written < offset + 3 {
         return Parsed {
             refusal: record::UNREADABLE,
-            chain: ParsedChain::new(prefix, written, written, true),
+            chain: room,
         };
     }
     let carbon = written - 1;
-    let chain = ParsedChain::new(prefix, written, carbon, true);
+    let chain = room.emptied(prefix, written, carbon, true);
     let methyl = Mod {
         pos: (carbon - offset) as u32,
         row: METHYL,
@@ -167,35 +167,35 @@ fn branched_chain(prefix: ChainPrefix, offset: u16, written: u16) -> Parsed
 }
 
 // The chain of so many written carbons, with its methyl.
-fn start_chain(prefix: ChainPrefix, branch: Branch, written: u16) -> Parsed
+fn start_chain(prefix: ChainPrefix, branch: Branch, written: u16, room: ParsedChain) -> Parsed
     ensures { λ r. ⌜ Stands r (startChain prefix branch written) ⌝ }
 {
     let offset = branch_offset(branch);
     match branch {
-        Branch::Straight => Parsed {
-            refusal: 0,
-            chain: ParsedChain::new(prefix, written, written, false),
-        },
-        Branch::Iso => branched_chain(prefix, offset, written),
-        Branch::Anteiso => branched_chain(prefix, offset, written),
+        Branch::Straight => {
+            let chain = room.emptied(prefix, written, written, false);
+            Parsed { refusal: 0, chain }
+        }
+        Branch::Iso => branched_chain(prefix, offset, written, room),
+        Branch::Anteiso => branched_chain(prefix, offset, written, room),
     }
 }
 
 // The chain that a carbon text says.
-pub fn parse_carbons(text: &[u8], prefix: ChainPrefix, branch: Branch) -> Parsed
+pub fn parse_carbons(text: &[u8], prefix: ChainPrefix, branch: Branch, room: ParsedChain) -> Parsed
     ensures { λ r. ⌜ Stands r (carbonsOf prefix branch (now (text .entry))) ⌝ }
 {
     let Number::Value(n) = scan::read_number(text, 4294967295) else {
         return Parsed {
             refusal: record::UNREADABLE,
-            chain: ParsedChain::new(prefix, 0, 0, false),
+            chain: room,
         };
     };
     if (record::MAX_CARBONS as u64) < n {
         return Parsed {
             refusal: record::OVER_LIMIT,
-            chain: ParsedChain::new(prefix, 0, 0, false),
+            chain: room,
         };
     }
-    start_chain(prefix, branch, n as u16)
+    start_chain(prefix, branch, n as u16, room)
 }

@@ -1,34 +1,35 @@
 -- Laws of positions and of lists of double bonds: one for each way out.
 -- Assumes nothing.
-use Prim.Native.Nat.{ℕ, _-_, _≤_, _<_}
+use Prim.Native.Nat.{ℕ, _+_, _-_, _≤_, _<_}
 use native.Mathlib.Nat.{sub-zero}
 use native.Mathlib.Omega.{arith}
 use mathlib.Core.Path.{_≡_, refl, sym, ap, _∙_}
 use mathlib.Core.Bool.{Bool, true, false, cond}
 use mathlib.Core.List.{List}
-use lib.ListN.{length, take, getD}
-use lib.Dec.{eqb}
+use lib.ListN.{length, take, drop, getD}
+use lib.Dec.{eqb, ltb}
 use borrow.Author.Tests.{lt-ltb, le-ltb, eq-eqb, ne-eqb}
 use mir.Syntax.{w32}
 use mir.Val.{Fits}
-use Rattle.scan.specs.Part.{trimmed}
+use Rattle.scan.specs.Part.{trimmed, Place, indexOf}
 use Rattle.scan.specs.Number.{numberUpTo, numberLimit}
 use Rattle.scan.specs.declared.Number.{Number}
 use Rattle.scan.specs.declared.Number.the-variants.{Value as Number·Value, Unreadable as Number·Unreadable}
 use Rattle.scan.proofs.Laws.{number-bound}
-use Rattle.form.specs.Parts.{listParts}
+use Rattle.form.specs.Parts.{partsAt, listParts}
 use Rattle.record.specs.declared.DbPos.{DbPos}
 use Rattle.record.specs.declared.Geometry.{Geometry}
 use Rattle.record.specs.declared.Geometry.the-variants.{Unstated, Cis, Trans}
 use Rattle.record.specs.declared.ParsedChain.{ParsedChain}
 use Rattle.record.specs.declared.Parsed.{Parsed}
-use Rattle.record.specs.Chain.{Chain, withBond, Gives, Takes}
+use Rattle.record.specs.Chain.{Chain, Outcome, Refused, unreadable, withBond, Gives, Takes}
 use Rattle.record.proofs.Laws.{gives-read, gives-same}
 use Rattle.positions.specs.declared.Position.{Position}
 use Rattle.positions.specs.declared.Position.the-variants.{At, Unreadable}
-use Rattle.positions.specs.Positions.{geometryOf, positioned, numbered, lettered, positionOf, withPosition, bondAt, bondList, inside, ringBondAt, ringBondList}
+use Rattle.positions.specs.Positions.{geometryOf, positioned, numbered, lettered, positionOf, withPosition, bondAt, bondList, inside, within, ringPosition, ringBondAt, ringBondList}
 use Rattle.positions.proofs.Refusals.{gives-11}
-use Rattle.positions.proofs.Each.{each-same}
+use Rattle.positions.specs.Each.{each}
+use Rattle.positions.proofs.Each.{Onward, each-stop, each-last, each-more, each-same}
 
 -- ---- one position
 
@@ -63,25 +64,65 @@ module _ (s t : List ℕ) (e : t ≡ trimmed s) where
     unfolding positionOf
     position-trans h k = k ∙ rw (← e, ne-eqb (length t) 0 n, ← f, h, sub-zero (length t - 1))
 
--- ---- one double bond
+-- ---- a position of a ring
 
-module _ (s : List ℕ) (start end : ℕ) (c : ParsedChain) (p : Position) (e : p ≡ positionOf s) where
-  pub bond-unreadable : (r : Parsed) → p ≡ Unreadable → r .refusal ≡ 11 → Gives c r (ringBondAt start end s)
-  unfolding ringBondAt
-  bond-unreadable r f g = gives-11 c r (ringBondAt start end s) g (λ d k. rw (sym e ∙ f))
+module _ (s : List ℕ) (start end : ℕ) (p : Position) (e : p ≡ positionOf s) where
+  pub ring-unreadable : p ≡ Unreadable → Unreadable ≡ ringPosition start end s
+  unfolding ringPosition
+  ring-unreadable f = sym (rw (sym e ∙ f))
 
   module _ (b : DbPos) (f : p ≡ At b) where
-    pub bond-below : (r : Parsed) → b .pos < start → r .refusal ≡ 11 → Gives c r (ringBondAt start end s)
-    unfolding ringBondAt
-    bond-below r h g = gives-11 c r (ringBondAt start end s) g (λ d k. rw (sym e ∙ f, lt-ltb (b .pos) start h))
+    pub ring-below : b .pos < start → Unreadable ≡ ringPosition start end s
+    unfolding ringPosition
+    ring-below h = sym (rw (sym e ∙ f, lt-ltb (b .pos) start h))
 
-    pub bond-above : (r : Parsed) → start ≤ b .pos → end ≤ b .pos → r .refusal ≡ 11 → Gives c r (ringBondAt start end s)
-    unfolding ringBondAt
-    bond-above r h l g = gives-11 c r (ringBondAt start end s) g (λ d k. rw (sym e ∙ f, le-ltb (b .pos) start h, le-ltb (b .pos) end l))
+    pub ring-above : start ≤ b .pos → end ≤ b .pos → Unreadable ≡ ringPosition start end s
+    unfolding ringPosition
+    ring-above h l = sym (rw (sym e ∙ f, le-ltb (b .pos) start h, le-ltb (b .pos) end l))
 
-    pub bond-inside : (q : ParsedChain) → start ≤ b .pos → b .pos < end → Takes c q (withBond b) → Gives c (record { refusal = 0; chain = q }) (ringBondAt start end s)
-    unfolding ringBondAt
-    bond-inside q h l w = gives-same (gives-read w) (λ d k. sym (rw (sym e ∙ f, le-ltb (b .pos) start h, lt-ltb (b .pos) end l)))
+    pub ring-inside : start ≤ b .pos → b .pos < end → At b ≡ ringPosition start end s
+    unfolding ringPosition
+    ring-inside h l = sym (rw (sym e ∙ f, le-ltb (b .pos) start h, lt-ltb (b .pos) end l))
+
+-- ---- one double bond
+
+cond-apart : {A B : Type 0} (f : A → B) (b : Bool) (x y : A) → f (cond b x y) ≡ cond b (f x) (f y)
+cond-apart f true x y = refl
+cond-apart f false x y = refl
+
+-- to add a bond within a ring is to add its position, if that is within the ring
+ring-bond : (start end : ℕ) (s : List ℕ) (d : Chain) → ringBondAt start end s d ≡ withPosition (ringPosition start end s) d
+unfolding ringBondAt ringPosition
+ring-bond start end s d = go (positionOf s)
+  where
+    add : Position → Outcome
+    add p = withPosition p d
+
+    go : (p : Position) → inside start end p d ≡ withPosition (within start end p) d
+    go (At b) =
+        sym (cond-apart add (ltb (b .pos) start) Unreadable (cond (ltb (b .pos) end) (At b) Unreadable)
+        ∙ ap (λ (o : Outcome). cond (ltb (b .pos) start) (Refused unreadable) o) (cond-apart add (ltb (b .pos) end) (At b) Unreadable))
+    go Unreadable = refl
+
+module _ (start end : ℕ) (e c : ParsedChain) (whole : Chain → Outcome) (t : List ℕ) (n : ℕ) (p : Position)
+    (o : Onward e c whole (each (ringBondAt start end) (partsAt 44 t))) (f : Place t (indexOf 44 t) n) (g : p ≡ ringPosition start end (take (n - 0) t)) where
+  -- a part that cannot be read ends the loop
+  pub bond-unreadable : (r : Parsed) → p ≡ Unreadable → r .refusal ≡ 11 → Gives e r whole
+  bond-unreadable r h k =
+      each-stop (ringBondAt start end) 44 e c whole t n r o f
+      (gives-11 c r (ringBondAt start end (take (n - 0) t)) k (λ d w. ring-bond start end (take (n - 0) t) d ∙ rw (sym g ∙ h))) (λ z. absurd (omega arith))
+
+  module _ (b : DbPos) (h : p ≡ At b) (q : ParsedChain) (w : Takes c q (withBond b)) where
+    added : Gives c (record { refusal = 0; chain = q }) (ringBondAt start end (take (n - 0) t))
+    added = gives-same (gives-read w) (λ d k. sym (ring-bond start end (take (n - 0) t) d ∙ rw (sym g ∙ h)))
+
+    -- so does the last part
+    pub bond-last : n ≡ length t → Gives e (record { refusal = 0; chain = q }) whole
+    bond-last l = each-last (ringBondAt start end) 44 e c whole t n (record { refusal = 0; chain = q }) o f added l
+
+    -- a double bond more, and more to come
+    pub bond-more : (n ≡ length t → ⊥) → Onward e q whole (each (ringBondAt start end) (partsAt 44 (take (length t - (n + 1)) (drop (n + 1) t))))
+    bond-more l = each-more (ringBondAt start end) 44 e c whole t n (record { refusal = 0; chain = q }) o f added l refl
 
 -- ---- the list
 

@@ -58,6 +58,14 @@ abbrev pub inside : ℕ → ℕ → Position → Chain → Outcome
 inside start end (At b) d = cond (ltb (b .pos) start) (Refused unreadable) (cond (ltb (b .pos) end) (Read (withBond b d)) (Refused unreadable))
 inside start end Unreadable d = Refused unreadable
 
+-- the same of the position alone
+abbrev pub within : ℕ → ℕ → Position → Position
+within start end (At b) = cond (ltb (b .pos) start) Unreadable (cond (ltb (b .pos) end) (At b) Unreadable)
+within start end Unreadable = Unreadable
+
+unfoldable pub ringPosition : ℕ → ℕ → List ℕ → Position
+ringPosition start end s = within start end (positionOf s)
+
 unfoldable pub ringBondAt : ℕ → ℕ → List ℕ → Chain → Outcome
 ringBondAt start end s d = inside start end (positionOf s) d
 

@@ -8,7 +8,7 @@ use record::ParsedChain;
 use scan::Number;
 ghost use mathlib.Core.Path.{_≡_};
 ghost use Rattle.record.specs.Chain.{Gives};
-ghost use Rattle.positions.specs.Positions.{geometryOf, numbered, positionOf, bondList, ringBondAt, ringBondList};
+ghost use Rattle.positions.specs.Positions.{geometryOf, numbered, positionOf, bondList, ringPosition, ringBondList};
 
 // Refusal 11. The record beside it says nothing.
 pub fn unreadable(chain: ParsedChain) -> Parsed
@@ -75,28 +75,24 @@ fn read_position(s: &[u8]) -> Position
     }
 }
 
-// One double bond more, from the carbon `start` up to, not including, the carbon `end`.
-fn parse_bond(s: &[u8], start: u64, end: u64, chain: ParsedChain) -> Parsed
-    ensures { λ r. ⌜ Gives chain r (ringBondAt start end (now (s .entry))) ⌝ }
+// A position from the carbon `start` up to, not including, the carbon `end`.
+fn read_ring_position(s: &[u8], start: u64, end: u64) -> Position
+    ensures { λ r. ⌜ r ≡ ringPosition start end (now (s .entry)) ⌝ }
 {
     let Position::At(bond) = read_position(s) else {
-        return unreadable(chain);
+        return Position::Unreadable;
     };
     let pos = bond.pos as u64;
     if pos < start {
-        return unreadable(chain);
+        return Position::Unreadable;
     }
     if end <= pos {
-        return unreadable(chain);
+        return Position::Unreadable;
     }
-    let longer = chain.push_bond(bond);
-    Parsed {
-        refusal: 0,
-        chain: longer,
-    }
+    Position::At(bond)
 }
 
-// The double bonds that the list of a ring from `start` to `end` gives.
+// The double bonds that the list of a ring from `start` to `end` gives. Each position is read before the chain is touched.
 pub fn parse_ring_bonds(s: &[u8], start: u64, end: u64, chain: ParsedChain) -> Parsed
     ensures { λ r. ⌜ Gives chain r (ringBondList start end (now (s .entry))) ⌝ }
 {
@@ -107,16 +103,17 @@ pub fn parse_ring_bonds(s: &[u8], start: u64, end: u64, chain: ParsedChain) -> P
     let mut c = chain;
     loop {
         let n = scan::find(t, b',');
-        let parsed = parse_bond(&t[0..n], start, end, c);
-        let refusal = parsed.refusal;
-        if refusal != 0 {
-            return parsed;
-        }
+        let Position::At(bond) = read_ring_position(&t[0..n], start, end) else {
+            return unreadable(c);
+        };
+        let longer = c.push_bond(bond);
+        c = longer;
         if n == t.len() {
-            return parsed;
+            return Parsed {
+                refusal: 0,
+                chain: c,
+            };
         }
-        let next = parsed.chain;
-        c = next;
         t = &t[n + 1..];
     }
 }

@@ -114,6 +114,35 @@ impl ParsedChain {
         }
     }
 
+    // The same in the room of a chain that is at hand: to copy its arrays is quicker than to fill new ones.
+    pub fn emptied(
+        self,
+        prefix: ChainPrefix,
+        written: u16,
+        carbon: u16,
+        branched: bool,
+    ) -> ParsedChain
+        ensures { λ r. ⌜ Holds r (noFeatures prefix written carbon branched) ⌝ }
+    {
+        let bonds = self.bonds;
+        let groups = self.groups;
+        let rings = self.rings;
+        ParsedChain {
+            prefix,
+            written,
+            carbon,
+            branched,
+            unlocated: 0,
+            oxygens: 0,
+            bond_count: 0,
+            bonds,
+            group_count: 0,
+            groups,
+            ring_count: 0,
+            rings,
+        }
+    }
+
     // One double bond more.
     pub fn push_bond(mut self, bond: DbPos) -> ParsedChain
         ensures { λ r. ⌜ Takes self r (withBond bond) ⌝ }

@@ -10,8 +10,8 @@ use mir.Val.{Fits}
 use mathlib.Core.Path.{_≡_, refl, sym, ap, _∙_}
 use mathlib.Core.Bool.{Bool, true, false, not, cond, true≢false}
 use mathlib.Core.List.{List, [], _∷_, _++_}
-use lib.ListN.{length, take, drop, getD, set, length-append}
-use lib.Seq.{take-suc, take-suc-set, take-all}
+use lib.ListN.{length, take, drop, getD, set, length-append, length-set}
+use lib.Seq.{take-suc, take-suc-set, take-all, take-add}
 use lib.Dec.{eqb, ltb, leb}
 use borrow.Author.Tests.{lt-ltb, le-ltb, eq-eqb, ne-eqb, not-true, not-false}
 use Rattle.scan.specs.Part.{trimmed, indexOf, startsWith, sameBytes, Place}
@@ -36,7 +36,7 @@ use Rattle.segment.specs.Segment.{segments}
 use Rattle.token.specs.declared.Missing.{Missing}
 use Rattle.token.specs.declared.Missing.the-variants.{Seated as Missing·Seated, Unseated}
 use Rattle.token.specs.declared.Request.{Request}
-use Rattle.token.specs.Request.{Verdict, All, First, withToken, tokensFrom, tokensOf, HoldsAll, none, more, RequestIs, Follows}
+use Rattle.token.specs.Request.{Verdict, All, First, withToken, tokensFrom, tokensOf, HoldsAll, none, more, RequestIs}
 use Rattle.token.specs.Token.{missingOf, bareOxygens, finished, restOf, countedList, listedOf, afterCount, bondsOf, namedChain, emptyText, trimmedOf, printable, allPrintable, tokenOf, MissingIs, Bare, Begun, Begins}
 
 -- ---- bytes
@@ -274,64 +274,96 @@ holds-one : {cs : List ParsedChain} {ds : List Chain} {c : ParsedChain} {d : Cha
 holds-one none k = more k none
 holds-one (more h hs) k = more h (holds-one hs k)
 
-module _ (q : Request) (t : List ℕ) where
-  pub request-stays : (q .refusal ≡ 0 → ⊥) → Follows q t q
-  request-stays n = record { is = stays; few = omega arith }
+-- r is the request q after one token more
+record Follows (q : Request) (t : List ℕ) (r : Request) : Type 0 where
+  is : (v : Verdict) → RequestIs q v → RequestIs r (withToken v (tokenOf t))
+
+module _ (q : Request) (i : ℕ) (t : List ℕ) (z : q .refusal ≡ 0) (c : q .count ≡ i) (p : Parsed) (w : Stands p (tokenOf t)) where
+  request-refused : (p .refusal ≡ 0 → ⊥) → Follows q t (record { refusal = p .refusal; place = i + 1; count = q .count; chains = q .chains })
+  request-refused n = record { is = λ v k. go (tokenOf t) v w k }
     where
-      stays : (v : Verdict) → RequestIs q v → RequestIs q (withToken v (tokenOf t))
-      stays (All ds) w = absurd (n (w .0))
-      stays (First m p) w = w
+      go : (o : Outcome) (v : Verdict) → Stands p o → RequestIs q v → RequestIs (record { refusal = p .refusal; place = i + 1; count = q .count; chains = q .chains }) (withToken v o)
+      go (Read d) v s k = absurd (n (s .0))
+      go (Refused m) (All ds) s k = (s .0, ap (λ (x : ℕ). x + 1) (sym c ∙ k .2), s .1)
+      go (Refused m) (First a b) s k = absurd (omega (arith, k .0, k .2))
 
-  module _ (z : q .refusal ≡ 0) (p : Parsed) (w : Stands p (tokenOf t)) where
-    pub request-refused : (p .refusal ≡ 0 → ⊥) → Follows q t (record { refusal = p .refusal; place = q .count + 1; count = q .count; chains = q .chains })
-    request-refused n = record { is = λ v k. go (tokenOf t) v w k; few = omega arith }
-      where
-        go : (o : Outcome) (v : Verdict) → Stands p o → RequestIs q v → RequestIs (record { refusal = p .refusal; place = q .count + 1; count = q .count; chains = q .chains }) (withToken v o)
-        go (Read d) v s k = absurd (n (s .0))
-        go (Refused m) (All ds) s k = (s .0, ap (λ (x : ℕ). x + 1) (k .2), s .1)
-        go (Refused m) (First a b) s k = absurd (omega (arith, k .0, k .2))
+  request-more : p .refusal ≡ 0 → length (q .chains) ≡ 4 → i < 4
+      → Follows q t (record { refusal = q .refusal; place = q .place; count = i + 1; chains = set (q .chains) i (p .chain) })
+  request-more e l h = record { is = λ v k. go (tokenOf t) v w k }
+    where
+      go : (o : Outcome) (v : Verdict) → Stands p o → RequestIs q v
+          → RequestIs (record { refusal = q .refusal; place = q .place; count = i + 1; chains = set (q .chains) i (p .chain) }) (withToken v o)
+      go (Read d) (All ds) s k =
+          let one : take (i + 1) (set (q .chains) i (p .chain)) ≡ take i (q .chains) ++ (p .chain ∷ []) = rw (add-one i) (take-suc-set (q .chains) i (p .chain) (omega arith)) in
+          let before : HoldsAll (take i (q .chains)) ds = rw c at (k .3) in
+          (k .0, k .1, omega (arith, k .2, length-append ds (d ∷ [])), rw one (holds-one before (s .1)))
+      go (Read d) (First a b) s k = absurd (omega (arith, k .0, k .2))
+      go (Refused m) v s k = absurd (omega (arith, s .0, s .1))
 
-    pub request-more : p .refusal ≡ 0 → length (q .chains) ≡ 4 → q .count < 4
-        → Follows q t (record { refusal = q .refusal; place = q .place; count = q .count + 1; chains = set (q .chains) (q .count) (p .chain) })
-    request-more e l h = record { is = λ v k. go (tokenOf t) v w k; few = omega arith }
-      where
-        go : (o : Outcome) (v : Verdict) → Stands p o → RequestIs q v
-            → RequestIs (record { refusal = q .refusal; place = q .place; count = q .count + 1; chains = set (q .chains) (q .count) (p .chain) }) (withToken v o)
-        go (Read d) (All ds) s k =
-            let one : take (q .count + 1) (set (q .chains) (q .count) (p .chain)) ≡ take (q .count) (q .chains) ++ (p .chain ∷ []) = rw (add-one (q .count)) (take-suc-set (q .chains) (q .count) (p .chain) (omega arith)) in
-            (k .0, k .1, omega (arith, k .2, length-append ds (d ∷ [])), rw one (holds-one (k .3) (s .1)))
-        go (Read d) (First a b) s k = absurd (omega (arith, k .0, k .2))
-        go (Refused m) v s k = absurd (omega (arith, s .0, s .1))
-
-tokens-one : (v : Verdict) (ts : List (List ℕ)) (t : List ℕ) → tokensFrom v (ts ++ (t ∷ [])) ≡ withToken (tokensFrom v ts) (tokenOf t)
+tokens-append : (v : Verdict) (ts us : List (List ℕ)) → tokensFrom v (ts ++ us) ≡ tokensFrom (tokensFrom v ts) us
 unfolding tokensFrom
-tokens-one v [] t = refl
-tokens-one v (s ∷ ts) t = tokens-one (withToken v (tokenOf s)) ts t
+tokens-append v [] us = refl
+tokens-append v (s ∷ ts) us = tokens-append (withToken v (tokenOf s)) ts us
+
+-- after a refusal no token counts
+first-stays : (n p : ℕ) (ts : List (List ℕ)) → tokensFrom (First n p) ts ≡ First n p
+unfolding tokensFrom
+first-stays n p [] = refl
+first-stays n p (t ∷ ts) = first-stays n p ts
+
+refusal-stays : (r : Request) (v : Verdict) (ts : List (List ℕ)) → (r .refusal ≡ 0 → ⊥) → RequestIs r v → RequestIs r (tokensFrom v ts)
+refusal-stays r (All ds) ts n k = absurd (n (k .0))
+refusal-stays r (First m p) ts n k = rw (first-stays m p ts) k
 
 pub tokens-none : (sn1 sn2 sn3 sn4 : List ℕ) (q : Request) → RequestIs q (All []) → RequestIs q (tokensOf (take 0 (sn1 ∷ sn2 ∷ sn3 ∷ sn4 ∷ [])))
 unfolding tokensOf tokensFrom
 tokens-none sn1 sn2 sn3 sn4 q k = k
 
-module _ (sn1 sn2 sn3 sn4 : List ℕ) (i : ℕ) where
+-- the first i tokens are read, and none of them is refused
+pub record Reading (sn1 sn2 sn3 sn4 : List ℕ) (i : ℕ) (q : Request) : Type 0 where
+  pub is : RequestIs q (tokensOf (take i (sn1 ∷ sn2 ∷ sn3 ∷ sn4 ∷ [])))
+  pub read : q .refusal ≡ 0
+  pub counted : q .count ≡ i
+  pub long : length (q .chains) ≡ 4
+
+module _ (sn1 sn2 sn3 sn4 : List ℕ) where
+  pub reading-start : (q : Request) → RequestIs q (All []) → length (q .chains) ≡ 4 → Reading sn1 sn2 sn3 sn4 0 q
+  reading-start q k l = record { is = tokens-none sn1 sn2 sn3 sn4 q k; read = k .0; counted = k .2; long = l }
+
   four : List (List ℕ)
   four = sn1 ∷ sn2 ∷ sn3 ∷ sn4 ∷ []
 
-  pub fourth : i < 4 → (i ≡ 0 → ⊥) → (i ≡ 1 → ⊥) → (i ≡ 2 → ⊥) → sn4 ≡ getD (sn1 ∷ sn2 ∷ sn3 ∷ sn4 ∷ []) i []
-  fourth h a b c = let e : i ≡ 3 = omega arith in rw e
+  pub fourth : (i : ℕ) → i < 4 → (i ≡ 0 → ⊥) → (i ≡ 1 → ⊥) → (i ≡ 2 → ⊥) → sn4 ≡ getD (sn1 ∷ sn2 ∷ sn3 ∷ sn4 ∷ []) i []
+  fourth i h a b c = let e : i ≡ 3 = omega arith in rw e
 
-  module _ (q : Request) (k : RequestIs q (tokensOf (take i (sn1 ∷ sn2 ∷ sn3 ∷ sn4 ∷ [])))) where
-    -- a turn: one token more
-    pub tokens-more : (t : List ℕ) (r : Request) → i < 4 → t ≡ getD (sn1 ∷ sn2 ∷ sn3 ∷ sn4 ∷ []) i [] → Follows q t r
+  module _ (i : ℕ) (q : Request) (k : Reading sn1 sn2 sn3 sn4 i q) where
+    one-more : (t : List ℕ) (r : Request) → i < 4 → t ≡ getD (sn1 ∷ sn2 ∷ sn3 ∷ sn4 ∷ []) i [] → Follows q t r
         → RequestIs r (tokensOf (take (i + 1) (sn1 ∷ sn2 ∷ sn3 ∷ sn4 ∷ [])))
-    unfolding tokensOf four
-    tokens-more t r h e f =
+    unfolding tokensOf tokensFrom four
+    one-more t r h e f =
         let s : take (i + 1) four ≡ take i four ++ (t ∷ []) = rw (add-one i, take-suc four i [] (omega arith), e) in
-        rw (s, tokens-one (All []) (take i four) t) (f .is (tokensFrom (All []) (take i four)) k)
+        rw (s, tokens-append (All []) (take i four) (t ∷ [])) (f .is (tokensFrom (All []) (take i four)) (k .is))
+
+    module _ (t : List ℕ) (p : Parsed) (h : i < 4) (e : t ≡ getD (sn1 ∷ sn2 ∷ sn3 ∷ sn4 ∷ []) i []) (w : Stands p (tokenOf t)) where
+      -- a turn: one token more
+      pub tokens-more : p .refusal ≡ 0
+          → Reading sn1 sn2 sn3 sn4 (i + 1) (record { refusal = q .refusal; place = q .place; count = i + 1; chains = set (q .chains) i (p .chain) })
+      tokens-more z =
+          record { is = one-more t _ h e (request-more q i t (k .read) (k .counted) p w z (k .long) h); read = k .read; counted = refl; long = length-set (q .chains) i (p .chain) ∙ k .long }
+
+      -- a refusal ends the reading
+      pub tokens-stop : (n : ℕ) → (p .refusal ≡ 0 → ⊥) → i < n
+          → RequestIs (record { refusal = p .refusal; place = i + 1; count = q .count; chains = q .chains }) (tokensOf (take n (sn1 ∷ sn2 ∷ sn3 ∷ sn4 ∷ [])))
+      unfolding tokensOf four
+      tokens-stop n z g =
+          let m : i + 1 + (n - (i + 1)) ≡ n = omega arith in
+          let s : take n four ≡ take (i + 1) four ++ take (n - (i + 1)) (drop (i + 1) four) = sym (ap (λ (x : ℕ). take x four) m) ∙ take-add (i + 1) (n - (i + 1)) four in
+          rw (s, tokens-append (All []) (take (i + 1) four) (take (n - (i + 1)) (drop (i + 1) four))) (refusal-stays _ _ _ z (one-more t _ h e (request-refused q i t (k .read) (k .counted) p w z)))
 
     pub tokens-all : (n : ℕ) → i ≤ n → n ≤ i → RequestIs q (tokensOf (take n (sn1 ∷ sn2 ∷ sn3 ∷ sn4 ∷ [])))
-    tokens-all n h l = let e : i ≡ n = omega arith in rw e at k
+    tokens-all n h l = let e : i ≡ n = omega arith in rw e at (k .is)
 
     -- there are no more than four
     pub tokens-four : (n : ℕ) → 4 ≤ i → i < n → RequestIs q (tokensOf (take n (sn1 ∷ sn2 ∷ sn3 ∷ sn4 ∷ [])))
     unfolding four
-    tokens-four n h l = rw (take-all i four (omega arith), ← take-all n four (omega arith)) at k
+    tokens-four n h l = rw (take-all i four (omega arith), ← take-all n four (omega arith)) at (k .is)

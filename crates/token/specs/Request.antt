@@ -38,8 +38,3 @@ pub data HoldsAll : List ParsedChain → List Chain → Type 0 where
 abbrev pub RequestIs : Request → Verdict → Type 0
 RequestIs r (All ds) = (r .refusal ≡ 0) × (r .place ≡ 0) × (r .count ≡ length ds) × HoldsAll (take (r .count) (r .chains)) ds
 RequestIs r (First n p) = (r .refusal ≡ n) × (r .place ≡ p) × (0 < n)
-
--- r is the request q after one token more
-pub record Follows (q : Request) (t : List ℕ) (r : Request) : Type 0 where
-  pub is : (v : Verdict) → RequestIs q v → RequestIs r (withToken v (tokenOf t))
-  pub few : r .count ≤ q .count + 1

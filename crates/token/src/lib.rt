@@ -11,7 +11,7 @@ ghost use mathlib.Core.List.{[], _∷_};
 ghost use lib.ListN.{getD, take};
 ghost use Rattle.record.specs.Chain.{Stands, Gives};
 ghost use Rattle.token.specs.Token.{printable, allPrintable, MissingIs, bareOxygens, Bare, finished, restOf, countedList, Begins, listedOf, afterCount, bondsOf, namedChain, trimmedOf, tokenOf};
-ghost use Rattle.token.specs.Request.{RequestIs, Follows, All, tokensOf};
+ghost use Rattle.token.specs.Request.{RequestIs, All, tokensOf};
 
 // The longest token.
 const MAX_BYTES: usize = 255;
@@ -168,18 +168,18 @@ fn parse_bonds(s: &[u8], chain: ParsedChain) -> Parsed
     parse_after_count(declared, &s[n..], chain)
 }
 
-// A chain without branch word and prefix.
-fn parse_named(prefix: ChainPrefix, branch: Branch, s: &[u8]) -> Parsed
+// A chain without branch word and prefix. It is made in the room of a chain at hand, which a refusal carries back.
+fn parse_named(prefix: ChainPrefix, branch: Branch, s: &[u8], room: ParsedChain) -> Parsed
     ensures { λ r. ⌜ Stands r (namedChain prefix branch (now (s .entry))) ⌝ }
 {
     let n = scan::find(s, b':');
     if n == s.len() {
         return Parsed {
             refusal: record::UNREADABLE,
-            chain: ParsedChain::new(prefix, 0, 0, false),
+            chain: room,
         };
     }
-    let parsed = opening::parse_carbons(&s[0..n], prefix, branch);
+    let parsed = opening::parse_carbons(&s[0..n], prefix, branch, room);
     let refusal = parsed.refusal;
     if refusal != 0 {
         return parsed;
@@ -189,39 +189,45 @@ fn parse_named(prefix: ChainPrefix, branch: Branch, s: &[u8]) -> Parsed
 }
 
 // A trimmed token.
-fn parse_trimmed(t: &[u8]) -> Parsed
+fn parse_trimmed(t: &[u8], room: ParsedChain) -> Parsed
     ensures { λ r. ⌜ Stands r (trimmedOf (now (t .entry))) ⌝ }
 {
     if scan::same(t, b"0:0") {
-        return Parsed {
-            refusal: 0,
-            chain: ParsedChain::new(ChainPrefix::Acyl, 0, 0, false),
-        };
+        let chain = room.emptied(ChainPrefix::Acyl, 0, 0, false);
+        return Parsed { refusal: 0, chain };
     }
     let opening = opening::read_opening(t);
     let prefix = opening.prefix;
     let branch = opening.branch;
     let n = opening.carbons;
-    parse_named(prefix, branch, &t[n..])
+    parse_named(prefix, branch, &t[n..], room)
 }
 
 // The chain that a token says.
-pub fn parse_chain_token(s: &[u8]) -> Parsed
+fn parse_token(s: &[u8], room: ParsedChain) -> Parsed
     ensures { λ r. ⌜ Stands r (tokenOf (now (s .entry))) ⌝ }
 {
     if MAX_BYTES < s.len() {
         return Parsed {
             refusal: record::OVER_LIMIT,
-            chain: ParsedChain::new(ChainPrefix::Acyl, 0, 0, false),
+            chain: room,
         };
     }
     if !all_printable(s) {
         return Parsed {
             refusal: record::OVER_LIMIT,
-            chain: ParsedChain::new(ChainPrefix::Acyl, 0, 0, false),
+            chain: room,
         };
     }
-    parse_trimmed(scan::trim(s))
+    parse_trimmed(scan::trim(s), room)
+}
+
+// The chain that one token says, by itself.
+pub fn parse_chain_token(s: &[u8]) -> Parsed
+    ensures { λ r. ⌜ Stands r (tokenOf (now (s .entry))) ⌝ }
+{
+    let room = ParsedChain::new(ChainPrefix::Acyl, 0, 0, false);
+    parse_token(s, room)
 }
 
 // The most tokens of a request.
@@ -237,6 +243,7 @@ pub struct Request {
 }
 
 impl Request {
+    // No token read yet, and room for each.
     fn new() -> Request
         ensures { λ r. ⌜ RequestIs r (All []) ⌝ }
     {
@@ -248,29 +255,6 @@ impl Request {
             count: 0,
             chains,
         }
-    }
-
-    // One token more; after a refusal none is read.
-    fn read_token(mut self, token: &[u8]) -> Request
-        requires { ⌜ self .count < 4 ⌝ }
-        ensures { λ r. ⌜ Follows self (now (token .entry)) r ⌝ }
-    {
-        let refusal = self.refusal;
-        if refusal != 0 {
-            return self;
-        }
-        let at = self.count;
-        let parsed = parse_chain_token(token);
-        let number = parsed.refusal;
-        if number != 0 {
-            self.refusal = number;
-            self.place = at + 1;
-            return self;
-        }
-        let chain = parsed.chain;
-        self.chains[at] = chain;
-        self.count = at + 1;
-        self
     }
 }
 
@@ -291,7 +275,7 @@ fn token_at<'a>(i: usize, sn1: &'a [u8], sn2: &'a [u8], sn3: &'a [u8], sn4: &'a 
     sn4
 }
 
-// The first `count` tokens, in order; of more than four, four.
+// The first `count` tokens, in order; of more than four, four. After a refusal none is read.
 pub fn parse_tokens<'a>(
     count: usize,
     sn1: &'a [u8],
@@ -307,8 +291,18 @@ pub fn parse_tokens<'a>(
         if MAX_TOKENS <= i {
             return request;
         }
-        request = request.read_token(token_at(i, sn1, sn2, sn3, sn4));
+        let room = request.chains[i];
+        let parsed = parse_token(token_at(i, sn1, sn2, sn3, sn4), room);
+        let refusal = parsed.refusal;
+        if refusal != 0 {
+            request.refusal = refusal;
+            request.place = i + 1;
+            return request;
+        }
+        let chain = parsed.chain;
+        request.chains[i] = chain;
         i += 1;
+        request.count = i;
     }
     request
 }

@@ -6,20 +6,17 @@ use Rattle.opening.proofs.branched_chain.Tie as tie
 add-if1 : tie.Need-add-if1
 add-if1 c = search needs
 
-new-requires : tie.Need-new-requires
-new-requires c κs = search needs
-
 returns : tie.Need-returns
 returns c = search too-few
 
 sub-carbon : tie.Need-sub-carbon
 sub-carbon c = search needs
 
-new-requires-2 : tie.Need-new-requires-2
-new-requires-2 c κs = search needs
+emptied-requires : tie.Need-emptied-requires
+emptied-requires c κs = search needs
 
-sub-t8 : tie.Need-sub-t8
-sub-t8 c = search needs
+sub-t9 : tie.Need-sub-t9
+sub-t9 c = search needs
 
 cast-t11 : tie.Need-cast-t11
 cast-t11 c = search needs
@@ -35,11 +32,10 @@ branched-chain-spec =
     tie.close
     (tie.spec
     add-if1
-    new-requires
     returns
     sub-carbon
-    new-requires-2
-    sub-t8
+    emptied-requires
+    sub-t9
     cast-t11
     push-group-requires
     returns-2)

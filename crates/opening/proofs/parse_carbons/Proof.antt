@@ -12,17 +12,11 @@ enum-known-n c = search needs
 enum-told : tie.Need-enum-told
 enum-told c = search needs
 
-new-requires : tie.Need-new-requires
-new-requires c κs = search needs
-
 returns : tie.Need-returns
 returns c = search carbons-unreadable
 
 cast-if1 : tie.Need-cast-if1
 cast-if1 c = search needs
-
-new-requires-2 : tie.Need-new-requires-2
-new-requires-2 c κs = search needs
 
 returns-2 : tie.Need-returns-2
 returns-2 c = search carbons-over
@@ -43,10 +37,8 @@ parse-carbons-spec =
     read-number-requires
     enum-known-n
     enum-told
-    new-requires
     returns
     cast-if1
-    new-requires-2
     returns-2
     cast-start-chain
     start-chain-requires

@@ -9,8 +9,8 @@ branch-offset-requires c κs = search needs
 enum-told : tie.Need-enum-told
 enum-told c = search needs
 
-new-requires : tie.Need-new-requires
-new-requires c κs = search needs
+emptied-requires : tie.Need-emptied-requires
+emptied-requires c κs = search needs
 
 enum-told-2 : tie.Need-enum-told-2
 enum-told-2 c = search needs
@@ -39,7 +39,7 @@ start-chain-spec =
     (tie.spec
     branch-offset-requires
     enum-told
-    new-requires
+    emptied-requires
     enum-told-2
     branched-chain-requires
     enum-told-3

@@ -5,7 +5,8 @@ use lib.ListN.{length}
 use Rattle.form.specs.Parts.{partsAt}
 use Rattle.positions.specs.Each.{each}
 use Rattle.positions.specs.Positions.{ringBondAt, ringBondList}
-use Rattle.positions.proofs.Each.{Onward, each-none, each-start, each-stop, each-last, each-more}
+use Rattle.positions.proofs.Each.{Onward, each-none, each-start}
+use Rattle.positions.proofs.Laws.{bond-unreadable, bond-last, bond-more}
 use Rattle.positions.proofs.parse_ring_bonds.Statement.{statement}
 use Rattle.positions.proofs.parse_ring_bonds.Tie as tie
 
@@ -26,23 +27,35 @@ loop-holds c = (search each-start, omega arith)
 find-requires : tie.Need-find-requires Inv-loop μ-loop
 find-requires c κs = search needs
 
-sub-parse-bond : tie.Need-sub-parse-bond Inv-loop μ-loop
-sub-parse-bond c = search needs
+sub-read-ring-position : tie.Need-sub-read-ring-position Inv-loop μ-loop
+sub-read-ring-position c = search needs
 
-part-parse-bond-start : tie.Need-part-parse-bond-start Inv-loop μ-loop
-part-parse-bond-start c = search needs
+part-read-ring-position-start : tie.Need-part-read-ring-position-start Inv-loop μ-loop
+part-read-ring-position-start c = search needs
 
-part-parse-bond-end : tie.Need-part-parse-bond-end Inv-loop μ-loop
-part-parse-bond-end c = search needs
+part-read-ring-position-end : tie.Need-part-read-ring-position-end Inv-loop μ-loop
+part-read-ring-position-end c = search needs
 
-parse-bond-requires : tie.Need-parse-bond-requires Inv-loop μ-loop
-parse-bond-requires c κs = search needs
+read-ring-position-requires : tie.Need-read-ring-position-requires Inv-loop μ-loop
+read-ring-position-requires c κs = search needs
+
+enum-known-bond : tie.Need-enum-known-bond Inv-loop μ-loop
+enum-known-bond c = search needs
+
+enum-told : tie.Need-enum-told Inv-loop μ-loop
+enum-told c = search needs
+
+unreadable-requires : tie.Need-unreadable-requires Inv-loop μ-loop
+unreadable-requires c κs = search needs
 
 returns-2 : tie.Need-returns-2 Inv-loop μ-loop
-returns-2 c = search each-stop
+returns-2 c = search bond-unreadable
+
+push-bond-requires : tie.Need-push-bond-requires Inv-loop μ-loop
+push-bond-requires c κs = search needs
 
 returns-3 : tie.Need-returns-3 Inv-loop μ-loop
-returns-3 c = search each-last
+returns-3 c = search bond-last
 
 add-t : tie.Need-add-t Inv-loop μ-loop
 add-t c = search needs
@@ -60,7 +73,7 @@ loop-less : tie.Need-loop-less Inv-loop μ-loop
 loop-less c = search needs
 
 loop-again : tie.Need-loop-again Inv-loop μ-loop
-loop-again c = (search each-more, search needs)
+loop-again c = (search bond-more, search needs)
 
 pub parse-ring-bonds-spec : {M : Type 1} → statement M
 parse-ring-bonds-spec =
@@ -71,11 +84,15 @@ parse-ring-bonds-spec =
     returns
     loop-holds
     find-requires
-    sub-parse-bond
-    part-parse-bond-start
-    part-parse-bond-end
-    parse-bond-requires
+    sub-read-ring-position
+    part-read-ring-position-start
+    part-read-ring-position-end
+    read-ring-position-requires
+    enum-known-bond
+    enum-told
+    unreadable-requires
     returns-2
+    push-bond-requires
     returns-3
     add-t
     sub-t

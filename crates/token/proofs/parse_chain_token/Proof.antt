@@ -1,4 +1,3 @@
-use Rattle.token.proofs.Laws.{token-long, token-bytes, token-read}
 use borrow.Author.Needs.{needs}
 use Rattle.token.proofs.parse_chain_token.Statement.{statement}
 use Rattle.token.proofs.parse_chain_token.Tie as tie
@@ -6,36 +5,11 @@ use Rattle.token.proofs.parse_chain_token.Tie as tie
 new-requires : tie.Need-new-requires
 new-requires c κs = search needs
 
+parse-token-requires : tie.Need-parse-token-requires
+parse-token-requires c κs = search needs
+
 returns : tie.Need-returns
-returns c = search token-long
-
-all-printable-requires : tie.Need-all-printable-requires
-all-printable-requires c κs = search needs
-
-new-requires-2 : tie.Need-new-requires-2
-new-requires-2 c κs = search needs
-
-returns-2 : tie.Need-returns-2
-returns-2 c = search token-bytes
-
-trim-requires : tie.Need-trim-requires
-trim-requires c κs = search needs
-
-parse-trimmed-requires : tie.Need-parse-trimmed-requires
-parse-trimmed-requires c κs = search needs
-
-returns-3 : tie.Need-returns-3
-returns-3 c = search token-read
+returns c = search needs
 
 pub parse-chain-token-spec : {M : Type 1} → statement M
-parse-chain-token-spec =
-    tie.close
-    (tie.spec
-    new-requires
-    returns
-    all-printable-requires
-    new-requires-2
-    returns-2
-    trim-requires
-    parse-trimmed-requires
-    returns-3)
+parse-chain-token-spec = tie.close (tie.spec new-requires parse-token-requires returns)

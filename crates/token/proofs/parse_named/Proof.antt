@@ -6,9 +6,6 @@ use Rattle.token.proofs.parse_named.Tie as tie
 find-requires : tie.Need-find-requires
 find-requires c κs = search needs
 
-new-requires : tie.Need-new-requires
-new-requires c κs = search needs
-
 returns : tie.Need-returns
 returns c = search no-colon
 
@@ -50,7 +47,6 @@ parse-named-spec =
     tie.close
     (tie.spec
     find-requires
-    new-requires
     returns
     sub-parse-carbons
     part-parse-carbons-start

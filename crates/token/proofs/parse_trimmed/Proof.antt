@@ -9,8 +9,8 @@ slice-aggregate-same c = search needs
 same-requires : tie.Need-same-requires
 same-requires c κs = search needs
 
-new-requires : tie.Need-new-requires
-new-requires c κs = search needs
+emptied-requires : tie.Need-emptied-requires
+emptied-requires c κs = search needs
 
 returns : tie.Need-returns
 returns c = search empty-chain
@@ -39,7 +39,7 @@ parse-trimmed-spec =
     (tie.spec
     slice-aggregate-same
     same-requires
-    new-requires
+    emptied-requires
     returns
     read-opening-requires
     sub-parse-named
