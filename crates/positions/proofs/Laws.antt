@@ -6,7 +6,7 @@ use native.Mathlib.Omega.{arith}
 use mathlib.Core.Path.{_≡_, refl, sym, ap, _∙_}
 use mathlib.Core.Bool.{Bool, true, false, cond}
 use mathlib.Core.List.{List}
-use lib.ListN.{length, take, drop, getD}
+use lib.ListN.{length, take, drop, getD, set, length-set}
 use lib.Dec.{eqb, ltb}
 use borrow.Author.Tests.{lt-ltb, le-ltb, eq-eqb, ne-eqb}
 use mir.Syntax.{w32}
@@ -23,13 +23,13 @@ use Rattle.record.specs.declared.Geometry.the-variants.{Unstated, Cis, Trans}
 use Rattle.record.specs.declared.ParsedChain.{ParsedChain}
 use Rattle.record.specs.declared.Parsed.{Parsed}
 use Rattle.record.specs.Chain.{Chain, Outcome, Refused, unreadable, withBond, Gives, Takes}
-use Rattle.record.proofs.Laws.{gives-read, gives-same}
+use Rattle.record.proofs.Laws.{bond-kept, bond-over, gives-read, gives-same}
 use Rattle.positions.specs.declared.Position.{Position}
 use Rattle.positions.specs.declared.Position.the-variants.{At, Unreadable}
 use Rattle.positions.specs.Positions.{geometryOf, positioned, numbered, lettered, positionOf, withPosition, bondAt, bondList, inside, within, ringPosition, ringBondAt, ringBondList}
 use Rattle.positions.proofs.Refusals.{gives-11}
 use Rattle.positions.specs.Each.{each}
-use Rattle.positions.proofs.Each.{Onward, each-stop, each-last, each-more, each-same}
+use Rattle.positions.proofs.Each.{Onward, each-start, each-stop, each-last, each-more, each-same}
 
 -- ---- one position
 
@@ -104,25 +104,51 @@ ring-bond start end s d = go (positionOf s)
         ∙ ap (λ (o : Outcome). cond (ltb (b .pos) start) (Refused unreadable) o) (cond-apart add (ltb (b .pos) end) (At b) Unreadable))
     go Unreadable = refl
 
+-- q is c with a double bond more, and with an array of the same length
+pub record Longer (c q : ParsedChain) (b : DbPos) : Type 0 where
+  pub takes : Takes c q (withBond b)
+  pub room : length (q .bonds) ≡ 32
+
+module _ (c q : ParsedChain) (b : DbPos) (l : length (c .bonds) ≡ 32) where
+  -- the bond is stored
+  pub bond-stored : c .«bond_count» < 32 → q ≡ record { prefix = c .prefix; written = c .written; carbon = c .carbon; branched = c .branched; unlocated = c .unlocated; oxygens = c .oxygens; «bond_count» = c .«bond_count» + 1; bonds = set (c .bonds) (c .«bond_count») b; «group_count» = c .«group_count»; groups = c .groups; «ring_count» = c .«ring_count»; rings = c .rings } → Longer c q b
+  bond-stored h e = record { takes = rw e (bond-kept c b l h); room = rw e (length-set (c .bonds) (c .«bond_count») b ∙ l) }
+
+  -- the bond is only counted
+  pub bond-counted : 32 ≤ c .«bond_count» → q ≡ record { prefix = c .prefix; written = c .written; carbon = c .carbon; branched = c .branched; unlocated = c .unlocated; oxygens = c .oxygens; «bond_count» = 32 + 1; bonds = c .bonds; «group_count» = c .«group_count»; groups = c .groups; «ring_count» = c .«ring_count»; rings = c .rings } → Longer c q b
+  bond-counted h e = record { takes = rw e (bond-over c b l h); room = rw e l }
+
+-- the invariant of the loop: what is left to do gives what was to be done, and the array has its length
+pub record Bonding (e c : ParsedChain) (start end : ℕ) (whole : Chain → Outcome) (t : List ℕ) : Type 0 where
+  pub onward : Onward e c whole (each (ringBondAt start end) (partsAt 44 t))
+  pub room : length (c .bonds) ≡ 32
+
+pub bonding-start : (start end : ℕ) (s : List ℕ) (c : ParsedChain) → (length s ≡ 0 → ⊥) → length (c .bonds) ≡ 32 → Bonding c c start end (ringBondList start end s) s
+unfolding ringBondList
+bonding-start start end s c h l = record { onward = each-start (ringBondAt start end) s c h; room = l }
+
 module _ (start end : ℕ) (e c : ParsedChain) (whole : Chain → Outcome) (t : List ℕ) (n : ℕ) (p : Position)
-    (o : Onward e c whole (each (ringBondAt start end) (partsAt 44 t))) (f : Place t (indexOf 44 t) n) (g : p ≡ ringPosition start end (take (n - 0) t)) where
+    (k : Bonding e c start end whole t) (f : Place t (indexOf 44 t) n) (g : p ≡ ringPosition start end (take (n - 0) t)) where
   -- a part that cannot be read ends the loop
   pub bond-unreadable : (r : Parsed) → p ≡ Unreadable → r .refusal ≡ 11 → Gives e r whole
-  bond-unreadable r h k =
-      each-stop (ringBondAt start end) 44 e c whole t n r o f
-      (gives-11 c r (ringBondAt start end (take (n - 0) t)) k (λ d w. ring-bond start end (take (n - 0) t) d ∙ rw (sym g ∙ h))) (λ z. absurd (omega arith))
+  bond-unreadable r h z =
+      each-stop (ringBondAt start end) 44 e c whole t n r (k .onward) f
+      (gives-11 c r (ringBondAt start end (take (n - 0) t)) z (λ d w. ring-bond start end (take (n - 0) t) d ∙ rw (sym g ∙ h))) (λ y. absurd (omega arith))
 
-  module _ (b : DbPos) (h : p ≡ At b) (q : ParsedChain) (w : Takes c q (withBond b)) where
+  module _ (b : DbPos) (h : p ≡ At b) (q : ParsedChain) (w : Longer c q b) where
     added : Gives c (record { refusal = 0; chain = q }) (ringBondAt start end (take (n - 0) t))
-    added = gives-same (gives-read w) (λ d k. sym (ring-bond start end (take (n - 0) t) d ∙ rw (sym g ∙ h)))
+    added = gives-same (gives-read (w .takes)) (λ d k. sym (ring-bond start end (take (n - 0) t) d ∙ rw (sym g ∙ h)))
 
     -- so does the last part
     pub bond-last : n ≡ length t → Gives e (record { refusal = 0; chain = q }) whole
-    bond-last l = each-last (ringBondAt start end) 44 e c whole t n (record { refusal = 0; chain = q }) o f added l
+    bond-last l = each-last (ringBondAt start end) 44 e c whole t n (record { refusal = 0; chain = q }) (k .onward) f added l
 
     -- a double bond more, and more to come
-    pub bond-more : (n ≡ length t → ⊥) → Onward e q whole (each (ringBondAt start end) (partsAt 44 (take (length t - (n + 1)) (drop (n + 1) t))))
-    bond-more l = each-more (ringBondAt start end) 44 e c whole t n (record { refusal = 0; chain = q }) o f added l refl
+    pub bond-more : (n ≡ length t → ⊥) → Bonding e q start end whole (take (length t - (n + 1)) (drop (n + 1) t))
+    bond-more l = record { onward = more l; room = w .room }
+      where
+        more : (n ≡ length t → ⊥) → Onward e q whole (each (ringBondAt start end) (partsAt 44 (take (length t - (n + 1)) (drop (n + 1) t))))
+        more l = each-more (ringBondAt start end) 44 e c whole t n (record { refusal = 0; chain = q }) (k .onward) f added l refl
 
 -- ---- the list
 

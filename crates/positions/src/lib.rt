@@ -3,6 +3,7 @@
 // specs/Positions.antt.
 use record::DbPos;
 use record::Geometry;
+use record::MAX_BONDS;
 use record::Parsed;
 use record::ParsedChain;
 use scan::Number;
@@ -106,8 +107,13 @@ pub fn parse_ring_bonds(s: &[u8], start: u64, end: u64, chain: ParsedChain) -> P
         let Position::At(bond) = read_ring_position(&t[0..n], start, end) else {
             return unreadable(c);
         };
-        let longer = c.push_bond(bond);
-        c = longer;
+        let at = c.bond_count;
+        if at < MAX_BONDS {
+            c.bonds[at] = bond;
+            c.bond_count = at + 1;
+        } else {
+            c.bond_count = MAX_BONDS + 1;
+        }
         if n == t.len() {
             return Parsed {
                 refusal: 0,

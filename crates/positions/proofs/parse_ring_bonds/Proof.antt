@@ -1,17 +1,18 @@
 use borrow.Author.Needs.{needs}
 use Prim.Native.Nat.{_≤_}
 use native.Mathlib.Omega.{arith}
+use mathlib.Core.Logic.{⊎-elim}
 use lib.ListN.{length}
-use Rattle.form.specs.Parts.{partsAt}
-use Rattle.positions.specs.Each.{each}
-use Rattle.positions.specs.Positions.{ringBondAt, ringBondList}
-use Rattle.positions.proofs.Each.{Onward, each-none, each-start}
-use Rattle.positions.proofs.Laws.{bond-unreadable, bond-last, bond-more}
+use Rattle.record.specs.declared.DbPos.{DbPos}
+use Rattle.record.proofs.Laws.{length-mapped}
+use Rattle.positions.specs.Positions.{ringBondList}
+use Rattle.positions.proofs.Each.{each-none}
+use Rattle.positions.proofs.Laws.{Longer, Bonding, bonding-start, bond-unreadable, bond-stored, bond-counted, bond-last, bond-more}
 use Rattle.positions.proofs.parse_ring_bonds.Statement.{statement}
 use Rattle.positions.proofs.parse_ring_bonds.Tie as tie
 
 abbrev Inv-loop : tie.InvT-loop
-Inv-loop s start end t₀ c₀ t c = Onward c₀ c (ringBondList start end s) (each (ringBondAt start end) (partsAt 44 t)) × (length t ≤ length s)
+Inv-loop s start end t₀ c₀ t c = Bonding c₀ c start end (ringBondList start end s) t × (length t ≤ length s)
 
 abbrev μ-loop : tie.MeasureT-loop
 μ-loop s start end t₀ c₀ t c = length t
@@ -21,8 +22,7 @@ unfolding ringBondList
 returns c = search each-none
 
 loop-holds : tie.Need-loop-holds Inv-loop μ-loop
-unfolding ringBondList
-loop-holds c = (search each-start, omega arith)
+loop-holds c = (search (bonding-start, length-mapped), omega arith)
 
 find-requires : tie.Need-find-requires Inv-loop μ-loop
 find-requires c κs = search needs
@@ -51,11 +51,24 @@ unreadable-requires c κs = search needs
 returns-2 : tie.Need-returns-2 Inv-loop μ-loop
 returns-2 c = search bond-unreadable
 
-push-bond-requires : tie.Need-push-bond-requires Inv-loop μ-loop
-push-bond-requires c κs = search needs
+mul-bond : tie.Need-mul-bond Inv-loop μ-loop
+mul-bond c = search needs
+
+element-set-from-bond : tie.Need-element-set-from-bond Inv-loop μ-loop
+element-set-from-bond c = search needs
+
+add-c : tie.Need-add-c Inv-loop μ-loop
+add-c c = search needs
+
+add-c-2 : tie.Need-add-c-2 Inv-loop μ-loop
+add-c-2 c = search needs
 
 returns-3 : tie.Need-returns-3 Inv-loop μ-loop
-returns-3 c = search bond-last
+returns-3 c =
+    ⊎-elim
+    (λ w. let u : Longer (c .before .before .before .before .before .before .before .before .loop .c) (c .before .if2 .c) _ = bond-stored _ _ _ (c .before .before .before .before .before .before .before .before .loop .inv .0 .room) (w .0 .taken) (w .1) in search bond-last)
+    (λ w. let u : (b : DbPos) → Longer (c .before .before .before .before .before .before .before .before .loop .c) (c .before .if2 .c) b = λ b. bond-counted _ _ b (c .before .before .before .before .before .before .before .before .loop .inv .0 .room) (w .0 .left) (w .1) in search bond-last)
+    (c .before .if2 .came)
 
 add-t : tie.Need-add-t Inv-loop μ-loop
 add-t c = search needs
@@ -73,7 +86,13 @@ loop-less : tie.Need-loop-less Inv-loop μ-loop
 loop-less c = search needs
 
 loop-again : tie.Need-loop-again Inv-loop μ-loop
-loop-again c = (search bond-more, search needs)
+loop-again c = (
+  ⊎-elim
+      (λ w. let u : Longer (c .before .before .before .before .before .before .before .before .before .loop .c) (c .before .before .if2 .c) _ = bond-stored _ _ _ (c .before .before .before .before .before .before .before .before .before .loop .inv .0 .room) (w .0 .taken) (w .1) in search bond-more)
+      (λ w. let u : (b : DbPos) → Longer (c .before .before .before .before .before .before .before .before .before .loop .c) (c .before .before .if2 .c) b = λ b. bond-counted _ _ b (c .before .before .before .before .before .before .before .before .before .loop .inv .0 .room) (w .0 .left) (w .1) in search bond-more)
+      (c .before .before .if2 .came),
+  search needs,
+)
 
 pub parse-ring-bonds-spec : {M : Type 1} → statement M
 parse-ring-bonds-spec =
@@ -92,7 +111,10 @@ parse-ring-bonds-spec =
     enum-told
     unreadable-requires
     returns-2
-    push-bond-requires
+    mul-bond
+    element-set-from-bond
+    add-c
+    add-c-2
     returns-3
     add-t
     sub-t
