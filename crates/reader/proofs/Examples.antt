@@ -3,7 +3,7 @@
 use Prim.Native.Nat.{ℕ}
 use mathlib.Core.Path.{_≡_, refl}
 use mathlib.Core.List.{List, [], _∷_}
-use Rattle.scan.specs.Part.{firstByte, endingAfter, ending, trimmed}
+use Rattle.part.specs.Part.{firstByte, endingAfter, ending, trimmed}
 use Rattle.reader.specs.declared.NextByte.the-variants.{Found, End}
 use Rattle.reader.specs.Reading.{placeIn, byteFrom, partFrom, restFrom}
 

@@ -8,8 +8,8 @@ use mathlib.Core.List.{List}
 use lib.ListN.{length, take, drop, getD, length-drop}
 use lib.Dec.{eqb, ltb}
 use borrow.Author.Tests.{lt-ltb, le-ltb, ltb-false}
-use Rattle.scan.specs.Part.{Place, indexOf, trimmed}
-use Rattle.scan.proofs.Laws.{to-end, first-within}
+use Rattle.part.specs.Part.{Place, indexOf, trimmed}
+use Rattle.part.proofs.Laws.{to-end, first-within}
 use Rattle.reader.specs.declared.NextByte.{NextByte}
 use Rattle.reader.specs.declared.NextByte.the-variants.{Found, End}
 use Rattle.reader.specs.declared.Part.{Part}

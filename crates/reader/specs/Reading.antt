@@ -5,7 +5,7 @@ use mathlib.Core.List.{List}
 use mathlib.Core.Bool.{cond}
 use lib.ListN.{length, drop, getD}
 use lib.Dec.{ltb}
-use Rattle.scan.specs.Part.{indexOf, trimmed}
+use Rattle.part.specs.Part.{indexOf, trimmed}
 use Rattle.reader.specs.declared.NextByte.{NextByte}
 use Rattle.reader.specs.declared.NextByte.the-variants.{Found, End}
 use Rattle.reader.specs.declared.Part.{Part}

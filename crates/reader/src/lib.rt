@@ -2,7 +2,7 @@
 // function of the reader takes it apart and leaves the work to a function of the slice and the place. What they answer, and which place
 // comes next, is said by specs/Reading.antt.
 ghost use mathlib.Core.Path.{_≡_};
-ghost use Rattle.scan.specs.Part.{Place};
+ghost use Rattle.part.specs.Part.{Place};
 ghost use Rattle.reader.specs.Reading.{placeIn, byteFrom, partFrom, restFrom};
 
 // The bytes, and the place that is read next. The bytes stay the caller's.
@@ -52,7 +52,7 @@ fn part_from(s: &[u8], at: usize, b: u8) -> Part
     ensures { λ r. ⌜ r ≡ partFrom b (now (s .entry)) at ⌝ }
 {
     let from = place_in(s, at);
-    let n = scan::find(&s[from..], b);
+    let n = part::find(&s[from..], b);
     Part {
         from,
         to: from + n,
@@ -65,7 +65,7 @@ fn rest_from(s: &[u8], at: usize) -> &[u8]
     ensures { λ r. ⌜ now r ≡ restFrom (now (s .entry)) at ⌝ }
 {
     let from = place_in(s, at);
-    scan::trim(&s[from..])
+    spaces::trim(&s[from..])
 }
 
 // A reader goes in by value and is not changed: the answer says which place comes next, and a reader at that place is made anew.
