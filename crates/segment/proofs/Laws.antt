@@ -5,17 +5,17 @@ use native.Mathlib.Nat.{sub-zero}
 use native.Mathlib.Omega.{arith}
 use mathlib.Core.Path.{_≡_, refl, sym, ap, _∙_}
 use mathlib.Core.Bool.{Bool, true, false, not}
-use mathlib.Core.List.{List}
-use lib.ListN.{length, take, drop, length-drop}
+use mathlib.Core.List.{List, []}
+use lib.ListN.{length, take, drop, set, length-set, length-drop}
 use lib.Seq.{drop-drop}
 use borrow.Author.Tests.{lt-ltb, le-ltb, eq-eqb, ne-eqb}
-use Rattle.scan.specs.Part.{Place, indexOf}
+use Rattle.scan.specs.Part.{Place, indexOf, trimmed, ending, firstByte}
 use Rattle.scan.proofs.Laws.{to-end}
 use Rattle.reader.specs.declared.Part.{Part}
 use Rattle.reader.specs.Reading.{partFrom}
 use Rattle.reader.proofs.Laws.{part-order, part-within, part-next, part-starts, part-place}
 use Rattle.form.specs.Parts.{partsAt}
-use Rattle.form.specs.Form.{segmentText, formOf, Formed, endsInParenthesis, afterPlace}
+use Rattle.form.specs.Form.{segmentText, afterOpening, beforeClosing, formOf, Formed, endsInParenthesis, afterPlace}
 use Rattle.form.specs.declared.Form.{Form}
 use Rattle.form.specs.declared.Form.the-variants.{Ring as Form·Ring, Repeated as Form·Repeated, Listed as Form·Listed, Parts as Form·Parts}
 use Rattle.record.specs.declared.Bridge.{Bridge}
@@ -23,10 +23,10 @@ use Rattle.record.specs.declared.Mod.{Mod}
 use Rattle.record.specs.declared.Ring.{Ring}
 use Rattle.record.specs.declared.ParsedChain.{ParsedChain}
 use Rattle.record.specs.declared.Parsed.{Parsed}
-use Rattle.record.specs.Chain.{Chain, Outcome, withGroup, withRing, withOxygens, countsOf, maxGroups, Takes, Gives}
-use Rattle.record.proofs.Laws.{gives-read, gives-same, gives-stop, gives-then}
+use Rattle.record.specs.Chain.{Chain, Outcome, Read, withGroup, withRing, withOxygens, countsOf, maxGroups, Takes, Gives}
+use Rattle.record.proofs.Laws.{group-kept, gives-read, gives-same, gives-stop, gives-then}
 use Rattle.positions.specs.Each.{each}
-use Rattle.positions.proofs.Each.{Onward, each-stop, each-last, each-more}
+use Rattle.positions.proofs.Each.{Onward, onward-start, each-stop, each-last, each-more}
 use Rattle.positions.proofs.Refusals.{gives-number, gives-11}
 use Rattle.features.specs.Features.{featureOf, listedAs, partOf, repeatedOf}
 use Rattle.features.specs.declared.Segment.{Segment}
@@ -35,7 +35,7 @@ use Rattle.features.specs.declared.Feature.{Feature}
 use Rattle.features.specs.declared.Feature.the-variants.{Ring as Feature·Ring, Group as Feature·Group, Other as Feature·Other}
 use Rattle.ring.specs.Ring.{ringSegment}
 use Rattle.ring.proofs.Laws.{closed-not, closed-by}
-use Rattle.segment.specs.Segment.{copies, manyTimes, withSegment, listedAt, plainList, listedFeature, listedSegment, partAt, commaParts, modification, segmentAt}
+use Rattle.segment.specs.Segment.{copies, manyTimes, withSegment, listedAt, plainList, listedFeature, listedSegment, partAt, commaParts, modification, segmentAt, segments}
 
 -- ---- a group many times
 
@@ -119,11 +119,46 @@ module _ (abbr s : List ℕ) (c : ParsedChain) (r : Parsed) (b : Bool) (e : b �
   unfolding listedSegment
   listed-closed f h k w = closed-by (listedFeature (featureOf abbr)) s c r b e h (gives-same w (λ d u. rw k))
 
--- ---- a part between commas
+-- ---- parts between commas
 
-pub part-one : (s : List ℕ) (c : ParsedChain) (r : Parsed) (g : Segment) → g ≡ partOf s (c .carbon) → Gives c r (withSegment g) → Gives c r (partAt s)
+part-one : (s : List ℕ) (c : ParsedChain) (r : Parsed) (g : Segment) → g ≡ partOf s (c .carbon) → Gives c r (withSegment g) → Gives c r (partAt s)
 unfolding partAt
 part-one s c r g e w = gives-same w (λ d k. rw (← k .carbon, ← e))
+
+-- the invariant of the loop: what is left to do gives what was to be done, and the array of groups has its length
+pub record Parting (e c : ParsedChain) (whole : Chain → Outcome) (t : List ℕ) : Type 0 where
+  pub onward : Onward e c whole (each partAt (partsAt 44 t))
+  pub room : length (c .groups) ≡ 18
+
+pub parting-start : (s : List ℕ) (c : ParsedChain) → length (c .groups) ≡ 18 → Parting c c (commaParts s) s
+unfolding commaParts
+parting-start s c l = record { onward = onward-start c (each partAt (partsAt 44 s)); room = l }
+
+module _ (e c : ParsedChain) (whole : Chain → Outcome) (t : List ℕ) (n : ℕ) (g : Segment)
+    (o : Parting e c whole t) (f : Place t (indexOf 44 t) n) (k : g ≡ partOf (take (n - 0) t) (c .carbon)) where
+  module _ (r : Parsed) (w : Gives c r (withSegment g)) where
+    one : Gives c r (partAt (take (n - 0) t))
+    one = part-one (take (n - 0) t) c r g k w
+
+    pub part-stop : (r .refusal ≡ 0 → ⊥) → Gives e r whole
+    part-stop h = each-stop partAt 44 e c whole t n r (o .onward) f one h
+
+    pub part-last : n ≡ length t → Gives e r whole
+    part-last h = each-last partAt 44 e c whole t n r (o .onward) f one h
+
+    pub part-more : (n ≡ length t → ⊥) → r .refusal ≡ 0 → length (r .chain .groups) ≡ 18 → Parting e (r .chain) whole (take (length t - (n + 1)) (drop (n + 1) t))
+    part-more h z l = record { onward = each-more partAt 44 e c whole t n r (o .onward) f one h z; room = l }
+
+  -- a group for which there is room
+  module _ (x : Mod) (h : g ≡ Located x) (m : c .«group_count» < 16) where
+    longer : Takes c (record { prefix = c .prefix; written = c .written; carbon = c .carbon; branched = c .branched; unlocated = c .unlocated; oxygens = c .oxygens; «bond_count» = c .«bond_count»; bonds = c .bonds; «group_count» = c .«group_count» + 1; groups = set (c .groups) (c .«group_count») x; «ring_count» = c .«ring_count»; rings = c .rings }) (withGroup x)
+    longer = group-kept c x (o .room) m
+
+    pub group-last : n ≡ length t → Gives e (record { refusal = 0; chain = record { prefix = c .prefix; written = c .written; carbon = c .carbon; branched = c .branched; unlocated = c .unlocated; oxygens = c .oxygens; «bond_count» = c .«bond_count»; bonds = c .bonds; «group_count» = c .«group_count» + 1; groups = set (c .groups) (c .«group_count») x; «ring_count» = c .«ring_count»; rings = c .rings } }) whole
+    group-last l = part-last _ (adds-group g c _ x h longer) l
+
+    pub group-more : (n ≡ length t → ⊥) → Parting e (record { prefix = c .prefix; written = c .written; carbon = c .carbon; branched = c .branched; unlocated = c .unlocated; oxygens = c .oxygens; «bond_count» = c .«bond_count»; bonds = c .bonds; «group_count» = c .«group_count» + 1; groups = set (c .groups) (c .«group_count») x; «ring_count» = c .«ring_count»; rings = c .rings }) whole (take (length t - (n + 1)) (drop (n + 1) t))
+    group-more l = part-more _ (adds-group g c _ x h longer) l refl (length-set (c .groups) (c .«group_count») x ∙ o .room)
 
 -- ---- a segment
 
@@ -190,3 +225,9 @@ module _ (s : List ℕ) (at : ℕ) (p : Part) (l : at ≤ length s) (h : p ≡ p
 
   pub next-further : length s - p .next < length s - at
   next-further = omega (arith, part-next 59 s at p h, part-within 59 s at p h, part-order 59 s at p h, part-starts 59 s at p h l, n)
+
+-- ---- no segment
+
+pub segments-none : (d : Chain) → segments [] d ≡ Read d
+unfolding segments each partsAt segmentAt segmentText beforeClosing afterOpening trimmed ending firstByte
+segments-none d = refl

@@ -4,11 +4,12 @@
 use features::Feature;
 use features::Segment;
 use form::Form;
+use record::MAX_GROUPS;
 use record::Mod;
 use record::Parsed;
 use record::ParsedChain;
 ghost use Rattle.record.specs.Chain.{Takes, Gives};
-ghost use Rattle.segment.specs.Segment.{copies, manyTimes, withSegment, listedAt, plainList, listedFeature, listedSegment, partAt, commaParts, modification, segmentAt, segments};
+ghost use Rattle.segment.specs.Segment.{copies, manyTimes, withSegment, listedAt, plainList, listedFeature, listedSegment, commaParts, modification, segmentAt, segments};
 
 // A group n times.
 fn push_copies(group: Mod, n: u32, chain: ParsedChain) -> ParsedChain
@@ -29,13 +30,13 @@ fn push_repeated(row: u8, times: u32, chain: ParsedChain) -> Parsed
     ensures { λ r. ⌜ Gives chain r (manyTimes times (record { pos = 0; row = row })) ⌝ }
 {
     let so_far = chain.group_count;
-    if record::MAX_GROUPS < so_far {
+    if MAX_GROUPS < so_far {
         return Parsed {
             refusal: record::OVER_LIMIT,
             chain,
         };
     }
-    if record::MAX_GROUPS - so_far < (times as usize) {
+    if MAX_GROUPS - so_far < (times as usize) {
         return Parsed {
             refusal: record::OVER_LIMIT,
             chain,
@@ -135,16 +136,7 @@ fn parse_listed_segment(abbr: &[u8], s: &[u8], chain: ParsedChain) -> Parsed
     parse_listed_feature(feature, &s[0..s.len() - 1], chain)
 }
 
-// One part between commas.
-fn parse_part(s: &[u8], chain: ParsedChain) -> Parsed
-    ensures { λ r. ⌜ Gives chain r (partAt (now (s .entry))) ⌝ }
-{
-    let carbon = chain.carbon;
-    let segment = features::read_part(s, carbon);
-    add_segment(segment, chain)
-}
-
-// The parts between commas.
+// The parts between commas. A group, which is what most parts are, is stored where the record stands; any other piece goes the long way.
 fn parse_parts(s: &[u8], chain: ParsedChain) -> Parsed
     ensures { λ r. ⌜ Gives chain r (commaParts (now (s .entry))) ⌝ }
 {
@@ -152,7 +144,25 @@ fn parse_parts(s: &[u8], chain: ParsedChain) -> Parsed
     let mut c = chain;
     loop {
         let n = scan::find(t, b',');
-        let parsed = parse_part(&t[0..n], c);
+        let carbon = c.carbon;
+        let segment = features::read_part(&t[0..n], carbon);
+        let piece = segment;
+        if let Segment::Located(group) = piece {
+            let at = c.group_count;
+            if at < MAX_GROUPS {
+                c.groups[at] = group;
+                c.group_count = at + 1;
+                if n == t.len() {
+                    return Parsed {
+                        refusal: 0,
+                        chain: c,
+                    };
+                }
+                t = &t[n + 1..];
+                continue;
+            }
+        }
+        let parsed = add_segment(segment, c);
         let refusal = parsed.refusal;
         if refusal != 0 {
             return parsed;

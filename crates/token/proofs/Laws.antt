@@ -25,7 +25,7 @@ use Rattle.record.specs.declared.DbPos.{DbPos}
 use Rattle.record.specs.declared.ParsedChain.{ParsedChain}
 use Rattle.record.specs.declared.Parsed.{Parsed}
 use Rattle.record.specs.Chain.{Chain, Outcome, Read, Refused, andThen, countsOf, withUnlocated, noFeatures, Keeps, Holds, Stands, Takes, Gives, maxCarbons, maxBonds}
-use Rattle.record.proofs.Laws.{keeps-count, keeps-all, counts-within, stands-read, stands-refused, gives-stop, gives-then}
+use Rattle.record.proofs.Laws.{keeps-count, keeps-all, counts-within, stands-read, stands-refused, gives-same, gives-stop, gives-then}
 use Rattle.seats.specs.Seats.{seated, positions, Seated}
 use Rattle.positions.specs.Positions.{bondList}
 use Rattle.opening.specs.declared.Branch.{Branch}
@@ -33,6 +33,7 @@ use Rattle.opening.specs.declared.Opening.{Opening}
 use Rattle.opening.specs.Opening.{openingOf, carbonsOf, Opened}
 use Rattle.opening.proofs.Laws.{carbons-few}
 use Rattle.segment.specs.Segment.{segments}
+use Rattle.segment.proofs.Laws.{segments-none}
 use Rattle.token.specs.declared.Missing.{Missing}
 use Rattle.token.specs.declared.Missing.the-variants.{Seated as Missing·Seated, Unseated}
 use Rattle.token.specs.declared.Request.{Request}
@@ -131,6 +132,12 @@ module _ (m : Missing) (c : ParsedChain) where
 
     pub finish-read : (r : ParsedChain) → b ≡ false → Takes c r (withUnlocated n) → Gives c (record { refusal = 0; chain = r }) (finished m)
     finish-read r t u = rw e (record { stands = λ d k. rw (sym (w .is d k) ∙ t) (refl, u .holds d k) })
+
+-- without segments
+pub rest-none : (m : Missing) (s : List ℕ) (c : ParsedChain) (r : Parsed) → length s ≡ 0 → Gives c r (finished m) → Gives c r (restOf m s)
+unfolding restOf
+rest-none m [] c r h w = gives-same w (λ d k. sym (rw (segments-none d)))
+rest-none m (x ∷ s) c r h w = absurd (omega arith)
 
 module _ (m : Missing) (s : List ℕ) (c : ParsedChain) (p : Parsed) (w : Gives c p (segments s)) where
   pub rest-refused : (p .refusal ≡ 0 → ⊥) → Gives c p (restOf m s)

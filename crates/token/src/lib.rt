@@ -96,10 +96,13 @@ fn finish(missing: Missing, chain: ParsedChain) -> Parsed
     }
 }
 
-// The segments, and what is judged after them.
+// The segments, if there are any, and what is judged after them.
 fn parse_rest(missing: Missing, s: &[u8], chain: ParsedChain) -> Parsed
     ensures { λ r. ⌜ Gives chain r (restOf missing (now (s .entry))) ⌝ }
 {
+    if s.len() == 0 {
+        return finish(missing, chain);
+    }
     let parsed = segment::parse_segments(s, chain);
     let refusal = parsed.refusal;
     if refusal != 0 {
