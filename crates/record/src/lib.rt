@@ -81,6 +81,34 @@ pub struct Parsed {
 }
 
 impl ParsedChain {
+    // A chain with nothing on it, and these arrays to keep what comes.
+    fn with_room(
+        prefix: ChainPrefix,
+        written: u16,
+        carbon: u16,
+        branched: bool,
+        bonds: [DbPos; MAX_BONDS],
+        groups: [Mod; GROUP_ROOM],
+        rings: [Ring; MAX_RINGS],
+    ) -> ParsedChain
+        ensures { λ r. ⌜ Holds r (noFeatures prefix written carbon branched) ⌝ }
+    {
+        ParsedChain {
+            prefix,
+            written,
+            carbon,
+            branched,
+            unlocated: 0,
+            oxygens: 0,
+            bond_count: 0,
+            bonds,
+            group_count: 0,
+            groups,
+            ring_count: 0,
+            rings,
+        }
+    }
+
     // A chain of so many carbons with nothing on it.
     pub fn new(prefix: ChainPrefix, written: u16, carbon: u16, branched: bool) -> ParsedChain
         ensures { λ r. ⌜ Holds r (noFeatures prefix written carbon branched) ⌝ }
@@ -98,20 +126,7 @@ impl ParsedChain {
         let bonds = [bond; MAX_BONDS];
         let groups = [group; GROUP_ROOM];
         let rings = [ring; MAX_RINGS];
-        ParsedChain {
-            prefix,
-            written,
-            carbon,
-            branched,
-            unlocated: 0,
-            oxygens: 0,
-            bond_count: 0,
-            bonds,
-            group_count: 0,
-            groups,
-            ring_count: 0,
-            rings,
-        }
+        ParsedChain::with_room(prefix, written, carbon, branched, bonds, groups, rings)
     }
 
     // The same in the room of a chain that is at hand: to copy its arrays is quicker than to fill new ones.
@@ -127,20 +142,7 @@ impl ParsedChain {
         let bonds = self.bonds;
         let groups = self.groups;
         let rings = self.rings;
-        ParsedChain {
-            prefix,
-            written,
-            carbon,
-            branched,
-            unlocated: 0,
-            oxygens: 0,
-            bond_count: 0,
-            bonds,
-            group_count: 0,
-            groups,
-            ring_count: 0,
-            rings,
-        }
+        ParsedChain::with_room(prefix, written, carbon, branched, bonds, groups, rings)
     }
 
     // One double bond more.

@@ -39,19 +39,26 @@ use Rattle.segment.specs.Segment.{copies, manyTimes, withSegment, listed
 
 -- ---- a group many times
 
--- the copies that are left give all of them
+-- the copies that are left give all of them, and there is room for them
 pub record Copying (e c : ParsedChain) (g : Mod) (n left : ℕ) : Type 0 where
   pub then : (q : ParsedChain) → Takes c q (copies left g) → Takes e q (copies n g)
+  pub few : c .«group_count» + left ≤ maxGroups
+  pub room : length (c .groups) ≡ 18
 
-pub copies-start : (c : ParsedChain) (g : Mod) (n : ℕ) → Copying c c g n n
-copies-start c g n = record { then = λ q w. w }
+pub copies-start : (c : ParsedChain) (g : Mod) (n : ℕ) → c .«group_count» + n ≤ 16 → length (c .groups) ≡ 18 → Copying c c g n n
+copies-start c g n h l = record { then = λ q w. w; few = h; room = l }
 
 module _ (e c : ParsedChain) (g : Mod) (n left : ℕ) (w : Copying e c g n left) where
-  pub copies-more : (q : ParsedChain) → 0 < left → Takes c q (withGroup g) → Copying e q g n (left - 1)
+  pub copies-more : 0 < left → Copying e (record { prefix = c .prefix; written = c .written; carbon = c .carbon; branched = c .branched; unlocated = c .unlocated; oxygens = c .oxygens; «bond_count» = c .«bond_count»; bonds = c .bonds; «group_count» = c .«group_count» + 1; groups = set (c .groups) (c .«group_count») g; «ring_count» = c .«ring_count»; rings = c .rings }) g n (left - 1)
   unfolding copies
-  copies-more q h t =
+  copies-more h =
       let k : left ≡ suc (left - 1) = omega arith in
-      record { then = λ z v. w .then z (rw k (record { holds = λ d u. v .holds (withGroup g d) (t .holds d u) })) }
+      let t = group-kept c g (w .room) (omega (arith, w .few)) in
+      record {
+        then = λ z v. w .then z (rw k (record { holds = λ d u. v .holds (withGroup g d) (t .holds d u) }));
+        few = omega (arith, w .few);
+        room = length-set (c .groups) (c .«group_count») g ∙ w .room;
+      }
 
   pub copies-end : left ≤ 0 → Takes e c (copies n g)
   unfolding copies

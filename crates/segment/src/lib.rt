@@ -8,18 +8,21 @@ use record::MAX_GROUPS;
 use record::Mod;
 use record::Parsed;
 use record::ParsedChain;
-ghost use Rattle.record.specs.Chain.{Takes, Gives};
+ghost use Prim.Native.Nat.{_+_, _≤_};
+ghost use Rattle.record.specs.Chain.{Takes, Gives, maxGroups};
 ghost use Rattle.segment.specs.Segment.{copies, manyTimes, withSegment, listedAt, plainList, listedFeature, listedSegment, commaParts, modification, segmentAt, segments};
 
-// A group n times.
+// A group n times, where there is room for as many.
 fn push_copies(group: Mod, n: u32, chain: ParsedChain) -> ParsedChain
+    requires { ⌜ chain .«group_count» + n ≤ maxGroups ⌝ }
     ensures { λ r. ⌜ Takes chain r (copies n group) ⌝ }
 {
     let mut left = n;
     let mut c = chain;
     while left > 0 {
-        let longer = c.push_group(group);
-        c = longer;
+        let at = c.group_count;
+        c.groups[at] = group;
+        c.group_count = at + 1;
         left -= 1;
     }
     c
