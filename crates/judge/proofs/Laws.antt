@@ -41,7 +41,7 @@ unfolding kindRefusal
 kind-fits r d b e h = rw (sym e ∙ h)
 
 -- what is drawn of a chain that was read is drawn of the chain that the token says
-pub looked : (r : Role) (t : List ℕ) (p : Parsed) (x : Drawn) (k n m : ℕ) → Stands p (tokenOf t) → Draws r (chainOf (p .chain)) x → k ≡ kindRefusal r (chainOf (p .chain))
+looked : (r : Role) (t : List ℕ) (p : Parsed) (x : Drawn) (k n m : ℕ) → Stands p (tokenOf t) → Draws r (chainOf (p .chain)) x → k ≡ kindRefusal r (chainOf (p .chain))
     → Says x n placeRefusal → Says x m drawRefusal → SeenIs r (record { reasons = record { token = p .refusal; kind = k; place = n; draw = m }; drawn = x }) (tokenOf t)
 looked r t p x k n m w g e a b = go (tokenOf t) refl w
   where
@@ -145,9 +145,10 @@ module _ (sn1 sn2 sn3 sn4 : List ℕ) where
   fourth i h a b c = let e : i ≡ 3 = omega arith in rw e
 
   -- a token in its place
-  pub seen-at : (c : Class) (role : Role) (s : Seen) (i : ℕ) (t : List ℕ) → role ≡ roleOf c (i + 1) → t ≡ getD (sn1 ∷ sn2 ∷ sn3 ∷ sn4 ∷ []) i [] → SeenIs role s (tokenOf t)
-      → SeenIs (roleOf c (i + 1)) s (tokenOf (getD (sn1 ∷ sn2 ∷ sn3 ∷ sn4 ∷ []) i []))
-  seen-at c role s i t r e w = rw (← e, ← r) w
+  pub looked-at : (c : Class) (role : Role) (i : ℕ) (t : List ℕ) (p : Parsed) (x : Drawn) (k n m : ℕ) → role ≡ roleOf c (i + 1) → t ≡ getD (sn1 ∷ sn2 ∷ sn3 ∷ sn4 ∷ []) i []
+      → Stands p (tokenOf t) → Draws role (chainOf (p .chain)) x → k ≡ kindRefusal role (chainOf (p .chain)) → Says x n placeRefusal → Says x m drawRefusal
+      → SeenIs (roleOf c (i + 1)) (record { reasons = record { token = p .refusal; kind = k; place = n; draw = m }; drawn = x }) (tokenOf (getD (sn1 ∷ sn2 ∷ sn3 ∷ sn4 ∷ []) i []))
+  looked-at c role i t p x k n m r e w g h a b = rw (← e, ← r) (looked role t p x k n m w g h a b)
 
   -- the first
   pub met-first : (c : Class) (s : Seen) (f g : Faults) (xs : List Drawn) → SeenIs (roleOf c 1) s (tokenOf sn1) → f ≡ noFaults → g ≡ withReasons f (s .reasons) 1

@@ -171,22 +171,6 @@ fn kind_refusal(role: Role, chain: ParsedChain) -> u16
     0
 }
 
-// One token in its place. A chain is drawn before its kind is known to fit: most do.
-fn look_as(role: Role, token: &[u8]) -> Seen
-    ensures { λ r. ⌜ SeenIs role r (tokenOf (now (token .entry))) ⌝ }
-{
-    let parsed = token::parse_chain_token(token);
-    let chain = parsed.chain;
-    let drawn = drawable::drawn_as(role, chain);
-    let reasons = Reasons {
-        token: parsed.refusal,
-        kind: kind_refusal(role, chain),
-        place: refusals::place_refusal(drawn),
-        draw: refusals::draw_refusal(drawn),
-    };
-    Seen { reasons, drawn }
-}
-
 // Whether a tail is outside the grammar, or stands where there is none.
 fn wrong_tail(class: Class, tail: &[u8]) -> bool
     ensures { λ r. ⌜ r ≡ wrongTail class (now (tail .entry)) ⌝ }
@@ -214,7 +198,7 @@ fn token_at<'a>(i: usize, sn1: &'a [u8], sn2: &'a [u8], sn3: &'a [u8], sn4: &'a 
     sn4
 }
 
-// Token i, counted from 0, in its place.
+// Token i, counted from 0, in its place. Its chain is drawn before its kind is known to fit: most do.
 fn look<'a>(
     class: Class,
     i: usize,
@@ -227,7 +211,16 @@ fn look<'a>(
     ensures { λ r. ⌜ SeenIs (roleOf class (i + 1)) r (tokenOf (getD (now (sn1 .entry) ∷ now (sn2 .entry) ∷ now (sn3 .entry) ∷ now (sn4 .entry) ∷ []) i [])) ⌝ }
 {
     let role = class::role_of(class, i + 1);
-    look_as(role, token_at(i, sn1, sn2, sn3, sn4))
+    let parsed = token::parse_chain_token(token_at(i, sn1, sn2, sn3, sn4));
+    let chain = parsed.chain;
+    let drawn = drawable::drawn_as(role, chain);
+    let reasons = Reasons {
+        token: parsed.refusal,
+        kind: kind_refusal(role, chain),
+        place: refusals::place_refusal(drawn),
+        draw: refusals::draw_refusal(drawn),
+    };
+    Seen { reasons, drawn }
 }
 
 // The tokens of a class, of which there are as many as it takes. The first chain fills the array: past the last chain nothing is counted,
