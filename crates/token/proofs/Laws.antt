@@ -2,17 +2,15 @@
 -- Assumes nothing.
 use Prim.Native.Nat.{ℕ, _+_, _-_, _≤_, _<_}
 use native.Mathlib.Nat.{sub-zero}
-use native.Mathlib.Numerals.{add-one}
 use native.Mathlib.Omega.{arith}
 use native.Mathlib.Decide.{ℕ-discrete}
 use mir.Syntax.{w16}
 use mir.Val.{Fits}
-use mathlib.Core.Path.{_≡_, refl, sym, ap, _∙_}
-use mathlib.Core.Bool.{Bool, true, false, not, cond, true≢false}
-use mathlib.Core.List.{List, [], _∷_, _++_}
-use lib.ListN.{length, take, drop, getD, set, length-append, length-set}
-use lib.Seq.{take-suc, take-suc-set, take-all, take-add}
-use lib.Dec.{eqb, ltb, leb}
+use mathlib.Core.Path.{_≡_, refl, sym, _∙_}
+use mathlib.Core.Bool.{Bool, true, false, not, cond}
+use mathlib.Core.List.{List, [], _∷_}
+use lib.ListN.{length, take, drop, getD}
+use lib.Dec.{eqb, leb}
 use borrow.Author.Tests.{lt-ltb, le-ltb, eq-eqb, ne-eqb, not-true, not-false}
 use Rattle.scan.specs.Part.{trimmed, indexOf, startsWith, sameBytes, Place}
 use Rattle.scan.specs.Number.{digitRun, digitsUpTo}
@@ -21,7 +19,6 @@ use Rattle.scan.specs.declared.Number.the-variants.{Value, Unreadable}
 use Rattle.scan.proofs.Laws.{to-end, starts-length}
 use Rattle.record.specs.declared.ChainPrefix.{ChainPrefix}
 use Rattle.record.specs.declared.ChainPrefix.the-variants.{Acyl}
-use Rattle.record.specs.declared.DbPos.{DbPos}
 use Rattle.record.specs.declared.ParsedChain.{ParsedChain}
 use Rattle.record.specs.declared.Parsed.{Parsed}
 use Rattle.record.specs.Chain.{Chain, Outcome, Read, Refused, andThen, countsOf, withUnlocated, noFeatures, Keeps, Holds, Stands, Takes, Gives, maxCarbons, maxBonds}
@@ -30,15 +27,13 @@ use Rattle.seats.specs.Seats.{seated, positions, Seated}
 use Rattle.positions.specs.Positions.{bondList}
 use Rattle.opening.specs.declared.Branch.{Branch}
 use Rattle.opening.specs.declared.Opening.{Opening}
-use Rattle.opening.specs.Opening.{openingOf, carbonsOf, Opened}
+use Rattle.opening.specs.Opening.{carbonsOf, Opened}
 use Rattle.opening.proofs.Laws.{carbons-few}
 use Rattle.segment.specs.Segment.{segments}
 use Rattle.segment.proofs.Laws.{segments-none}
 use Rattle.token.specs.declared.Missing.{Missing}
 use Rattle.token.specs.declared.Missing.the-variants.{Seated as Missing·Seated, Unseated}
-use Rattle.token.specs.declared.Request.{Request}
-use Rattle.token.specs.Request.{Verdict, All, First, withToken, tokensFrom, tokensOf, HoldsAll, none, more, RequestIs}
-use Rattle.token.specs.Token.{missingOf, bareOxygens, finished, restOf, countedList, listedOf, afterCount, bondsOf, namedChain, emptyText, trimmedOf, printable, allPrintable, tokenOf, MissingIs, Bare, Begun, Begins}
+use Rattle.token.specs.Token.{missingOf, bareOxygens, finished, restOf, countedList, listedOf, afterCount, bondsOf, namedChain, emptyText, trimmedOf, printable, allPrintable, tokenOf, MissingIs, Bare, Begins}
 
 -- ---- bytes
 
@@ -274,103 +269,3 @@ module _ (s : List ℕ) where
     pub token-read : (t : List ℕ) (r : Parsed) → not b ≡ false → t ≡ trimmed s → Stands r (trimmedOf t) → Stands r (tokenOf s)
     unfolding tokenOf
     token-read t r n g w = rw (le-ltb 255 (length s) h, sym e ∙ not-false b n, ← g) w
-
--- ---- the tokens of a request
-
-holds-one : {cs : List ParsedChain} {ds : List Chain} {c : ParsedChain} {d : Chain} → HoldsAll cs ds → Holds c d → HoldsAll (cs ++ (c ∷ [])) (ds ++ (d ∷ []))
-holds-one none k = more k none
-holds-one (more h hs) k = more h (holds-one hs k)
-
--- r is the request q after one token more
-record Follows (q : Request) (t : List ℕ) (r : Request) : Type 0 where
-  is : (v : Verdict) → RequestIs q v → RequestIs r (withToken v (tokenOf t))
-
-module _ (q : Request) (i : ℕ) (t : List ℕ) (z : q .refusal ≡ 0) (c : q .count ≡ i) (p : Parsed) (w : Stands p (tokenOf t)) where
-  request-refused : (p .refusal ≡ 0 → ⊥) → Follows q t (record { refusal = p .refusal; place = i + 1; count = q .count; chains = q .chains })
-  request-refused n = record { is = λ v k. go (tokenOf t) v w k }
-    where
-      go : (o : Outcome) (v : Verdict) → Stands p o → RequestIs q v → RequestIs (record { refusal = p .refusal; place = i + 1; count = q .count; chains = q .chains }) (withToken v o)
-      go (Read d) v s k = absurd (n (s .0))
-      go (Refused m) (All ds) s k = (s .0, ap (λ (x : ℕ). x + 1) (sym c ∙ k .2), s .1)
-      go (Refused m) (First a b) s k = absurd (omega (arith, k .0, k .2))
-
-  request-more : p .refusal ≡ 0 → length (q .chains) ≡ 4 → i < 4
-      → Follows q t (record { refusal = q .refusal; place = q .place; count = i + 1; chains = set (q .chains) i (p .chain) })
-  request-more e l h = record { is = λ v k. go (tokenOf t) v w k }
-    where
-      go : (o : Outcome) (v : Verdict) → Stands p o → RequestIs q v
-          → RequestIs (record { refusal = q .refusal; place = q .place; count = i + 1; chains = set (q .chains) i (p .chain) }) (withToken v o)
-      go (Read d) (All ds) s k =
-          let one : take (i + 1) (set (q .chains) i (p .chain)) ≡ take i (q .chains) ++ (p .chain ∷ []) = rw (add-one i) (take-suc-set (q .chains) i (p .chain) (omega arith)) in
-          let before : HoldsAll (take i (q .chains)) ds = rw c at (k .3) in
-          (k .0, k .1, omega (arith, k .2, length-append ds (d ∷ [])), rw one (holds-one before (s .1)))
-      go (Read d) (First a b) s k = absurd (omega (arith, k .0, k .2))
-      go (Refused m) v s k = absurd (omega (arith, s .0, s .1))
-
-tokens-append : (v : Verdict) (ts us : List (List ℕ)) → tokensFrom v (ts ++ us) ≡ tokensFrom (tokensFrom v ts) us
-unfolding tokensFrom
-tokens-append v [] us = refl
-tokens-append v (s ∷ ts) us = tokens-append (withToken v (tokenOf s)) ts us
-
--- after a refusal no token counts
-first-stays : (n p : ℕ) (ts : List (List ℕ)) → tokensFrom (First n p) ts ≡ First n p
-unfolding tokensFrom
-first-stays n p [] = refl
-first-stays n p (t ∷ ts) = first-stays n p ts
-
-refusal-stays : (r : Request) (v : Verdict) (ts : List (List ℕ)) → (r .refusal ≡ 0 → ⊥) → RequestIs r v → RequestIs r (tokensFrom v ts)
-refusal-stays r (All ds) ts n k = absurd (n (k .0))
-refusal-stays r (First m p) ts n k = rw (first-stays m p ts) k
-
-pub tokens-none : (sn1 sn2 sn3 sn4 : List ℕ) (q : Request) → RequestIs q (All []) → RequestIs q (tokensOf (take 0 (sn1 ∷ sn2 ∷ sn3 ∷ sn4 ∷ [])))
-unfolding tokensOf tokensFrom
-tokens-none sn1 sn2 sn3 sn4 q k = k
-
--- the first i tokens are read, and none of them is refused
-pub record Reading (sn1 sn2 sn3 sn4 : List ℕ) (i : ℕ) (q : Request) : Type 0 where
-  pub is : RequestIs q (tokensOf (take i (sn1 ∷ sn2 ∷ sn3 ∷ sn4 ∷ [])))
-  pub read : q .refusal ≡ 0
-  pub counted : q .count ≡ i
-  pub long : length (q .chains) ≡ 4
-
-module _ (sn1 sn2 sn3 sn4 : List ℕ) where
-  pub reading-start : (q : Request) → RequestIs q (All []) → length (q .chains) ≡ 4 → Reading sn1 sn2 sn3 sn4 0 q
-  reading-start q k l = record { is = tokens-none sn1 sn2 sn3 sn4 q k; read = k .0; counted = k .2; long = l }
-
-  four : List (List ℕ)
-  four = sn1 ∷ sn2 ∷ sn3 ∷ sn4 ∷ []
-
-  pub fourth : (i : ℕ) → i < 4 → (i ≡ 0 → ⊥) → (i ≡ 1 → ⊥) → (i ≡ 2 → ⊥) → sn4 ≡ getD (sn1 ∷ sn2 ∷ sn3 ∷ sn4 ∷ []) i []
-  fourth i h a b c = let e : i ≡ 3 = omega arith in rw e
-
-  module _ (i : ℕ) (q : Request) (k : Reading sn1 sn2 sn3 sn4 i q) where
-    one-more : (t : List ℕ) (r : Request) → i < 4 → t ≡ getD (sn1 ∷ sn2 ∷ sn3 ∷ sn4 ∷ []) i [] → Follows q t r
-        → RequestIs r (tokensOf (take (i + 1) (sn1 ∷ sn2 ∷ sn3 ∷ sn4 ∷ [])))
-    unfolding tokensOf tokensFrom four
-    one-more t r h e f =
-        let s : take (i + 1) four ≡ take i four ++ (t ∷ []) = rw (add-one i, take-suc four i [] (omega arith), e) in
-        rw (s, tokens-append (All []) (take i four) (t ∷ [])) (f .is (tokensFrom (All []) (take i four)) (k .is))
-
-    module _ (t : List ℕ) (p : Parsed) (h : i < 4) (e : t ≡ getD (sn1 ∷ sn2 ∷ sn3 ∷ sn4 ∷ []) i []) (w : Stands p (tokenOf t)) where
-      -- a turn: one token more
-      pub tokens-more : p .refusal ≡ 0
-          → Reading sn1 sn2 sn3 sn4 (i + 1) (record { refusal = q .refusal; place = q .place; count = i + 1; chains = set (q .chains) i (p .chain) })
-      tokens-more z =
-          record { is = one-more t _ h e (request-more q i t (k .read) (k .counted) p w z (k .long) h); read = k .read; counted = refl; long = length-set (q .chains) i (p .chain) ∙ k .long }
-
-      -- a refusal ends the reading
-      pub tokens-stop : (n : ℕ) → (p .refusal ≡ 0 → ⊥) → i < n
-          → RequestIs (record { refusal = p .refusal; place = i + 1; count = q .count; chains = q .chains }) (tokensOf (take n (sn1 ∷ sn2 ∷ sn3 ∷ sn4 ∷ [])))
-      unfolding tokensOf four
-      tokens-stop n z g =
-          let m : i + 1 + (n - (i + 1)) ≡ n = omega arith in
-          let s : take n four ≡ take (i + 1) four ++ take (n - (i + 1)) (drop (i + 1) four) = sym (ap (λ (x : ℕ). take x four) m) ∙ take-add (i + 1) (n - (i + 1)) four in
-          rw (s, tokens-append (All []) (take (i + 1) four) (take (n - (i + 1)) (drop (i + 1) four))) (refusal-stays _ _ _ z (one-more t _ h e (request-refused q i t (k .read) (k .counted) p w z)))
-
-    pub tokens-all : (n : ℕ) → i ≤ n → n ≤ i → RequestIs q (tokensOf (take n (sn1 ∷ sn2 ∷ sn3 ∷ sn4 ∷ [])))
-    tokens-all n h l = let e : i ≡ n = omega arith in rw e at (k .is)
-
-    -- there are no more than four
-    pub tokens-four : (n : ℕ) → 4 ≤ i → i < n → RequestIs q (tokensOf (take n (sn1 ∷ sn2 ∷ sn3 ∷ sn4 ∷ [])))
-    unfolding four
-    tokens-four n h l = rw (take-all i four (omega arith), ← take-all n four (omega arith)) at (k .is)

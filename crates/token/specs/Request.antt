@@ -1,11 +1,8 @@
 -- The tokens of a request, read in order. 01, Accepted, or refused by whom: "Refused: a number, the token's place from 1". Assumes nothing.
-use Prim.Native.Nat.{ℕ, _+_, _≤_, _<_}
-use mathlib.Core.Path.{_≡_}
+use Prim.Native.Nat.{ℕ, _+_}
 use mathlib.Core.List.{List, [], _∷_, _++_}
-use lib.ListN.{length, take}
-use Rattle.record.specs.declared.ParsedChain.{ParsedChain}
-use Rattle.record.specs.Chain.{Chain, Outcome, Read, Refused, Holds}
-use Rattle.token.specs.declared.Request.{Request}
+use lib.ListN.{length}
+use Rattle.record.specs.Chain.{Chain, Outcome, Read, Refused}
 use Rattle.token.specs.Token.{tokenOf}
 
 -- the chains of all tokens, or the first refusal: its number and the token's place
@@ -26,15 +23,3 @@ tokensFrom v (t ∷ ts) = tokensFrom (withToken v (tokenOf t)) ts
 -- the tokens in order
 unfoldable pub tokensOf : List (List ℕ) → Verdict
 tokensOf ts = tokensFrom (All []) ts
-
--- ---- what a request of the code holds
-
--- records that hold chains, one by one
-pub data HoldsAll : List ParsedChain → List Chain → Type 0 where
-  none : HoldsAll [] []
-  more : {c : ParsedChain} {d : Chain} {cs : List ParsedChain} {ds : List Chain} → Holds c d → HoldsAll cs ds → HoldsAll (c ∷ cs) (d ∷ ds)
-
--- the request r stands for a verdict
-abbrev pub RequestIs : Request → Verdict → Type 0
-RequestIs r (All ds) = (r .refusal ≡ 0) × (r .place ≡ 0) × (r .count ≡ length ds) × HoldsAll (take (r .count) (r .chains)) ds
-RequestIs r (First n p) = (r .refusal ≡ n) × (r .place ≡ p) × (0 < n)

@@ -1,5 +1,5 @@
 // The token reader: one chain token, as lent bytes, to a chain record, to 31 or to 11. Every byte string of every length has an answer, and
-// it is the one that specs/Token.antt defines; a record that is read holds the chain. Then the tokens of a request, in order.
+// it is the one that specs/Token.antt defines; a record that is read holds the chain.
 use opening::Branch;
 use record::ChainPrefix;
 use record::Parsed;
@@ -7,11 +7,8 @@ use record::ParsedChain;
 use scan::Number;
 ghost use mathlib.Core.Path.{_≡_};
 ghost use Prim.Native.Nat.{_<_};
-ghost use mathlib.Core.List.{[], _∷_};
-ghost use lib.ListN.{getD, take};
 ghost use Rattle.record.specs.Chain.{Stands, Gives};
-ghost use Rattle.token.specs.Token.{printable, allPrintable, MissingIs, bareOxygens, Bare, finished, restOf, countedList, Begins, listedOf, afterCount, bondsOf, namedChain, trimmedOf, tokenOf};
-ghost use Rattle.token.specs.Request.{RequestIs, All, tokensOf};
+ghost use Rattle.token.specs.Token.{printable, allPrintable, MissingIs, Bare, finished, restOf, countedList, Begins, listedOf, afterCount, bondsOf, namedChain, trimmedOf, tokenOf};
 
 // The longest token.
 const MAX_BYTES: usize = 255;
@@ -235,77 +232,3 @@ pub fn parse_chain_token(s: &[u8]) -> Parsed
 
 // The most tokens of a request.
 pub const MAX_TOKENS: usize = 4;
-
-// The chains of a request: the first `count` of `chains`, in the order of its tokens; or the number and the place, from 1, of the first
-// token that is refused.
-pub struct Request {
-    pub refusal: u16,
-    pub place: usize,
-    pub count: usize,
-    pub chains: [ParsedChain; MAX_TOKENS],
-}
-
-impl Request {
-    // No token read yet, and room for each.
-    fn new() -> Request
-        ensures { λ r. ⌜ RequestIs r (All []) ⌝ }
-    {
-        let chain = ParsedChain::new(ChainPrefix::Acyl, 0, 0, false);
-        let chains = [chain; MAX_TOKENS];
-        Request {
-            refusal: 0,
-            place: 0,
-            count: 0,
-            chains,
-        }
-    }
-}
-
-// Token i, counted from 0.
-fn token_at<'a>(i: usize, sn1: &'a [u8], sn2: &'a [u8], sn3: &'a [u8], sn4: &'a [u8]) -> &'a [u8]
-    requires { ⌜ i < 4 ⌝ }
-    ensures { λ r. ⌜ now r ≡ getD (now (sn1 .entry) ∷ now (sn2 .entry) ∷ now (sn3 .entry) ∷ now (sn4 .entry) ∷ []) i [] ⌝ }
-{
-    if i == 0 {
-        return sn1;
-    }
-    if i == 1 {
-        return sn2;
-    }
-    if i == 2 {
-        return sn3;
-    }
-    sn4
-}
-
-// The first `count` tokens, in order; of more than four, four. After a refusal none is read.
-pub fn parse_tokens<'a>(
-    count: usize,
-    sn1: &'a [u8],
-    sn2: &'a [u8],
-    sn3: &'a [u8],
-    sn4: &'a [u8],
-) -> Request
-    ensures { λ r. ⌜ RequestIs r (tokensOf (take count (now (sn1 .entry) ∷ now (sn2 .entry) ∷ now (sn3 .entry) ∷ now (sn4 .entry) ∷ []))) ⌝ }
-{
-    let mut request = Request::new();
-    let mut i = 0;
-    while i < count {
-        if MAX_TOKENS <= i {
-            return request;
-        }
-        let room = request.chains[i];
-        let parsed = parse_token(token_at(i, sn1, sn2, sn3, sn4), room);
-        let refusal = parsed.refusal;
-        if refusal != 0 {
-            request.refusal = refusal;
-            request.place = i + 1;
-            return request;
-        }
-        let chain = parsed.chain;
-        request.chains[i] = chain;
-        i += 1;
-        request.count = i;
-    }
-    request
-}
