@@ -135,14 +135,14 @@ impl ParsedChain {
         prefix: ChainPrefix,
         written: u16,
         carbon: u16,
-        branched: bool,
+        has_branch: bool,
     ) -> ParsedChain
-        ensures { λ r. ⌜ Holds r (noFeatures prefix written carbon branched) ⌝ }
+        ensures { λ r. ⌜ Holds r (noFeatures prefix written carbon «has_branch») ⌝ }
     {
         let bonds = self.bonds;
         let groups = self.groups;
         let rings = self.rings;
-        ParsedChain::with_room(prefix, written, carbon, branched, bonds, groups, rings)
+        ParsedChain::with_room(prefix, written, carbon, has_branch, bonds, groups, rings)
     }
 
     // One double bond more.
