@@ -16,7 +16,7 @@ use Rattle.form.specs.declared.Form.{Form}
 use Rattle.form.specs.declared.Form.the-variants.{Ring, Repeated, Listed, Parts}
 use Rattle.form.specs.Form.{cyText, groupForm, spanForm, formOf, PlacedIn, Formed, endsInParenthesis, afterPlace}
 pub use Rattle.split.proofs.Laws.{parts-last, parts-more, parts-first, list-none, list-some}
-pub use Rattle.number.proofs.Laws.{trimmed-fits, position-fits, one-fits}
+pub use Rattle.numbers.proofs.Laws.{trimmed-fits, position-fits, one-fits}
 
 -- ---- the form
 

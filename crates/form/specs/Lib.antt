@@ -1,3 +1,3 @@
 pub use Rattle.split.specs.Parts
-pub use Rattle.number.specs.Numbers
+pub use Rattle.numbers.specs.Numbers
 pub mod Form

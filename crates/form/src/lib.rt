@@ -1,13 +1,13 @@
-// How a segment of a token is written: which of the four forms it has; and, as `brackets`, `split` and `number` have them, its text without
+// How a segment of a token is written: which of the four forms it has; and, as `brackets`, `split` and `numbers` have them, its text without
 // brackets, the parts of a list and the numbers in it. Each function is defined for every byte string and refuses nothing. 01's sentences
 // stand in specs/Form.antt.
 ghost use mathlib.Core.Path.{_≡_};
 ghost use Rattle.form.specs.Form.{Formed, formOf, groupForm, endsInParenthesis, afterPlace};
 pub use brackets::segment_text;
-pub use number::leading_position;
-pub use number::number_or_one;
-pub use number::ring_count;
-pub use number::trimmed_number;
+pub use numbers::leading_position;
+pub use numbers::number_or_one;
+pub use numbers::ring_count;
+pub use numbers::trimmed_number;
 pub use split::position_count;
 
 // The four forms, with the places that part them.

@@ -2,7 +2,7 @@
 // nothing; a number that cannot be read is an answer. 01's sentences stand in specs/Numbers.antt.
 use scan::Number;
 ghost use mathlib.Core.Path.{_≡_};
-ghost use Rattle.number.specs.Numbers.{trimmedNumber, ringCount, leadingPosition, numberOrOne};
+ghost use Rattle.numbers.specs.Numbers.{trimmedNumber, ringCount, leadingPosition, numberOrOne};
 
 // A number with spaces around it: a ring's start, end and size, and the position of a group in a list.
 pub fn trimmed_number(s: &[u8]) -> Number

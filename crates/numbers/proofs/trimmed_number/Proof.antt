@@ -1,7 +1,7 @@
-use Rattle.number.proofs.Laws.{trimmed-number-is}
+use Rattle.numbers.proofs.Laws.{trimmed-number-is}
 use borrow.Author.Needs.{needs}
-use Rattle.number.proofs.trimmed_number.Statement.{statement}
-use Rattle.number.proofs.trimmed_number.Tie as tie
+use Rattle.numbers.proofs.trimmed_number.Statement.{statement}
+use Rattle.numbers.proofs.trimmed_number.Tie as tie
 
 trim-requires : tie.Need-trim-requires
 trim-requires c κs = search needs

@@ -12,7 +12,7 @@ use Rattle.scan.specs.Part.{trimmed}
 use Rattle.scan.specs.Number.{digitsUpTo, numberUpTo, numberLimit, ringCountLimit}
 use Rattle.scan.specs.declared.Number.{Number}
 use Rattle.scan.specs.declared.Number.the-variants.{Value}
-use Rattle.number.specs.Numbers.{trimmedNumber, unlessBlank, ringCount, leadingPosition, numberOrOne}
+use Rattle.numbers.specs.Numbers.{trimmedNumber, unlessBlank, ringCount, leadingPosition, numberOrOne}
 
 pub trimmed-number-is : (s t : List ℕ) (r : Number) → t ≡ trimmed s → r ≡ numberUpTo numberLimit t → r ≡ trimmedNumber s
 unfolding trimmedNumber

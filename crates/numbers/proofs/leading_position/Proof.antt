@@ -1,7 +1,7 @@
-use Rattle.number.proofs.Laws.{position-blank, position-number}
+use Rattle.numbers.proofs.Laws.{position-blank, position-number}
 use borrow.Author.Needs.{needs}
-use Rattle.number.proofs.leading_position.Statement.{statement}
-use Rattle.number.proofs.leading_position.Tie as tie
+use Rattle.numbers.proofs.leading_position.Statement.{statement}
+use Rattle.numbers.proofs.leading_position.Tie as tie
 
 returns : tie.Need-returns
 returns c = search position-blank

@@ -1,7 +1,7 @@
-use Rattle.number.proofs.Laws.{count-blank, count-number}
+use Rattle.numbers.proofs.Laws.{count-blank, count-number}
 use borrow.Author.Needs.{needs}
-use Rattle.number.proofs.ring_count.Statement.{statement}
-use Rattle.number.proofs.ring_count.Tie as tie
+use Rattle.numbers.proofs.ring_count.Statement.{statement}
+use Rattle.numbers.proofs.ring_count.Tie as tie
 
 trim-requires : tie.Need-trim-requires
 trim-requires c κs = search needs

@@ -1,7 +1,7 @@
-use Rattle.number.proofs.Laws.{one-blank, one-number}
+use Rattle.numbers.proofs.Laws.{one-blank, one-number}
 use borrow.Author.Needs.{needs}
-use Rattle.number.proofs.number_or_one.Statement.{statement}
-use Rattle.number.proofs.number_or_one.Tie as tie
+use Rattle.numbers.proofs.number_or_one.Statement.{statement}
+use Rattle.numbers.proofs.number_or_one.Tie as tie
 
 returns : tie.Need-returns
 returns c = search one-blank
