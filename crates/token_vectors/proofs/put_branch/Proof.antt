@@ -7,6 +7,9 @@ use Rattle.token_vectors.proofs.put_branch.Tie as tie
 row-at-requires : tie.Need-row-at-requires
 row-at-requires c κs = search needs
 
+cast-n : tie.Need-cast-n
+cast-n c = search needs
+
 sub-put-text : tie.Need-sub-put-text
 sub-put-text c = search needs
 
@@ -30,6 +33,7 @@ put-branch-spec =
     tie.close
     (tie.spec
     row-at-requires
+    cast-n
     sub-put-text
     part-put-text-start
     part-put-text-end
