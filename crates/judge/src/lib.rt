@@ -198,9 +198,10 @@ fn token_at<'a>(i: usize, sn1: &'a [u8], sn2: &'a [u8], sn3: &'a [u8], sn4: &'a 
     sn4
 }
 
-// Token i, counted from 0, in its place. Its chain is drawn before its kind is known to fit: most do.
+// Token i, counted from 0, in its place, read in the room of a record at hand. Its chain is drawn before its kind is known to fit: most do.
 fn look<'a>(
     class: Class,
+    room: ParsedChain,
     i: usize,
     sn1: &'a [u8],
     sn2: &'a [u8],
@@ -211,7 +212,7 @@ fn look<'a>(
     ensures { λ r. ⌜ SeenIs (roleOf class (i + 1)) r (tokenOf (getD (now (sn1 .entry) ∷ now (sn2 .entry) ∷ now (sn3 .entry) ∷ now (sn4 .entry) ∷ []) i [])) ⌝ }
 {
     let role = class::role_of(class, i + 1);
-    let parsed = token::parse_chain_token(token_at(i, sn1, sn2, sn3, sn4));
+    let parsed = token::parse_token(token_at(i, sn1, sn2, sn3, sn4), room);
     let chain = parsed.chain;
     let drawn = drawable::drawn_as(role, chain);
     let reasons = Reasons {
@@ -238,13 +239,14 @@ fn judge_tokens<'a>(
     requires { ⌜ count ≤ 4 ⌝ }
     ensures { λ r. ⌜ JudgedIs r (judgeRead class (now (tail .entry)) (tokensOf (tokens count (now (sn1 .entry)) (now (sn2 .entry)) (now (sn3 .entry)) (now (sn4 .entry))))) ⌝ }
 {
-    let seen = look(class, 0, sn1, sn2, sn3, sn4);
+    let room = ParsedChain::new(ChainPrefix::Acyl, 0, 0, false);
+    let seen = look(class, room, 0, sn1, sn2, sn3, sn4);
     let first = seen.drawn;
     let mut faults = Faults::new().join(seen.reasons, 1);
     let mut items = [first; MAX_TOKENS];
     let mut i = 1;
     while i < count {
-        let next = look(class, i, sn1, sn2, sn3, sn4);
+        let next = look(class, room, i, sn1, sn2, sn3, sn4);
         let drawn = next.drawn;
         faults = faults.join(next.reasons, i + 1);
         items[i] = drawn;

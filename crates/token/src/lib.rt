@@ -203,8 +203,8 @@ fn parse_trimmed(t: &[u8], room: ParsedChain) -> Parsed
     parse_named(prefix, branch, &t[n..], room)
 }
 
-// The chain that a token says.
-fn parse_token(s: &[u8], room: ParsedChain) -> Parsed
+// The chain that a token says, made in the room of a record at hand: whoever reads several tokens fills a new one only once.
+pub fn parse_token(s: &[u8], room: ParsedChain) -> Parsed
     ensures { λ r. ⌜ Stands r (tokenOf (now (s .entry))) ⌝ }
 {
     if MAX_BYTES < s.len() {
