@@ -1,15 +1,15 @@
 -- Laws of the atom counts: a branch, the groups of a carbon, a carbon, and the atoms of a stretch of carbons.
 -- Assumes nothing.
-use Prim.Native.Nat.{ℕ, zero, suc, _+_, _-_, _*_, _≤_, _<_}
+use Prim.Native.Nat.{ℕ, zero, suc, _+_, _-_, _*_, _^_, _≤_, _<_}
 use native.Mathlib.Numerals.{add-one}
 use native.Mathlib.Omega.{arith}
 use mathlib.Core.Path.{_≡_, refl, sym, ap, _∙_}
 use mathlib.Core.Bool.{Bool, true, false, cond, _||_}
-use mathlib.Core.List.{List, [], _∷_, _++_, append-nil, append-assoc, map}
+use mathlib.Core.List.{List, [], _∷_, _++_, map}
 use lib.Dec.{eqb, leb}
-use lib.ListN.{length, take, drop, getD, set, replicate, length-set, length-replicate, length-append}
-use lib.Seq.{take-suc-set}
+use lib.ListN.{length, drop, getD, length-append}
 use borrow.Author.Tests.{eq-eqb, ne-eqb, leb-true, leb-false}
+use Rattle.emit.specs.Text.{Written}
 use Rattle.groups.specs.declared.Row.{Row}
 use Rattle.groups.specs.Groups.{Entry, entries, blank, entryAt, entryOf, RowIs}
 use Rattle.groups.proofs.Laws.{every, every-at}
@@ -20,15 +20,17 @@ use Rattle.reading.specs.Chain.{Carbon, partsEnd, bridgeEnd, carbonEnd, chainEn
 use Rattle.chain.specs.Lists.{only, valuesFrom}
 use Rattle.chain.specs.Drawing.{orNone, branchPart, branches}
 use Rattle.drawable.specs.declared.Drawn.{Drawn}
-use Rattle.drawable.specs.Drawn.{Length, groupRoom, noGroup, groupsIn}
+use Rattle.drawable.specs.Drawn.{Length, noGroup, groupsDrawn}
 use Rattle.fragment.specs.Text.{sitting, carbonylOf, carbonOf}
 use Rattle.carbons.specs.ByCarbon.{groupOn, ringOn, carbonylOn, busyAt, Busy}
-use Rattle.atoms.specs.Atoms.{Counts, bridgedAt, carbonSize, bareSize, starts, literalOf, Numbered, LiteralNumbers}
+use Rattle.atoms.specs.Atoms.{Counts, bridgedAt, carbonSize, bareSize, starts, literalOf, indices, Numbered, LiteralNumbers}
+use Rattle.atoms.specs.Index.{indexFrom}
 use Rattle.carbons.specs.declared.ChainTokens.{ChainTokens}
 use Rattle.carbons.specs.Tokens.{TokensOf}
 use Rattle.carbons.proofs.TokenLaws.{length-values}
 use Rattle.fragment.proofs.RangeLaws.{or-left, or-right, no-groups, no-carbonyl, zero-false}
 use Rattle.carbons.proofs.Fronts.{next-of, none-left}
+use Rattle.carbons.proofs.Left.{Left, left-all, left-less, left-none, left-length}
 use Rattle.fragment.proofs.TextLaws.{branch-size, sitting-past}
 
 -- ---- counts that start elsewhere
@@ -110,7 +112,7 @@ sitting-first : (k : ℕ) (g : Mod) (gs : List Mod) → g .pos ≡ k → sitting
 unfolding sitting only
 sitting-first k g gs e = rw (eq-eqb (g .pos) k e)
 
-module _ {n sum : ℕ} {gs : List Mod} (k i : ℕ) (s : Length groupRoom gs n) (v : Sums gs k sum i) where
+module _ {room n sum : ℕ} {gs : List Mod} (k i : ℕ) (s : Length room gs n) (v : Sums gs k sum i) where
   pub sums-here : (g : Mod) (m : ℕ) → i < n → g ≡ getD gs i noGroup → g .pos ≡ k → Counts 5 (branchPart (g .row) .size) m → Sums gs k (sum + m) (i + 1)
   unfolding branches partsEnd
   sums-here g m h e f c =
@@ -126,9 +128,9 @@ module _ {n sum : ℕ} {gs : List Mod} (k i : ℕ) (s : Length groupRoom gs n) (
         few = omega (arith, v .few);
       }
 
-  pub sums-end : i ≤ n → n ≤ i → Counts 90 (partsEnd 0 (branches (sitting k gs))) sum
+  pub sums-end : room ≤ 18 → i ≤ n → n ≤ i → Counts 90 (partsEnd 0 (branches (sitting k gs))) sum
   unfolding sitting only branches partsEnd
-  sums-end g h =
+  sums-end f g h =
       record {
         is = sym (v .is ∙ ap (λ (us : List Mod). partsEnd sum (branches (sitting k us))) (none-left s i h));
         few = omega (arith, v .few, s .fits);
@@ -196,28 +198,27 @@ busy-counted acyl gs b k n m o u v w =
 literal-few : (x : Drawn) (t : ChainTokens) → TokensOf x t → length (literalOf x t) ≤ 255
 unfolding literalOf
 literal-few x t w =
-    omega (arith, w .first, w .room, length-values (carbonOf (x .acyl) (t .bonds) (groupsIn (x .groups))) (t .first) (suc (t .last) - t .first))
+    omega (arith, w .first, w .room, length-values (carbonOf (x .acyl) (t .bonds) (groupsDrawn x)) (t .first) (suc (t .last) - t .first))
 
--- of the carbons cs, `count` have their atoms in an array, and `rest` are left, the first of them atom `next`
-pub record Numbering (cs : List Carbon) (atoms : List ℕ) (count next : ℕ) (rest : List Carbon) : Type 0 where
-  pub size : length atoms ≡ 256
+-- of the carbons cs, the indices of `count` are written, and `rest` are left, the first of them atom `next`
+pub record Numbering (first : ℕ) (cs : List Carbon) (xs : List ℕ) (at : ℕ) (ys : List ℕ) (p count next : ℕ) (rest : List Carbon) : Type 0 where
+  pub left : Left xs at (indices first (starts 0 cs)) ys p (indices first (starts next rest))
   pub counted : count + length rest ≡ length cs
-  pub are : take count atoms ++ starts next rest ≡ starts 0 cs
   pub ends : chainEnd next rest ≡ chainEnd 0 cs
   pub few : next ≤ 93 * count
 
-pub numbering-none : (cs : List Carbon) → Numbering cs (replicate 256 0) 0 0 cs
-numbering-none cs = record { size = length-replicate {A = ℕ} 256 0; counted = omega arith; are = refl; ends = refl; few = omega arith }
+pub numbering-none : (first : ℕ) (cs : List Carbon) (xs : List ℕ) (at : ℕ) → at < 2 ^ 64 → Numbering first cs xs at xs at 0 0 cs
+numbering-none first cs xs at h = record { left = left-all xs at (indices first (starts 0 cs)) h; counted = omega arith; ends = refl; few = omega arith }
 
-numbering-one : {cs rest : List Carbon} {atoms : List ℕ} {count next : ℕ} (c : Carbon) (m : ℕ) → Numbering cs atoms count next (c ∷ rest) → count < 256
-    → m ≡ carbonEnd 0 c → m ≤ 93 → Numbering cs (set atoms count next) (count + 1) (next + m) rest
+numbering-one : {first at : ℕ} {cs rest : List Carbon} {xs ys zs : List ℕ} {p q count next : ℕ} (c : Carbon) (m : ℕ) → length xs < 2 ^ 64
+    → Numbering first cs xs at ys p count next (c ∷ rest) → Written ys p (indexFrom first next ∷ []) zs q → m ≡ carbonEnd 0 c → m ≤ 93
+    → Numbering first cs xs at zs q (count + 1) (next + m) rest
 unfolding starts chainEnd
-numbering-one {cs} {rest} {atoms} {count} {next} c m v h e f =
+numbering-one {first} {at} {cs} {rest} {xs} {ys} {zs} {p} {q} {count} {next} c m g v w e f =
     let z : carbonEnd next c ≡ next + m = carbon-plus next c ∙ ap (λ (n : ℕ). next + n) (sym e) in
     record {
-      size = length-set atoms count next ∙ v .size;
+      left = left-less (indices first (starts (next + m) rest)) g (v .left) (rw z) w;
       counted = omega (arith, v .counted);
-      are = rw (add-one count, take-suc-set atoms count next (omega (arith, v .size)), append-assoc (take count atoms) (next ∷ []) (starts (next + m) rest), ← z) (v .are);
       ends = rw (← z) (v .ends);
       few = omega (arith, v .few);
     }
@@ -230,41 +231,46 @@ empty-parts acyl gs rs k e =
     rw (no-carbonyl acyl k a, no-groups k gs (or-left (groupOn gs k) (ringOn rs k) b))
 
 -- a turn of the loop through the carbons, and its end
-module _ {cs : List Carbon} {atoms : List ℕ} {count next : ℕ} (acyl : Bool) (ks : List ℕ) (gs : List Mod) (rs : List Closed) (k last : ℕ)
-    (v : Numbering cs atoms count next (valuesFrom (carbonOf acyl ks gs) k (suc last - k))) where
-  here : k ≤ last → Numbering cs atoms count next (carbonOf acyl ks gs k ∷ valuesFrom (carbonOf acyl ks gs) (k + 1) (suc last - (k + 1)))
+module _ {first at : ℕ} {cs : List Carbon} {xs ys : List ℕ} {p count next : ℕ} (acyl : Bool) (ks : List ℕ) (gs : List Mod) (rs : List Closed) (k last : ℕ)
+    (v : Numbering first cs xs at ys p count next (valuesFrom (carbonOf acyl ks gs) k (suc last - k))) where
+  here : k ≤ last → Numbering first cs xs at ys p count next (carbonOf acyl ks gs k ∷ valuesFrom (carbonOf acyl ks gs) (k + 1) (suc last - (k + 1)))
   unfolding valuesFrom
   here h =
       let z : suc last - k ≡ suc (suc last - suc k) = omega arith in
       rw (add-one k) (rw z at v)
 
-  pub number-busy : (f m : ℕ) → last ≤ 255 → k ≤ last → count + (suc last - k) ≡ suc last - f → Counts 93 (carbonSize acyl gs (getD ks k 0) k) m
-      → Numbering cs (set atoms count next) (count + 1) (next + m) (valuesFrom (carbonOf acyl ks gs) (k + 1) (suc last - (k + 1)))
+  pub number-busy : {zs : List ℕ} {q : ℕ} (i m : ℕ) → length xs < 2 ^ 64 → k ≤ last → i ≡ indexFrom first next → Written ys p (i ∷ []) zs q
+      → Counts 93 (carbonSize acyl gs (getD ks k 0) k) m
+      → Numbering first cs xs at zs q (count + 1) (next + m) (valuesFrom (carbonOf acyl ks gs) (k + 1) (suc last - (k + 1)))
   unfolding carbonSize carbonOf carbonEnd
-  number-busy f m o h j c = numbering-one (carbonOf acyl ks gs k) m (here h) (omega arith) (c .is) (c .few)
+  number-busy i m g h e w c = numbering-one (carbonOf acyl ks gs k) m g (here h) (rw e at w) (c .is) (c .few)
 
-  pub number-bare : {bs : List ℕ} (f m : ℕ) → Busy acyl gs rs bs → last ≤ 255 → k ≤ last → count + (suc last - k) ≡ suc last - f → getD bs k 0 ≡ 0 → Counts 93 (bareSize (getD ks k 0)) m
-      → Numbering cs (set atoms count next) (count + 1) (next + m) (valuesFrom (carbonOf acyl ks gs) (k + 1) (suc last - (k + 1)))
+  pub number-bare : {zs bs : List ℕ} {q : ℕ} (i m : ℕ) → length xs < 2 ^ 64 → Busy acyl gs rs bs → last ≤ 255 → k ≤ last → i ≡ indexFrom first next → Written ys p (i ∷ []) zs q
+      → getD bs k 0 ≡ 0 → Counts 93 (bareSize (getD ks k 0)) m
+      → Numbering first cs xs at zs q (count + 1) (next + m) (valuesFrom (carbonOf acyl ks gs) (k + 1) (suc last - (k + 1)))
   unfolding bareSize carbonOf carbonEnd
-  number-bare f m b o h j e c =
-      let z : carbonylOf acyl k ++ branches (sitting k gs) ≡ [] = empty-parts acyl gs rs k (zero-false (busyAt acyl gs rs k) (sym (b .at k (omega arith)) ∙ e)) in
-      numbering-one (carbonOf acyl ks gs k) m (here h) (omega arith) (rw z (c .is)) (c .few)
+  number-bare i m g b o h e w z c =
+      let y : carbonylOf acyl k ++ branches (sitting k gs) ≡ [] = empty-parts acyl gs rs k (zero-false (busyAt acyl gs rs k) (sym (b .at k (omega arith)) ∙ z)) in
+      numbering-one (carbonOf acyl ks gs k) m g (here h) (rw e at w) (rw y (c .is)) (c .few)
 
-  pub numbers-end : last < k → Numbering cs atoms count next []
+  pub numbers-end : last < k → Numbering first cs xs at ys p count next []
   unfolding valuesFrom
   numbers-end h =
       let z : suc last - k ≡ 0 = omega arith in
       rw z at v
 
-pub numbers-literal : {atoms : List ℕ} {count next : ℕ} (x : Drawn) (t : ChainTokens) (k last : ℕ) → TokensOf x t
-    → Numbering (literalOf x t) atoms count next (valuesFrom (carbonOf (x .acyl) (t .bonds) (groupsIn (x .groups))) k (suc last - k))
-    → last < k → LiteralNumbers x t (record { count = count; next = next; atoms = atoms })
+pub numbers-literal : {first at : ℕ} {xs ys : List ℕ} {p count next : ℕ} (x : Drawn) (t : ChainTokens) (k last : ℕ) → TokensOf x t
+    → Numbering first (literalOf x t) xs at ys p count next (valuesFrom (carbonOf (x .acyl) (t .bonds) (groupsDrawn x)) k (suc last - k))
+    → last < k → LiteralNumbers first x t xs at ys (record { at = p; count = count; next = next })
 unfolding starts chainEnd
-numbers-literal {atoms} {count} {next} x t k last w v h =
-    let e = numbers-end (x .acyl) (t .bonds) (groupsIn (x .groups)) [] k last v h in
+numbers-literal {first} {at} {xs} {ys} {p} {count} {next} x t k last w v h =
+    let e = numbers-end (x .acyl) (t .bonds) (groupsDrawn x) [] k last v h in
     let n : count ≡ length (literalOf x t) = omega (arith, e .counted) in
     record {
-      numbered = record { size = e .size; count = n; atoms = sym (append-nil (take count atoms)) ∙ e .are; next = e .ends };
+      numbered = record { written = left-none (e .left) refl; count = n; next = e .ends };
       room = omega (arith, literal-few x t w);
       few = e .few;
     }
+
+pub numbers-size : {first at : ℕ} {cs rest : List Carbon} {xs ys : List ℕ} {p count next : ℕ} → Numbering first cs xs at ys p count next rest → length ys ≡ length xs
+numbers-size v = left-length (v .left)

@@ -1,3 +1,4 @@
+pub mod IndexLaws
 pub mod AtomLaws
 pub mod NumberLaws
 pub mod SumLaws

@@ -1,15 +1,15 @@
 -- Laws of the atoms of a whole chain: the flexible tail, the floating groups, and that what is counted is what the drawing says.
 -- Assumes nothing.
-use Prim.Native.Nat.{ℕ, zero, suc, _+_, _-_, _*_, _≤_, _<_, min}
-use native.Mathlib.Numerals.{add-one}
+use Prim.Native.Nat.{ℕ, zero, suc, _+_, _-_, _*_, _^_, _≤_, _<_, min}
 use native.Mathlib.Omega.{arith}
 use mathlib.Core.Path.{_≡_, refl, sym, ap, _∙_}
 use mathlib.Core.Bool.{Bool, true, false, cond}
-use mathlib.Core.List.{List, [], _∷_, _++_, append-nil, append-assoc, map}
+use mathlib.Core.List.{List, [], _∷_, _++_, map, map-append}
 use lib.Dec.{eqb}
-use lib.ListN.{length, take, drop, getD, set, length-set, length-append}
-use lib.Seq.{take-suc-set}
+use lib.ListN.{length, drop, getD, length-append}
 use borrow.Author.Tests.{eq-eqb, ne-eqb}
+use Rattle.emit.specs.Text.{Written}
+use Rattle.emit.proofs.Laws.{written-nil, written-append, written-length}
 use Rattle.record.specs.declared.Mod.{Mod}
 use Rattle.record.specs.Chain as read
 use Rattle.reading.specs.Part.{Part}
@@ -20,12 +20,13 @@ use Rattle.chain.specs.Features.{firstDrawn, literalEnd, flexibleCount, drawnCo
 use Rattle.chain.specs.Bonds.{bondAt, markOf}
 use Rattle.chain.specs.Drawing.{branchPart, branches, bare, pairs, flexible, literal, carbons, floats, carbonAtoms, flexibleAtom, atomsEnd}
 use Rattle.drawable.specs.declared.Drawn.{Drawn}
-use Rattle.drawable.specs.Drawn.{Length, groupRoom, noGroup, groupsIn, Draws}
+use Rattle.drawable.specs.Drawn.{Length, noGroup, floatsDrawn, Draws}
 use Rattle.carbons.specs.declared.ChainTokens.{ChainTokens}
 use Rattle.atoms.specs.declared.Numbers.{Numbers}
 use Rattle.carbons.specs.Tokens.{TokensOf}
 use Rattle.fragment.specs.Segment.{Readable}
-use Rattle.atoms.specs.Atoms.{Counts, starts, tailCount, literalOf, Numbered, LiteralNumbers, TailNumbers, AtomsAre, AtomsOf}
+use Rattle.atoms.specs.Atoms.{Counts, starts, tailCount, literalOf, indices, ups, Numbered, LiteralNumbers, TailNumbers, AtomsAre, AtomsOf}
+use Rattle.atoms.specs.Index.{indexFrom}
 use Rattle.carbons.proofs.Fronts.{next-of, none-left}
 use Rattle.atoms.proofs.AtomLaws.{carbon-shift, chain-shift, float-shift}
 use Rattle.fragment.proofs.SegmentLaws.{literal-is, literal-length}
@@ -47,30 +48,31 @@ tail-long c n e h = rw (ne-eqb n 0 e) (omega arith)
 
 -- ---- numbers that follow one another
 
-unfoldable pub ups : ℕ → ℕ → List ℕ
-ups n zero = []
-ups n (suc m) = n ∷ ups (suc n) m
-
-pub record Tail (atoms₀ : List ℕ) (count₀ next₀ end : ℕ) (atoms : List ℕ) (count next : ℕ) : Type 0 where
-  pub size : length atoms ≡ 256
-  pub within : count ≤ end
-  pub are : take count atoms ++ ups next (end - count) ≡ take count₀ atoms₀ ++ ups next₀ (end - count₀)
-  pub ends : next + (end - count) ≡ next₀ + (end - count₀)
-
-pub tail-start : (atoms : List ℕ) (count next end : ℕ) → length atoms ≡ 256 → count ≤ end → Tail atoms count next end atoms count next
-tail-start atoms count next end l h = record { size = l; within = h; are = refl; ends = refl }
-
-pub tail-next : {xs₀ xs : List ℕ} {c₀ n₀ end c n : ℕ} → Tail xs₀ c₀ n₀ end xs c n → end ≤ 256 → c < end → Tail xs₀ c₀ n₀ end (set xs c n) (c + 1) (n + 1)
+ups-more : (n m : ℕ) → ups n (suc m) ≡ ups n m ++ (n + m) ∷ []
 unfolding ups
-tail-next {xs₀} {xs} {c₀} {n₀} {end} {c} {n} v g h =
-    let z : end - c ≡ suc (end - suc c) = omega arith in
-    let e : take c xs ++ (n ∷ ups (suc n) (end - suc c)) ≡ take c₀ xs₀ ++ ups n₀ (end - c₀) = rw z at (v .are) in
-    record {
-      size = length-set xs c n ∙ v .size;
-      within = omega arith;
-      are = rw (add-one c, add-one n, take-suc-set xs c n (omega (arith, v .size)), append-assoc (take c xs) (n ∷ []) (ups (suc n) (end - suc c))) e;
-      ends = omega (arith, v .ends);
-    }
+ups-more n zero = let z : n + 0 ≡ n = omega arith in rw z
+ups-more n (suc m) = let z : n + suc m ≡ suc n + m = omega arith in rw z (ap (λ (l : List ℕ). n ∷ l) (ups-more (suc n) m))
+
+-- the indices of the tail so far
+pub record Tail (first : ℕ) (xs : List ℕ) (at count₀ next₀ : ℕ) (ys : List ℕ) (p count next : ℕ) : Type 0 where
+  pub written : Written xs at (indices first (ups next₀ (count - count₀))) ys p
+  pub from : count₀ ≤ count
+  pub is : next ≡ next₀ + (count - count₀)
+
+pub tail-start : (first : ℕ) (xs : List ℕ) (at count next : ℕ) → at < 2 ^ 64 → Tail first xs at count next xs at count next
+unfolding ups
+tail-start first xs at count next h =
+    let z : count - count ≡ 0 = omega arith in
+    record { written = rw z (written-nil xs at h); from = omega arith; is = omega arith }
+
+pub tail-next : {first at c₀ n₀ p c n : ℕ} {xs ys zs : List ℕ} {q : ℕ} (i : ℕ) → length xs < 2 ^ 64 → Tail first xs at c₀ n₀ ys p c n → i ≡ indexFrom first n → Written ys p (i ∷ []) zs q
+    → Tail first xs at c₀ n₀ zs q (c + 1) (n + 1)
+tail-next {first} {at} {c₀} {n₀} {p} {c} {n} {xs} {ys} {zs} {q} i g v e w =
+    let z : c + 1 - c₀ ≡ suc (c - c₀) = omega (arith, v .from) in
+    let m : n₀ + (c - c₀) ≡ n = sym (v .is) in
+    let t : indices first (ups n₀ (c + 1 - c₀)) ≡ indices first (ups n₀ (c - c₀)) ++ indexFrom first n ∷ []
+    = rw (z, ups-more n₀ (c - c₀), m) (map-append (indexFrom first) (ups n₀ (c - c₀)) (n ∷ [])) in
+    record { written = rw t (written-append g (v .written) (rw e at w)); from = omega (arith, v .from); is = omega (arith, v .is, v .from) }
 
 -- ---- carbons of one atom each
 
@@ -124,34 +126,25 @@ unfolding chainEnd
 end-append n [] ds = refl
 end-append n (c ∷ cs) ds = end-append (carbonEnd n c) cs ds
 
-pub tail-numbers : {atoms : List ℕ} {count next : ℕ} (n : Numbers) (u end : ℕ) → end ≡ min (n .count + tailCount u) 256 → Tail (n .atoms) (n .count) (n .next) end atoms count next
-    → end ≤ count → TailNumbers n u (record { count = count; next = next; atoms = atoms })
-unfolding ups
-tail-numbers {atoms} {count} {next} n u end e v h =
+pub tail-numbers : {first : ℕ} {xs ys : List ℕ} {p count next : ℕ} (n : Numbers) (u end : ℕ) → end ≡ min (n .count + tailCount u) 256
+    → Tail first xs (n .at) (n .count) (n .next) ys p count next → count ≤ end → end ≤ count → TailNumbers first u xs n ys (record { at = p; count = count; next = next })
+tail-numbers n u end e v g h = record { written = v .written; count = omega (arith, e); next = v .is }
+
+pub tail-size : {first at count₀ next₀ : ℕ} {xs ys : List ℕ} {p count next : ℕ} → Tail first xs at count₀ next₀ ys p count next → length ys ≡ length xs
+tail-size v = written-length (v .written)
+
+-- the tail after some carbons
+tail-after : {first : ℕ} {xs ys zs : List ℕ} {at : ℕ} {n r : Numbers} (cs : List Carbon) (b u : ℕ) → length xs < 2 ^ 64 → Numbered first cs xs at ys n → TailNumbers first u ys n zs r
+    → n .count + tailCount u ≤ 256 → Numbered first (cs ++ flexible b u) xs at zs r
+tail-after {first} {xs} {ys} {zs} {at} {n} {r} cs b u g w v h =
+    let z : r .count - n .count ≡ length (flexible b u) = omega (arith, v .count, flexible-length b u) in
+    let e : indices first (starts 0 (cs ++ flexible b u)) ≡ indices first (starts 0 cs) ++ indices first (ups (n .next) (r .count - n .count))
+    = rw (starts-append 0 cs (flexible b u), z, w .next, bares-starts (chainEnd 0 cs) (flexible b u) (flexible-bare b u)) (map-append (indexFrom first) (starts 0 cs) (ups (chainEnd 0 cs) (length (flexible b u)))) in
     record {
-      numbered = λ cs b w g. numbered cs b w g;
-      size = v .size;
-      room = omega (arith, v .within);
-      few = omega (arith, v .ends);
+      written = rw e (written-append g (w .written) (v .written));
+      count = omega (arith, v .count, w .count, length-append cs (flexible b u), flexible-length b u);
+      next = omega (arith, v .next, z, w .next, end-append 0 cs (flexible b u), bares-end (chainEnd 0 cs) (flexible b u) (flexible-bare b u));
     }
-  where
-    same : count ≡ end
-    same = omega (arith, v .within)
-
-    all : take count atoms ≡ take (n .count) (n .atoms) ++ ups (n .next) (end - n .count)
-    all =
-        let z : end - count ≡ 0 = omega (arith, same) in
-        sym (append-nil (take count atoms)) ∙ (rw z at (v .are))
-
-    numbered : (cs : List Carbon) (b : ℕ) → Numbered cs n → n .count + tailCount u ≤ 256 → Numbered (cs ++ flexible b u) (record { count = count; next = next; atoms = atoms })
-    numbered cs b w g =
-        let z : end - n .count ≡ length (flexible b u) = omega (arith, e, flexible-length b u) in
-        record {
-          size = v .size;
-          count = omega (arith, same, e, w .count, length-append cs (flexible b u), flexible-length b u);
-          atoms = all ∙ (rw (z, w .atoms, w .next) (sym (starts-append 0 cs (flexible b u) ∙ (rw (bares-starts (chainEnd 0 cs) (flexible b u) (flexible-bare b u))))));
-          next = omega (arith, v .ends, same, z, w .next, end-append 0 cs (flexible b u), bares-end (chainEnd 0 cs) (flexible b u) (flexible-bare b u));
-        }
 
 -- ---- the floating groups
 
@@ -162,7 +155,7 @@ pub record FloatSum (gs : List Mod) (first end i : ℕ) : Type 0 where
 pub floats-start : (gs : List Mod) (first : ℕ) → FloatSum gs first first 0
 floats-start gs first = record { is = refl; few = omega arith }
 
-module _ {n first end : ℕ} {gs : List Mod} (i : ℕ) (s : Length groupRoom gs n) (v : FloatSum gs first end i) where
+module _ {room n first end : ℕ} {gs : List Mod} (i : ℕ) (s : Length room gs n) (v : FloatSum gs first end i) where
   pub float-counted : (g : Mod) (m : ℕ) → i < n → g ≡ getD gs i noGroup → Counts 5 (branchPart (g .row) .size) m → FloatSum gs first (end + (1 + m)) (i + 1)
   unfolding branches floatEnd
   float-counted g m h e c =
@@ -172,9 +165,9 @@ module _ {n first end : ℕ} {gs : List Mod} (i : ℕ) (s : Length groupRoom gs 
         few = omega (arith, v .few, c .few);
       }
 
-  pub floats-counted : i ≤ n → n ≤ i → Counts (first + 108) (floatEnd first (branches gs)) end
+  pub floats-counted : room ≤ 18 → i ≤ n → n ≤ i → Counts (first + 108) (floatEnd first (branches gs)) end
   unfolding branches floatEnd
-  floats-counted g h =
+  floats-counted f g h =
       record {
         is = sym (v .is ∙ ap (λ (us : List Mod). floatEnd end (branches us)) (none-left s i h));
         few = omega (arith, v .few, s .fits);
@@ -198,6 +191,11 @@ starts-values f n (c ∷ cs) =
 pub carbon-atoms : (r : Role) (d : read.Chain) (n : ℕ) → carbonAtoms r d n ≡ starts n (carbons r d)
 unfolding carbonAtoms
 carbon-atoms r d n = starts-values (firstDrawn r) n (carbons r d)
+
+length-starts : (n : ℕ) (cs : List Carbon) → length (starts n cs) ≡ length cs
+unfolding starts
+length-starts n [] = refl
+length-starts n (c ∷ cs) = ap suc (length-starts (carbonEnd n c) cs)
 
 -- a chain whose first atom is n: every atom is n further on
 starts-shift : (n m : ℕ) (cs : List Carbon) → starts (n + m) cs ≡ map (λ i. n + i) (starts m cs)
@@ -231,38 +229,42 @@ module _ (r : Role) (d : read.Chain) (x : Drawn) (t : ChainTokens) (w : Draws r 
   literal-same = literal-is r d x t w k s
 
   -- the drawn carbons fit
-  fits : (l : Numbers) → Numbered (literalOf x t) l → drawnCount r d ≤ 256 → l .count + tailCount (x .unlocated) ≤ 256
+  fits : {first : ℕ} {xs ys : List ℕ} {at : ℕ} (l : Numbers) → Numbered first (literalOf x t) xs at ys l → drawnCount r d ≤ 256 → l .count + tailCount (x .unlocated) ≤ 256
   unfolding drawnCount flexibleCount tailCount
   fits l n h =
       let c : l .count ≡ suc (literalEnd r d) - firstDrawn r = n .count ∙ (ap length literal-same ∙ literal-length r d x t w k s) in
       rw (c, w .unlocated) h
 
-  -- all drawn carbons are counted
-  carbons-numbered : (l a : Numbers) → Numbered (literalOf x t) l → TailNumbers l (x .unlocated) a → drawnCount r d ≤ 256 → Numbered (carbons r d) a
+  -- all drawn carbons are numbered
+  carbons-numbered : {first : ℕ} {xs ys zs : List ℕ} {at : ℕ} (l a : Numbers) → length xs < 2 ^ 64 → Numbered first (literalOf x t) xs at ys l
+      → TailNumbers first (x .unlocated) ys l zs a → drawnCount r d ≤ 256 → Numbered first (carbons r d) xs at zs a
   unfolding carbons
-  carbons-numbered l a n v h =
-      let q = v .numbered (literalOf x t) (markOf (bondAt r d (literalEnd r d))) n (fits l n h) in
+  carbons-numbered {first} {xs} {ys} {zs} {at} l a g n v h =
+      let q : Numbered first (literalOf x t ++ flexible (markOf (bondAt r d (literalEnd r d))) (x .unlocated)) xs at zs a
+      = tail-after (literalOf x t) (markOf (bondAt r d (literalEnd r d))) (x .unlocated) g n v (fits l n h) in
       rw (literal-same, w .unlocated) at q
 
-  chain-are : (l a : Numbers) (e : ℕ) → Numbered (literalOf x t) l → TailNumbers l (x .unlocated) a → e ≡ floatEnd (a .next) (branches (groupsIn (x .floats)))
-      → drawnCount r d ≤ 256 → AtomsAre r d (record { count = a .count; carbons = a .atoms; flexible = l .next; floats = a .next; end = e })
-  unfolding flexibleAtom atomsEnd floats
-  chain-are l a e n v f h =
-      let q = carbons-numbered l a n v h in
-      record {
-        carbons = q .atoms ∙ sym (carbon-atoms r d 0);
-        flexible = n .next ∙ ap (chainEnd 0) literal-same;
-        floats = q .next;
-        end = f ∙ (rw (q .next, w .floats));
-      }
-
-pub chain-numbered : (x : Drawn) (t : ChainTokens) (l a : Numbers) (e : ℕ) → TokensOf x t → LiteralNumbers x t l → TailNumbers l (x .unlocated) a
-    → Counts (a .next + 108) (floatEnd (a .next) (branches (groupsIn (x .floats)))) e
-    → AtomsOf x (record { count = a .count; carbons = a .atoms; flexible = l .next; floats = a .next; end = e })
-chain-numbered x t l a e k u v c =
+pub chain-numbered : {first : ℕ} {xs ys zs : List ℕ} {at : ℕ} (x : Drawn) (t : ChainTokens) (l a : Numbers) (e : ℕ) → length xs < 2 ^ 64 → TokensOf x t
+    → LiteralNumbers first x t xs at ys l → TailNumbers first (x .unlocated) ys l zs a
+    → Counts (a .next + 108) (floatEnd (a .next) (branches (floatsDrawn x))) e
+    → AtomsOf first x xs at zs (record { at = a .at; count = a .count; flexible = l .next; floats = a .next; end = e })
+unfolding flexibleAtom atomsEnd floats
+chain-numbered {first} {xs} {ys} {zs} {at} x t l a e g k u v c =
     record {
-      are = λ r d w s h. chain-are r d x t w k s l a e (u .numbered) v (c .is) h;
-      size = v .size;
-      room = v .room;
-      few = omega (arith, c .few, v .few, u .few, u .room);
+      are =
+          λ r d w s h.
+          let q : Numbered first (carbons r d) xs at zs a = carbons-numbered r d x t w k s l a g (u .numbered) v h in
+          record {
+            count = q .count ∙ (sym (length-starts 0 (carbons r d)) ∙ ap length (sym (carbon-atoms r d 0)));
+            flexible = u .numbered .next ∙ ap (chainEnd 0) (literal-same r d x t w k s);
+            floats = q .next;
+            end = c .is ∙ (rw (q .next, w .floats));
+          };
+      written =
+          λ r d w s h.
+          let q : Numbered first (carbons r d) xs at zs a = carbons-numbered r d x t w k s l a g (u .numbered) v h in
+          rw (carbon-atoms r d 0) (q .written);
+      size = written-length (v .written) ∙ written-length (u .numbered .written);
+      room = omega (arith, v .count);
+      few = omega (arith, c .few, v .next, v .count, u .few, u .room);
     }

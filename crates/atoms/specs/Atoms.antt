@@ -1,10 +1,11 @@
 -- The atoms of a chain, counted from its first. Assumes nothing.
-use Prim.Native.Nat.{ℕ, zero, suc, _+_, _-_, _*_, _≤_}
+use Prim.Native.Nat.{ℕ, zero, suc, _+_, _-_, _*_, _≤_, min}
 use mathlib.Core.Path.{_≡_}
 use mathlib.Core.Bool.{Bool, cond}
-use mathlib.Core.List.{List, [], _∷_, _++_}
+use mathlib.Core.List.{List, [], _∷_, _++_, map}
 use lib.Dec.{eqb}
-use lib.ListN.{length, take, getD}
+use lib.ListN.{length}
+use Rattle.emit.specs.Text.{Written}
 use Rattle.record.specs.declared.Mod.{Mod}
 use Rattle.record.specs.Chain.{Chain}
 use Rattle.reading.specs.Chain.{Carbon, carbonEnd, chainEnd}
@@ -12,13 +13,14 @@ use Rattle.chain.specs.declared.Role.{Role}
 use Rattle.chain.specs.Lists.{valuesFrom}
 use Rattle.chain.specs.Features.{drawnCount}
 use Rattle.chain.specs.Bonds.{bridged}
-use Rattle.chain.specs.Drawing.{branches, flexible, carbonAtoms, flexibleAtom, atomsEnd}
+use Rattle.chain.specs.Drawing.{branches, carbonAtoms, flexibleAtom, atomsEnd}
 use Rattle.chain.specs.Drawing as draw
 use Rattle.drawable.specs.declared.Drawn.{Drawn}
-use Rattle.drawable.specs.Drawn.{groupsIn, Draws}
+use Rattle.drawable.specs.Drawn.{groupsDrawn, Draws}
 use Rattle.carbons.specs.declared.ChainTokens.{ChainTokens}
 use Rattle.atoms.specs.declared.Numbers.{Numbers}
 use Rattle.atoms.specs.declared.ChainAtoms.{ChainAtoms}
+use Rattle.atoms.specs.Index.{indexFrom}
 use Rattle.fragment.specs.Text.{sitting, carbonylOf, carbonOf}
 use Rattle.fragment.specs.Segment.{Readable}
 
@@ -44,17 +46,20 @@ starts n (c ∷ cs) = n ∷ starts (carbonEnd n c) cs
 
 -- the literal carbons, by the arrays
 unfoldable pub literalOf : Drawn → ChainTokens → List Carbon
-literalOf x t = valuesFrom (carbonOf (x .acyl) (t .bonds) (groupsIn (x .groups))) (t .first) (suc (t .last) - t .first)
+literalOf x t = valuesFrom (carbonOf (x .acyl) (t .bonds) (groupsDrawn x)) (t .first) (suc (t .last) - t .first)
 
--- the atoms of some carbons are counted: those of each, and the next
-pub record Numbered (cs : List Carbon) (n : Numbers) : Type 0 where
-  pub size : length (n .atoms) ≡ 256
+-- the indices of a chain's atoms, where its first atom is n
+abbrev pub indices : ℕ → List ℕ → List ℕ
+indices n l = map (indexFrom n) l
+
+-- some carbons, the first of them the first atom of a chain, are numbered: their indices are written at a place
+pub record Numbered (first : ℕ) (cs : List Carbon) (xs : List ℕ) (at : ℕ) (ys : List ℕ) (n : Numbers) : Type 0 where
+  pub written : Written xs at (indices first (starts 0 cs)) ys (n .at)
   pub count : n .count ≡ length cs
-  pub atoms : take (n .count) (n .atoms) ≡ starts 0 cs
   pub next : n .next ≡ chainEnd 0 cs
 
-pub record LiteralNumbers (x : Drawn) (t : ChainTokens) (n : Numbers) : Type 0 where
-  pub numbered : Numbered (literalOf x t) n
+pub record LiteralNumbers (first : ℕ) (x : Drawn) (t : ChainTokens) (xs : List ℕ) (at : ℕ) (ys : List ℕ) (n : Numbers) : Type 0 where
+  pub numbered : Numbered first (literalOf x t) xs at ys n
   pub room : n .count ≤ 255
   pub few : n .next ≤ 93 * n .count
 
@@ -62,23 +67,28 @@ pub record LiteralNumbers (x : Drawn) (t : ChainTokens) (n : Numbers) : Type 0 w
 unfoldable pub tailCount : ℕ → ℕ
 tailCount n = cond (eqb n 0) 0 (2 * n + 2)
 
--- the flexible tail counted after some carbons
-pub record TailNumbers (n : Numbers) (u : ℕ) (r : Numbers) : Type 0 where
-  pub numbered : (cs : List Carbon) (b : ℕ) → Numbered cs n → n .count + tailCount u ≤ 256 → Numbered (cs ++ flexible b u) r
-  pub size : length (r .atoms) ≡ 256
-  pub room : r .count ≤ 256
-  pub few : r .next ≤ n .next + 256
+-- m numbers that follow one another, from n on
+unfoldable pub ups : ℕ → ℕ → List ℕ
+ups n zero = []
+ups n (suc m) = n ∷ ups (suc n) m
 
--- the atoms of a chain, counted from its first
+-- the flexible tail of u double bonds is numbered after some carbons, as far as there is room for 256
+pub record TailNumbers (first u : ℕ) (xs : List ℕ) (n : Numbers) (ys : List ℕ) (r : Numbers) : Type 0 where
+  pub written : Written xs (n .at) (indices first (ups (n .next) (r .count - n .count))) ys (r .at)
+  pub count : r .count ≡ min (n .count + tailCount u) 256
+  pub next : r .next ≡ n .next + (r .count - n .count)
+
+-- the numbers of a chain, counted from its first atom
 pub record AtomsAre (r : Role) (d : Chain) (n : ChainAtoms) : Type 0 where
-  pub carbons : take (n .count) (n .carbons) ≡ carbonAtoms r d 0
+  pub count : n .count ≡ length (carbonAtoms r d 0)
   pub flexible : n .flexible ≡ flexibleAtom r d 0
   pub floats : n .floats ≡ chainEnd 0 (draw.carbons r d)
   pub end : n .end ≡ atomsEnd r d 0
 
--- the atoms of every chain that x draws
-pub record AtomsOf (x : Drawn) (n : ChainAtoms) : Type 0 where
+-- every chain that x draws is numbered, and the indices of its drawn carbons are written
+pub record AtomsOf (first : ℕ) (x : Drawn) (xs : List ℕ) (at : ℕ) (ys : List ℕ) (n : ChainAtoms) : Type 0 where
   pub are : (r : Role) (d : Chain) → Draws r d x → Readable d → drawnCount r d ≤ 256 → AtomsAre r d n
-  pub size : length (n .carbons) ≡ 256
+  pub written : (r : Role) (d : Chain) → Draws r d x → Readable d → drawnCount r d ≤ 256 → Written xs at (indices first (carbonAtoms r d 0)) ys (n .at)
+  pub size : length ys ≡ length xs
   pub room : n .count ≤ 256
   pub few : n .end ≤ 24079

@@ -1,17 +1,17 @@
-// The atoms of a chain, counted from its first: the atom of each carbon, of the flexible tail and of the floating groups, and how many there
-// are in all. The groups are gone through only at carbons that carry one.
+// The atoms of a chain: the index of each carbon, written into a lent slice; and, counted from its first, the atoms of the flexible tail and of
+// the floating groups, and how many there are in all. The groups are gone through only at carbons that carry one.
 use carbons::CARBON_ROOM;
-use carbons::ChainTokens;
 use drawable::Drawn;
-use drawable::Groups;
 ghost use mathlib.Core.Path.{_≡_};
 ghost use Prim.Native.Nat.{_+_, _≤_, min};
+ghost use lib.ListN.{length};
 ghost use Rattle.reading.specs.Chain.{partsEnd, bridgeEnd, floatEnd};
 ghost use Rattle.chain.specs.Drawing.{branchPart, branches};
 ghost use Rattle.drawable.specs.Drawn.{groupsIn, Says};
 ghost use Rattle.fragment.specs.Text.{sitting, carbonylOf};
-ghost use Rattle.carbons.specs.Tokens.{TokensOf};
+ghost use Rattle.carbons.specs.Tokens.{tokens, TokensOf};
 ghost use Rattle.atoms.specs.Atoms.{Counts, carbonSize, bareSize, bridgedAt, tailCount, LiteralNumbers, TailNumbers, AtomsOf};
+ghost use Rattle.atoms.specs.Index.{inRoom, indexFrom};
 ghost use Rattle.atoms.specs.Sum.{sumOf};
 
 // The atoms of a group's branch.
@@ -23,14 +23,15 @@ fn branch_atoms(row: u8) -> u16
 }
 
 // The atoms of the groups of carbon k.
-fn group_atoms(groups: Groups, k: u32) -> u16
-    ensures { λ r. ⌜ Counts 90 (partsEnd 0 (branches (sitting k (groupsIn groups)))) r ⌝ }
+fn group_atoms(groups: &[u64], count: usize, k: u32) -> u16
+    requires { ⌜ length (now groups) ≤ 18 ⌝ }
+    ensures { λ r. ⌜ Counts 90 (partsEnd 0 (branches (sitting k (groupsIn count (now (groups .entry)))))) r ⌝ }
 {
-    let n = groups.len();
+    let n = drawable::groups_len(groups, count);
     let mut sum = 0;
     let mut i = 0;
     while i < n {
-        let g = groups.at(i);
+        let g = drawable::nth_group(groups, count, i);
         if g.pos == k {
             sum += branch_atoms(g.row);
             i += 1;
@@ -72,46 +73,77 @@ fn bare_atoms(bond: u8) -> u16
 }
 
 // A carbon, what it carries, and its bridge.
-fn busy_atoms(x: Drawn, k: u16, bond: u8) -> u16
-    ensures { λ r. ⌜ Counts 93 (carbonSize (x .acyl) (groupsIn (x .groups)) bond k) r ⌝ }
+fn busy_atoms(acyl: bool, groups: &[u64], count: usize, k: u16, bond: u8) -> u16
+    requires { ⌜ length (now groups) ≤ 18 ⌝ }
+    ensures { λ r. ⌜ Counts 93 (carbonSize acyl (groupsIn count (now (groups .entry))) bond k) r ⌝ }
 {
-    let groups = x.groups;
-    let a = carbonyl_atoms(x.acyl, k);
-    let b = group_atoms(groups, k as u32);
+    let a = carbonyl_atoms(acyl, k);
+    let b = group_atoms(groups, count, k as u32);
     1 + a + b + bridge_atoms(bond)
 }
 
-// The atoms of the carbons so far, and the next atom.
-pub struct Numbers {
-    pub count: usize,
-    pub next: u16,
-    pub atoms: [u16; CARBON_ROOM],
+// Counts below this leave room for those of a chain.
+const COUNT_ROOM: u32 = 4294000000;
+
+pub fn in_room(n: u32) -> u32
+    ensures { λ r. ⌜ r ≡ inRoom n ⌝ }
+{
+    if n < COUNT_ROOM {
+        return n;
+    }
+    COUNT_ROOM
+}
+
+// The index of the atom i of a chain whose first atom is given; an index stays at the largest number.
+fn to_index(first: u32, i: u16) -> u16
+    ensures { λ r. ⌜ r ≡ indexFrom first i ⌝ }
+{
+    let n = in_room(first) + i as u32;
+    if n < 65535 {
+        return n as u16;
+    }
+    65535
+}
+
+// The carbons so far: the place after their indices, how many they are, and the next atom.
+struct Numbers {
+    at: usize,
+    count: usize,
+    next: u16,
 }
 
 // The literal carbons.
-fn number_range(x: Drawn, t: ChainTokens) -> Numbers
-    requires { ⌜ TokensOf x t ⌝ }
-    ensures { λ r. ⌜ LiteralNumbers x t r ⌝ }
+fn number_range<'a>(
+    index: &mut [u16],
+    at: usize,
+    first: u32,
+    x: Drawn,
+    from: u16,
+    last: u16,
+    bonds: &'a [u8],
+    busy: &'a [u8],
+) -> Numbers
+    requires { ⌜ TokensOf x (tokens from last (now bonds) (now busy)) ⌝ }
+    ensures { λ r. ⌜ LiteralNumbers first x (tokens from last (now (bonds .entry)) (now (busy .entry))) (now (index .entry)) at (now (index .exit)) r ⌝ }
 {
-    let last = t.last;
-    let mut atoms = [0u16; CARBON_ROOM];
+    let mut p = at;
     let mut count = 0;
     let mut next = 0;
-    let mut k = t.first;
+    let mut k = from;
     while k <= last {
         let i = k as usize;
-        let bond = t.bonds[i];
-        atoms[count] = next;
+        let bond = bonds[i];
+        p = emit::put_index(index, p, to_index(first, next));
         count += 1;
-        if t.busy[i] == 0 {
+        if busy[i] == 0 {
             next += bare_atoms(bond);
             k += 1;
             continue;
         }
-        next += busy_atoms(x, k, bond);
+        next += busy_atoms(x.acyl, &x.groups, x.group_count, k, bond);
         k += 1;
     }
-    Numbers { count, next, atoms }
+    Numbers { at: p, count, next }
 }
 
 // Where the flexible tail of n double bonds ends that starts after so many carbons; the array's end is the limit.
@@ -130,63 +162,71 @@ fn tail_end(count: usize, n: u16) -> usize
 }
 
 // The carbons of the flexible tail: each is one atom.
-fn number_tail(numbers: Numbers, n: u16) -> Numbers
+fn number_tail(index: &mut [u16], first: u32, numbers: Numbers, n: u16) -> Numbers
     requires { ⌜ (numbers .count ≤ 255) × (numbers .next ≤ 23715) ⌝ }
-    ensures { λ r. ⌜ TailNumbers numbers n r ⌝ }
+    ensures { λ r. ⌜ TailNumbers first n (now (index .entry)) numbers (now (index .exit)) r ⌝ }
 {
     let end = tail_end(numbers.count, n);
-    let mut atoms = numbers.atoms;
-    let mut next = numbers.next;
+    let mut p = numbers.at;
     let mut count = numbers.count;
+    let mut next = numbers.next;
     while count < end {
-        atoms[count] = next;
-        next += 1;
+        p = emit::put_index(index, p, to_index(first, next));
         count += 1;
+        next += 1;
     }
-    Numbers { count, next, atoms }
+    Numbers { at: p, count, next }
 }
 
 // The atom after the floating groups, the first of which is the atom given.
-fn float_end(floats: Groups, first: u16) -> u16
-    requires { ⌜ first ≤ 23971 ⌝ }
-    ensures { λ r. ⌜ Counts (first + 108) (floatEnd first (branches (groupsIn floats))) r ⌝ }
+fn float_end(floats: &[u64], count: usize, first: u16) -> u16
+    requires { ⌜ (first ≤ 23971) × (length (now floats) ≤ 18) ⌝ }
+    ensures { λ r. ⌜ Counts (first + 108) (floatEnd first (branches (groupsIn count (now (floats .entry))))) r ⌝ }
 {
-    let n = floats.len();
+    let n = drawable::groups_len(floats, count);
     let mut end = first;
     let mut i = 0;
     while i < n {
-        let g = floats.at(i);
+        let g = drawable::nth_group(floats, count, i);
         end += 1 + branch_atoms(g.row);
         i += 1;
     }
     end
 }
 
-// The atoms of a chain, counted from its first: of each drawn carbon, of the first flexible carbon, of the first floating group, and the
-// atom after the last.
+// A chain that is numbered: the place after its indices and their number; and, counted from its first atom, the atom of the first flexible
+// carbon, that of the first floating group, and the atom after the last.
 pub struct ChainAtoms {
-    pub count: usize,
-    pub carbons: [u16; CARBON_ROOM],
+    pub at: usize,
+    pub count: u16,
     pub flexible: u16,
     pub floats: u16,
     pub end: u16,
 }
 
-pub fn number_chain(x: Drawn, t: ChainTokens) -> ChainAtoms
-    requires { ⌜ TokensOf x t ⌝ }
-    ensures { λ r. ⌜ AtomsOf x r ⌝ }
+// The indices of the drawn carbons of a chain whose first atom is given, written at a place. What is known of each carbon is lent: its first
+// drawn and its last literal carbon, the bonds, and whether a carbon is busy.
+pub fn number_chain<'a>(
+    index: &mut [u16],
+    at: usize,
+    first: u32,
+    x: Drawn,
+    from: u16,
+    last: u16,
+    bonds: &'a [u8],
+    busy: &'a [u8],
+) -> ChainAtoms
+    requires { ⌜ TokensOf x (tokens from last (now bonds) (now busy)) ⌝ }
+    ensures { λ r. ⌜ AtomsOf first x (now (index .entry)) at (now (index .exit)) r ⌝ }
 {
-    let floats = x.floats;
-    let literal = number_range(x, t);
-    let flexible = literal.next;
-    let all = number_tail(literal, x.unlocated);
+    let literal = number_range(index, at, first, x, from, last, bonds, busy);
+    let all = number_tail(index, first, literal, x.unlocated);
     let next = all.next;
-    let end = float_end(floats, next);
-    let carbons = all.atoms;
+    let end = float_end(&x.floats, x.float_count, next);
     ChainAtoms {
-        count: all.count,
-        carbons,
-        flexible,
+        at: all.at,
+        count: all.count as u16,
+        flexible: literal.next,
         floats: next,
         end,
     }
@@ -197,7 +237,7 @@ pub fn sum(x: Drawn) -> u16
     ensures { λ r. ⌜ Says x r sumOf ⌝ }
 {
     let n = x.unlocated;
-    let remaining = drawable::draw::remaining(x);
+    let remaining = reach::remaining(x);
     if remaining <= n {
         return 0;
     }

@@ -9,12 +9,14 @@ use mathlib.Core.List.{List, [], _∷_, _++_, append-assoc, append-nil}
 use lib.ListN.{length, take}
 use lib.Dec.{eqb}
 use Rattle.form.specs.Parts.{onto, partsAt}
-use Rattle.sheet.specs.declared.Plan.{Plan}
-use Rattle.sheet.specs.Sheet.{planOf, requestOf}
+use Rattle.header.specs.declared.Plan.{Plan}
+use Rattle.sheet.specs.Header.{planOf}
+use Rattle.sheet.specs.Sheet.{requestOf}
 use Rattle.sheet.proofs.Long.{cut-header, cut-row}
-use Rattle.batch.specs.declared.Stage.{Stage}
-use Rattle.batch.specs.declared.Stage.the-variants.{Header, Rows, Over}
-use Rattle.batch.specs.Batch.{repliesAt, stageAfter, planAfter, lineAt, indexAt, Held, batchAfter, heldAfter, heldFrom, isHeader, isLine, heldLast, heldEnd, kept}
+use Rattle.beginning.specs.declared.Stage.{Stage}
+use Rattle.beginning.specs.declared.Stage.the-variants.{Header, Rows, Over}
+use Rattle.remnant.specs.Kept.{kept}
+use Rattle.batch.specs.Batch.{repliesAt, stageAfter, planAfter, lineAt, indexAt, Held, batchAfter, heldAfter, heldFrom, isHeader, isLine, heldLast, heldEnd}
 
 -- ---- the parts of bytes that are joined
 

@@ -1,6 +1,6 @@
 -- Laws of the answer to a row: what is written of an answer of the call is the reply to the row.
 -- Assumes nothing.
-use Prim.Native.Nat.{ℕ, suc, _+_, _-_, _^_, _≤_, _<_, min}
+use Prim.Native.Nat.{ℕ, suc, _+_, _-_, _≤_, min}
 use native.Mathlib.Omega.{arith}
 use mathlib.Core.Path.{_≡_, refl, ap, _∙_, subst}
 use mathlib.Core.Bool.{Bool, true, false, cond, not}
@@ -9,8 +9,6 @@ use lib.ListN.{length, take, drop, replicate, length-map}
 use lib.Seq.{take-take, take-append-seam, drop-append-seam}
 use lib.Dec.{leb}
 use Rattle.emit.specs.Text.{Written}
-use Rattle.emit.proofs.Laws.{written-append}
-use Rattle.reading.specs.Parting.{joined, led}
 use Rattle.record.specs.Chain.{Chain}
 use Rattle.template.specs.declared.Class.{Class}
 use Rattle.template.specs.Request.{Placed, placed, insertBySn, bySn, indicesOf, allIndices, indexOf, lineOf}
@@ -19,16 +17,19 @@ use Rattle.listing.specs.declared.Listed.{Listed}
 use Rattle.listing.specs.Four.{four}
 use Rattle.listing.specs.Lists.{noList, listOf}
 use Rattle.listing.proofs.PlacedLaws.{places-few}
-use Rattle.forward.specs.declared.Answer.{Answer}
-use Rattle.forward.specs.Answer.{refusal, acceptance, short, answerTo, atStart, lineAfter, indexAfter}
-use Rattle.forward.specs.Call.{Answers, Called}
-use Rattle.sheet.specs.declared.Plan.{Plan}
+use Rattle.drawing.specs.declared.Answer.{Answer}
+use Rattle.forward.specs.Answer.{refusal, acceptance, short, answerTo, atStart, lineAfter, indexAfter, Answers}
+use Rattle.forward.specs.Call.{Called}
+use Rattle.header.specs.declared.Plan.{Plan}
 use Rattle.sheet.specs.declared.Asked.{Asked}
-use Rattle.sheet.specs.Sheet.{cellOf, snCells, requestOf, told}
+use Rattle.sheet.specs.Cells.{cellOf, snCells}
+use Rattle.sheet.specs.Sheet.{requestOf, told}
 use Rattle.sheet.proofs.Requested.{asked-nothing, asked-request, asked-count}
-use Rattle.batch.specs.declared.Answered.{Answered}
-use Rattle.rows.specs.Text.{ended, tabbed, chainsText, carbonsOf, headText, rowText}
-use Rattle.batch.specs.Reply.{refused, carbonsIn, accepted, replyTo, replyText, answerText, UnreadableWritten, RowAnswered}
+use Rattle.beginning.specs.declared.Answered.{Answered}
+use Rattle.rows.specs.Chains.{carbonsOf}
+use Rattle.rows.specs.Text.{rowText}
+use Rattle.beginning.specs.Beginning.{refused, replyText, UnreadableWritten}
+use Rattle.batch.specs.Reply.{carbonsIn, accepted, replyTo, answerText, RowAnswered}
 use Rattle.rows.proofs.Laws.{part-taken}
 
 -- ---- what is written of an answer
@@ -37,11 +38,6 @@ pub answer-text : {xs ys : List ℕ} {at p : ℕ} (a : Answer) (line index : Lis
     → Written xs at (rowText (a .number) (a .token) (take (n - 0) line) (carbonsOf (take (a .lists .count) (a .lists .items)) index)) ys p
     → Written xs at (answerText a line index) ys p
 answer-text a line index n e w = rw (part-taken line (a .length) n e) at w
-
-pub unreadable-text : {xs ys zs : List ℕ} {at p q : ℕ} → length xs < 2 ^ 64 → Written xs at (headText 42 0) ys p → Written ys p (9 ∷ 10 ∷ []) zs q
-    → UnreadableWritten xs at zs (record { number = 42; next = q })
-unfolding replyText rowText headText tabbed ended joined led chainsText
-unreadable-text g w u = record { text = simp append-assoc (simp append-assoc at (written-append g w u)); answer = refl }
 
 -- ---- the chains of an accepted request
 

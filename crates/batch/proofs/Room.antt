@@ -1,20 +1,16 @@
 -- How long a row of the output is: a reply has room in the slices' lengths, five bytes to an index, and 20 bytes more. So a row that is begun
 -- in a slice with that much room is written whole. Assumes nothing.
-use Prim.Native.Nat.{ℕ, zero, suc, _+_, _*_, _/_, _%_, _^_, _≤_, _<_}
-use native.Mathlib.Nat.{pow-suc}
-use native.Mathlib.Decide.{decLe}
+use Prim.Native.Nat.{ℕ, _+_, _*_, _≤_, _<_}
 use native.Mathlib.Omega.{arith}
 use mathlib.Core.Path.{_≡_, refl, sym, ap}
 use mathlib.Core.Bool.{Bool, true, false, cond, not}
-use mathlib.Core.List.{List, [], _∷_, _++_, map}
+use mathlib.Core.List.{List, [], _∷_, map}
 use lib.ListN.{length, take, length-append}
-use lib.Dec.{ltb, eqb}
+use lib.Dec.{ltb}
 use borrow.Author.Tests.{ltb-false}
 use Rattle.emit.specs.Text.{decimal}
-use Rattle.emit.proofs.Laws.{decimal-small, decimal-step}
 use Rattle.record.specs.Chain.{Chain}
-use Rattle.reading.specs.Ascii.{ascii}
-use Rattle.reading.specs.Parting.{joined, led}
+use Rattle.reading.specs.Parting.{joined}
 use Rattle.reading.proofs.PartingLaws.{All}
 use Rattle.template.specs.declared.Class.{Class}
 use Rattle.template.specs.Request.{Placed, placed, bySn, indicesOf, allIndices, indexOf, lineOf}
@@ -25,14 +21,16 @@ use Rattle.judge.specs.Verdict.{Verdict, Refused, Drawable, verdict, isRefusal}
 use Rattle.judge.proofs.Accepted.{judged-accepted, refused-number}
 use Rattle.listing.proofs.PlacedLaws.{places-few}
 use Rattle.forward.specs.Answer.{short}
-use Rattle.sheet.specs.declared.Plan.{Plan}
+use Rattle.header.specs.declared.Plan.{Plan}
 use Rattle.sheet.specs.declared.Asked.{Asked}
-use Rattle.sheet.specs.Sheet.{cellOf, snCells, requestOf, told}
+use Rattle.sheet.specs.Cells.{cellOf, snCells}
+use Rattle.sheet.specs.Sheet.{requestOf, told}
 use Rattle.sheet.proofs.Requested.{asked-nothing, asked-request, asked-count}
-use Rattle.rows.specs.Text.{ended, tabbed, Carbons, chainText, chainsText, rowText}
+use Rattle.rows.specs.Text.{chainText, chainsText}
 use Rattle.tally.specs.Counts.{answers}
-use Rattle.rows.proofs.Room.{digits-few, total, joined-total, numbers-total, row-length}
-use Rattle.batch.specs.Reply.{refused, carbonsIn, accepted, replyTo, replyOf, replyText}
+use Rattle.heads.proofs.Room.{digits-few, total, joined-total, numbers-total, row-length}
+use Rattle.beginning.specs.Beginning.{refused, replyText}
+use Rattle.batch.specs.Reply.{carbonsIn, accepted, replyTo, replyOf}
 use Rattle.batch.proofs.ReplyLaws.{length-sorted}
 use Rattle.batch.proofs.Whole.{either-left, either-right}
 use Rattle.batch.proofs.Tallied.{refusal-small}

@@ -1,24 +1,25 @@
 -- Each answer met is counted: it is one of the numbers that have a count, and the count is the number of times that it stands among the
 -- answers. 01, Put to each public function: "in any order each answer met stands there once, with its times". Assumes nothing.
-use Prim.Native.Nat.{ℕ, suc, _+_, _≤_, _<_, min}
+use Prim.Native.Nat.{ℕ, _<_}
 use native.Mathlib.Omega.{arith}
 use mathlib.Core.Path.{_≡_, refl, sym, ap}
 use mathlib.Core.Bool.{Bool, true, false, cond, not, _||_, true≢false}
 use mathlib.Core.List.{List, [], _∷_}
-use lib.ListN.{length, getD, take, length-set, length-replicate, getD-replicate}
-use lib.Seq.{getD-set-same, getD-set-other}
+use lib.ListN.{length, take}
 use lib.Dec.{eqb}
-use borrow.Author.Tests.{eqb-true, eqb-false}
+use borrow.Author.Tests.{eqb-true}
 use Rattle.chain.specs.Lists.{anyOf}
 use Rattle.judge.specs.Verdict.{Verdict, Refused, Drawable, verdict, isRefusal}
 use Rattle.judge.proofs.Accepted.{refused-number}
 use Rattle.forward.specs.Answer.{short}
-use Rattle.sheet.specs.declared.Plan.{Plan}
+use Rattle.header.specs.declared.Plan.{Plan}
 use Rattle.sheet.specs.declared.Asked.{Asked}
-use Rattle.sheet.specs.Sheet.{cellOf, snCells, requestOf, told}
+use Rattle.sheet.specs.Cells.{cellOf, snCells}
+use Rattle.sheet.specs.Sheet.{requestOf, told}
 use Rattle.sheet.proofs.Requested.{asked-nothing, asked-request, asked-count}
-use Rattle.tally.specs.Counts.{answers, noTimes, withAnswer, timesFrom, timesOf, occurrences}
-use Rattle.batch.specs.Reply.{refused, accepted, replyTo, replyOf}
+use Rattle.tally.specs.Counts.{answers}
+use Rattle.beginning.specs.Beginning.{refused}
+use Rattle.batch.specs.Reply.{accepted, replyTo, replyOf}
 
 -- ---- every answer has a count
 

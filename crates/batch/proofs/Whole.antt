@@ -12,12 +12,14 @@ use Rattle.template.specs.Request.{lineOf, indexOf}
 use Rattle.judge.specs.Verdict.{Verdict, Refused, Drawable, verdict}
 use Rattle.forward.specs.Answer.{short, atStart, lineAfter, indexAfter}
 use Rattle.form.specs.Parts.{partsAt}
-use Rattle.sheet.specs.declared.Plan.{Plan}
-use Rattle.sheet.specs.Sheet.{Row, Unreadable, Asks, planOf, requestOf}
-use Rattle.batch.specs.declared.Stage.the-variants.{Rows, Over}
+use Rattle.header.specs.declared.Plan.{Plan}
+use Rattle.sheet.specs.Header.{planOf}
+use Rattle.sheet.specs.Sheet.{Row, Unreadable, Asks, requestOf}
+use Rattle.beginning.specs.declared.Stage.the-variants.{Rows, Over}
 use Rattle.tally.specs.Counts.{counting, noTimes, timesFrom, timesOf, countLines}
-use Rattle.batch.specs.Reply.{Reply, refused, replyOf, replyText, lineIn, indexIn}
-use Rattle.batch.specs.Batch.{rowsOf, repliesTo, repliesIn, textsOf, numbersOf, titles, batchText, Held, batchAfter, heldAfter, heldLast, heldEnd, noBatch, before}
+use Rattle.beginning.specs.Beginning.{Reply, refused, replyText, textsOf, numbersOf, titles, noBatch}
+use Rattle.batch.specs.Reply.{replyOf, lineIn, indexIn}
+use Rattle.batch.specs.Batch.{rowsOf, repliesTo, repliesIn, batchText, Held, batchAfter, heldAfter, heldLast, heldEnd, before}
 
 -- ---- the slices keep their lengths
 

@@ -4,22 +4,19 @@ use Prim.Native.Nat.{ℕ, _≤_, _<_}
 use mathlib.Core.Path.{_≡_}
 use mathlib.Core.Bool.{Bool, true, false, cond}
 use mathlib.Core.List.{List, [], _∷_, _++_, map}
-use lib.ListN.{length, take, drop}
+use lib.ListN.{length, drop}
 use Rattle.emit.specs.Text.{Written}
-use Rattle.reading.specs.Ascii.{ascii}
-use Rattle.scan.specs.Part.{part}
 use Rattle.form.specs.Parts.{partsAt}
-use Rattle.forward.specs.Answer.{atStart}
-use Rattle.sheet.specs.declared.Plan.{Plan}
-use Rattle.sheet.specs.Sheet.{noPlan, planOf, requestOf}
-use Rattle.batch.specs.declared.Stage.{Stage}
-use Rattle.batch.specs.declared.Stage.the-variants.{Header, Rows, Over}
-use Rattle.batch.specs.declared.Batch.{Batch}
-use Rattle.batch.specs.declared.Lined.{Lined}
+use Rattle.header.specs.declared.Plan.{Plan}
+use Rattle.sheet.specs.Header.{planOf}
+use Rattle.sheet.specs.Sheet.{requestOf}
+use Rattle.beginning.specs.declared.Stage.{Stage}
+use Rattle.beginning.specs.declared.Stage.the-variants.{Header, Rows, Over}
+use Rattle.beginning.specs.declared.Batch.{Batch}
 use Rattle.batch.specs.declared.Lines.{Lines}
-use Rattle.rows.specs.Text.{tabbed}
-use Rattle.tally.specs.Counts.{counting, noTimes, timesFrom, timesOf, countLines}
-use Rattle.batch.specs.Reply.{Reply, refused, replyOf, replyText, lineIn, indexIn}
+use Rattle.tally.specs.Counts.{counting, timesFrom, timesOf, countLines}
+use Rattle.beginning.specs.Beginning.{Reply, refused, textsOf, numbersOf, titles, headerReplies}
+use Rattle.batch.specs.Reply.{replyOf, lineIn, indexIn}
 
 -- ---- the whole batch
 
@@ -43,17 +40,6 @@ abbrev pub repliesIn : List (List ℕ) → ℕ → ℕ → List Reply
 repliesIn [] line index = []
 repliesIn (header ∷ ls) line index = repliesTo header (rowsOf ls) line index
 
-unfoldable pub textsOf : List Reply → List ℕ
-textsOf [] = []
-textsOf (r ∷ rs) = replyText r ++ textsOf rs
-
-unfoldable pub numbersOf : List Reply → List ℕ
-numbersOf rs = map (λ r. r .number) rs
-
--- "the header line shown below"
-unfoldable pub titles : List ℕ
-titles = tabbed (ascii "answer" ∷ ascii "at" ∷ ascii "line" ∷ ascii "carbons" ∷ [])
-
 -- what is printed
 unfoldable pub batchText : List ℕ → ℕ → ℕ → List ℕ
 batchText sheet line index =
@@ -64,7 +50,7 @@ batchText sheet line index =
 
 -- the replies to a line
 abbrev pub repliesAt : Stage → Plan → List ℕ → ℕ → ℕ → List Reply
-repliesAt Header plan l line index = cond (planOf l .readable) [] (refused 42 0 ∷ [])
+repliesAt Header plan l line index = headerReplies l
 repliesAt Rows plan l line index = replyOf (requestOf plan l) line index ∷ []
 repliesAt Over plan l line index = []
 
@@ -139,11 +125,11 @@ heldEnd h [] = h
 heldEnd h (l ∷ []) = heldLast h l
 heldEnd h (l ∷ k ∷ ls) = heldEnd (heldAfter h l) (k ∷ ls)
 
--- the batch before its header
-abbrev pub noBatch : Batch
-noBatch = record { stage = Header; plan = noPlan; counts = counting noTimes }
-
 -- ---- contracts
+
+-- a batch in another stage
+abbrev pub staged : Stage → Batch → Batch
+staged s b = record { stage = s; plan = b .plan; counts = b .counts }
 
 -- h is what some output, ps after os, and the slices hold
 pub record Holds (os : List ℕ) (at : ℕ) (h : Held) (b : Batch) (ys js ps : List ℕ) (next : ℕ) : Type 0 where
@@ -154,15 +140,6 @@ pub record Holds (os : List ℕ) (at : ℕ) (h : Held) (b : Batch) (ys js ps : L
 
 abbrev pub before : Batch → List ℕ → List ℕ → Held
 before b xs is = record { batch = b; line = xs; index = is; text = [] }
-
--- a batch in another stage
-abbrev pub staged : Stage → Batch → Batch
-staged s b = record { stage = s; plan = b .plan; counts = b .counts }
-
--- the header, which leaves the lent slices as they were
-pub record HeaderAnswered (b : Batch) (l os : List ℕ) (at : ℕ) (ps : List ℕ) (r : Lined) : Type 0 where
-  pub batch : r .batch ≡ batchAfter (staged Header b) l 0 0
-  pub text : Written os at (textsOf (repliesAt Header (b .plan) l 0 0)) ps (r .next)
 
 -- some lines of a text were answered: those before the place `used`, after which its other parts begin; there is only one where no line was
 -- left
@@ -179,18 +156,3 @@ pub record Finished (b : Batch) (l xs is os : List ℕ) (at : ℕ) (ys js ps : L
   pub line : ys ≡ heldLast (before b xs is) l .line
   pub index : js ≡ heldLast (before b xs is) l .index
   pub text : Written os at (heldLast (before b xs is) l .text ++ countLines (heldLast (before b xs is) l .batch .counts .times)) ps r
-
--- ---- a block of the input
-
--- one byte more than the longest row has
-abbrev pub kept : ℕ
-kept = 2049
-
--- the start of the part of a block from a place up to another, as much of it as is kept
-abbrev pub keptOf : List ℕ → ℕ → ℕ → List ℕ
-keptOf xs from to = take kept (part from to xs)
-
--- that part now stands at the start of the block
-pub record Moved (xs : List ℕ) (from to : ℕ) (ys : List ℕ) (r : ℕ) : Type 0 where
-  pub bytes : ys ≡ atStart (keptOf xs from to) xs
-  pub count : r ≡ length (keptOf xs from to)

@@ -3,27 +3,20 @@
 use Prim.Native.Nat.{ℕ}
 use mathlib.Core.Path.{_≡_}
 use mathlib.Core.Bool.{Bool, cond}
-use mathlib.Core.List.{List, [], map}
+use mathlib.Core.List.{List, map}
 use lib.ListN.{length, take}
 use Rattle.emit.specs.Text.{Written}
 use Rattle.record.specs.Chain.{Chain}
 use Rattle.template.specs.declared.Class.{Class}
 use Rattle.template.specs.Request.{Placed, placed, bySn, indicesOf, lineOf}
 use Rattle.judge.specs.Verdict.{Verdict, Refused, Drawable, verdict}
-use Rattle.forward.specs.declared.Answer.{Answer}
+use Rattle.drawing.specs.declared.Answer.{Answer}
 use Rattle.forward.specs.Answer.{short, lineAfter, indexAfter}
 use Rattle.sheet.specs.Sheet.{Row, Unreadable, Asks}
-use Rattle.batch.specs.declared.Answered.{Answered}
-use Rattle.rows.specs.Text.{Carbons, carbonsOf, rowText}
-
-pub record Reply : Type 0 where
-  pub number : ℕ
-  pub token : ℕ
-  pub line : List ℕ
-  pub chains : List Carbons
-
-abbrev pub refused : ℕ → ℕ → Reply
-refused n p = record { number = n; token = p; line = []; chains = [] }
+use Rattle.beginning.specs.declared.Answered.{Answered}
+use Rattle.beginning.specs.Beginning.{Reply, refused, replyText}
+use Rattle.rows.specs.Chains.{carbonsOf}
+use Rattle.rows.specs.Text.{Carbons, rowText}
 
 -- a chain that is drawn, with its indices
 unfoldable pub carbonsIn : Placed → Carbons
@@ -43,17 +36,9 @@ abbrev pub replyOf : Row → ℕ → ℕ → Reply
 replyOf Unreadable line index = refused 42 0
 replyOf (Asks class swap t ts) line index = replyTo (verdict class t (length ts) ts) swap t line index
 
-unfoldable pub replyText : Reply → List ℕ
-replyText r = rowText (r .number) (r .token) (r .line) (r .chains)
-
 -- the text of an answer of the call, from its slices
 abbrev pub answerText : Answer → List ℕ → List ℕ → List ℕ
 answerText a line index = rowText (a .number) (a .token) (take (a .length) line) (carbonsOf (take (a .lists .count) (a .lists .items)) index)
-
--- 42 was written
-pub record UnreadableWritten (os : List ℕ) (at : ℕ) (ps : List ℕ) (r : Answered) : Type 0 where
-  pub text : Written os at (replyText (refused 42 0)) ps (r .next)
-  pub answer : r .number ≡ 42
 
 -- the slices afterwards: an unreadable row is not drawn
 abbrev pub lineIn : Row → List ℕ → List ℕ → List ℕ

@@ -6,24 +6,23 @@ ghost use lib.ListN.{length, take};
 ghost use Rattle.emit.specs.Text.{Written};
 ghost use Rattle.judge.specs.Verdict.{verdict};
 ghost use Rattle.forward.specs.Call.{Called};
-ghost use Rattle.sheet.specs.Sheet.{cellOf, snCells, requestOf};
-ghost use Rattle.batch.specs.Reply.{answerText, UnreadableWritten, RowAnswered};
-ghost use Rattle.batch.specs.declared.Stage.the-variants.{Rows};
-ghost use Rattle.batch.specs.Batch.{titles, noBatch, heldAfter, before, staged, Holds, HeaderAnswered, LinesAnswered, isHeader, heldLast, Finished, Moved};
-use emit::put_text;
+ghost use Rattle.sheet.specs.Cells.{cellOf, snCells};
+ghost use Rattle.sheet.specs.Sheet.{requestOf};
+ghost use Rattle.batch.specs.Reply.{answerText, RowAnswered};
+ghost use Rattle.beginning.specs.declared.Stage.the-variants.{Rows};
+ghost use Rattle.batch.specs.Batch.{heldAfter, before, staged, Holds, LinesAnswered, isHeader, heldLast, Finished};
+pub use beginning::Answered;
+pub use beginning::Batch;
+pub use beginning::Lined;
+pub use beginning::Stage;
+use beginning::answer_header;
+pub use beginning::put_titles;
+use beginning::put_unreadable;
 use forward::Answer;
-use rows::put_head;
+pub use remnant::keep;
 use rows::put_row;
 use sheet::Plan;
-use tally::Counts;
 use tally::put_count_lines;
-
-// The header line of the output.
-pub fn put_titles(out: &mut [u8], at: usize) -> usize
-    ensures { λ r. ⌜ Written (now (out .entry)) at titles (now (out .exit)) r ⌝ }
-{
-    put_text(out, at, b"answer\tat\tline\tcarbons\n")
-}
 
 // How much of the line slice is the line.
 fn in_line(size: usize, line: &[u8]) -> usize
@@ -50,27 +49,6 @@ fn put_answer(out: &mut [u8], at: usize, answer: Answer, line: &[u8], index: &[u
         lists,
         index,
     )
-}
-
-// The answer to a row that is unreadable.
-pub const UNREADABLE_ROW: u16 = 42;
-
-// An answer that was written: its number, and the place after its row.
-pub struct Answered {
-    pub number: u16,
-    pub next: usize,
-}
-
-// The row of an unreadable row.
-fn put_unreadable(out: &mut [u8], at: usize) -> Answered
-    ensures { λ r. ⌜ UnreadableWritten (now (out .entry)) at (now (out .exit)) r ⌝ }
-{
-    let p = put_head(out, at, UNREADABLE_ROW, 0);
-    let next = put_text(out, p, b"\t\n");
-    Answered {
-        number: UNREADABLE_ROW,
-        next,
-    }
 }
 
 // A row that is readable, drawn.
@@ -116,81 +94,12 @@ pub fn answer_row(
     }
 }
 
-// Where a sheet is: before its header, among its rows, or after a header that ends the batch.
-pub enum Stage {
-    Header,
-    Rows,
-    Over,
-}
-
-// A batch between two lines.
-pub struct Batch {
-    pub stage: Stage,
-    pub plan: Plan,
-    pub counts: Counts,
-}
-
-impl Batch {
-    pub fn new() -> Batch
-        ensures { λ r. ⌜ r ≡ noBatch ⌝ }
-    {
-        let places = [0usize; sheet::COLUMNS];
-        let plan = Plan {
-            readable: false,
-            cells: 0,
-            places,
-        };
-        let counts = Counts::new();
-        Batch {
-            stage: Stage::Header,
-            plan,
-            counts,
-        }
-    }
-}
-
-// A batch after a line, and the place after what was written.
-pub struct Lined {
-    pub batch: Batch,
-    pub next: usize,
-}
-
 // A batch after some lines, how much of their text they are, the place after what was written, and whether no LF is left in the text.
 pub struct Lines {
     pub batch: Batch,
     pub used: usize,
     pub next: usize,
     pub whole: bool,
-}
-
-// The header of the sheet.
-fn answer_header(batch: Batch, header: &[u8], out: &mut [u8], at: usize) -> Lined
-    ensures { λ r. ⌜ HeaderAnswered batch (now (header .entry)) (now (out .entry)) at (now (out .exit)) r ⌝ }
-{
-    let plan = sheet::plan_of(header);
-    let counts = batch.counts;
-    if plan.readable {
-        let next = Batch {
-            stage: Stage::Rows,
-            plan,
-            counts,
-        };
-        return Lined {
-            batch: next,
-            next: at,
-        };
-    }
-    let answered = put_unreadable(out, at);
-    let counted = counts.count(answered.number);
-    let next = Batch {
-        stage: Stage::Over,
-        plan,
-        counts: counted,
-    };
-    Lined {
-        batch: next,
-        next: answered.next,
-    }
 }
 
 // A row, answered and counted.
@@ -324,30 +233,4 @@ pub fn finish(
     let end = last.batch;
     let counts = end.counts;
     put_count_lines(out, last.next, counts)
-}
-
-fn least(a: usize, b: usize) -> usize
-    ensures { λ r. ⌜ r ≡ min a b ⌝ }
-{
-    if a < b { a } else { b }
-}
-
-// The first bytes of a line that are kept until its LF comes: one more than the longest row has, so that a longer line stays too long.
-pub const KEPT: usize = 2049;
-
-// Moves the part of a block from a place up to another to its start, as much of it as is kept. Answers how much that is.
-pub fn keep(block: &mut [u8], from: usize, to: usize) -> usize
-    ensures { λ r. ⌜ Moved (now (block .entry)) from to (now (block .exit)) r ⌝ }
-{
-    let end = in_line(to, block);
-    if end <= from {
-        return 0;
-    }
-    let n = least(end - from, KEPT);
-    let mut i = 0;
-    while i < n {
-        block[i] = block[from + i];
-        i += 1;
-    }
-    n
 }

@@ -1,4 +1,1 @@
-pub mod Blocks
-pub mod Sites
 pub mod Notes
-pub mod Told

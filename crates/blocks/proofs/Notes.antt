@@ -18,10 +18,10 @@ use Rattle.shown.specs.declared.Site.{Site}
 use Rattle.shown.specs.Chained.{shownBlocks, shownParts, blocksEnd}
 use Rattle.shown.specs.Notes.{labelsOf, Digits}
 use Rattle.shown.proofs.Chained.{blocks-shown, trailer-needs, still-labels, still-swaps}
-use Rattle.blocks.specs.declared.Next.{Next}
-use Rattle.blocks.specs.Blocks.{startAt, PutBlocks, PutParts}
+use Rattle.chain_marks.specs.declared.Next.{Next}
+use Rattle.chain_marks.specs.Put.{startAt, PutBlocks, PutParts}
+use Rattle.chain_marks.proofs.Put.{put-then, put-length}
 use Rattle.blocks.specs.Notes.{barred, notesText, labelledOf}
-use Rattle.blocks.proofs.Blocks.{put-then, put-length}
 
 -- THE LINE: its text, and what stands after it
 pub line-noted : (text : List ℕ) (ls marks : List (At ℕ)) (sites : List (At (List ℕ))) (ss : List Sum) → (marks ≡ [] → ss ≡ [])

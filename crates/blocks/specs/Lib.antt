@@ -1,2 +1,3 @@
-pub mod Blocks
+pub use Rattle.chain_marks.specs.Marks
+pub use Rattle.chain_sites.specs.Sites
 pub mod Notes

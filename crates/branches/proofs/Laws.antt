@@ -9,7 +9,7 @@ use mathlib.Core.List.{List, [], _∷_, _++_, append-nil, map}
 use lib.ListN.{length, take, drop, getD, List·getD-map}
 use borrow.Author.Tests.{eq-eqb, ne-eqb}
 use Rattle.emit.specs.Text.{Written}
-use Rattle.emit.proofs.Laws.{written-nil}
+use Rattle.emit.proofs.Laws.{written-nil, written-length}
 use Rattle.groups.specs.declared.Row.{Row}
 use Rattle.groups.specs.Groups.{Entry, entries, blank, entryAt, entryOf, RowIs}
 use Rattle.record.specs.declared.Mod.{Mod}
@@ -20,8 +20,9 @@ use Rattle.reading.specs.Chain.{partPieces, floatPieces}
 use Rattle.reading.proofs.ShowLex.{show-append}
 use Rattle.chain.specs.Lists.{only}
 use Rattle.chain.specs.Drawing.{orNone, branchPart, branches}
-use Rattle.branches.specs.Text.{branchText, groupText, sitting, groupsText, floatText, floatsText, carbonylOf, carbonylText}
-use Rattle.drawable.specs.Drawn.{Length, groupRoom, noGroup}
+use Rattle.branches.specs.Text.{branchText, groupText, sitting, groupsText, floatText, floatsText, carbonylOf, carbonylText, rowsIn, RowsPut}
+use Rattle.drawable.specs.declared.Drawn.{Drawn}
+use Rattle.drawable.specs.Drawn.{Length, noGroup, floatsDrawn}
 use Rattle.carbons.proofs.Fronts.{next-of, none-left}
 use Rattle.carbons.proofs.Left.{Left, left-less, left-same, left-none, written-three}
 
@@ -112,7 +113,7 @@ unfolding groupsText sitting only branches partPieces show
 sitting-none k = refl
 
 -- a turn of the loop through the groups, and its end
-module _ {xs ys ts : List ℕ} {at p n : ℕ} {gs : List Mod} (i k : ℕ) (s : Length groupRoom gs n) (v : Left xs at ts ys p (groupsText (sitting k (drop i gs)))) where
+module _ {xs ys ts : List ℕ} {at p room n : ℕ} {gs : List Mod} (i k : ℕ) (s : Length room gs n) (v : Left xs at ts ys p (groupsText (sitting k (drop i gs)))) where
   pub group-here : {zs : List ℕ} {q : ℕ} (g : Mod) → length xs < 2 ^ 64 → i < n → g ≡ getD gs i noGroup → g .pos ≡ k → Written ys p (groupText (g .row)) zs q
       → Left xs at ts zs q (groupsText (sitting k (drop (i + 1) gs)))
   group-here g h t e f w =
@@ -135,13 +136,28 @@ floats-next : (g : Mod) (gs : List Mod) → floatsText (g ∷ gs) ≡ floatText 
 unfolding floatsText floatText branches
 floats-next g gs = floats-cons (branchPart (g .row)) (branches gs)
 
-module _ {xs ys ts : List ℕ} {at p n : ℕ} {gs : List Mod} (i : ℕ) (s : Length groupRoom gs n) (v : Left xs at ts ys p (floatsText (drop i gs))) where
+module _ {xs ys ts : List ℕ} {at p room n : ℕ} {gs : List Mod} (i : ℕ) (s : Length room gs n) (v : Left xs at ts ys p (floatsText (drop i gs))) where
   pub float-next : {zs : List ℕ} {q : ℕ} (g : Mod) → length xs < 2 ^ 64 → i < n → g ≡ getD gs i noGroup → Written ys p (floatText (g .row)) zs q
       → Left xs at ts zs q (floatsText (drop (i + 1) gs))
   float-next g h t e w = left-less _ h v (ap floatsText (next-of s noGroup g i e t) ∙ floats-next g (drop (i + 1) gs)) w
 
   pub floats-end : n ≤ i → Written xs at ts ys p
   floats-end t = left-none v (ap floatsText (none-left s i t) ∙ floats-none)
+
+-- ---- their rows
+
+module _ {xs ys ts : List ℕ} {at p room n : ℕ} {gs : List Mod} (i : ℕ) (s : Length room gs n) (v : Left xs at ts ys p (rowsIn (drop i gs))) where
+  pub row-next : {zs : List ℕ} {q : ℕ} (g : Mod) → length xs < 2 ^ 64 → i < n → g ≡ getD gs i noGroup → Written ys p (g .row ∷ []) zs q
+      → Left xs at ts zs q (rowsIn (drop (i + 1) gs))
+  unfolding rowsIn
+  row-next g h t e w = left-less _ h v (ap rowsIn (next-of s noGroup g i e t)) w
+
+  pub rows-end : n ≤ i → Written xs at ts ys p
+  unfolding rowsIn
+  rows-end t = left-none v (ap rowsIn (none-left s i t))
+
+pub rows-put : {xs ys : List ℕ} {at p : ℕ} (x : Drawn) → Written xs at (rowsIn (floatsDrawn x)) ys p → RowsPut x xs at ys p
+rows-put x w = record { rows = λ ρ d k. rw (ap rowsIn (k .floats)) at w; size = written-length w }
 
 -- ---- the carbonyl
 

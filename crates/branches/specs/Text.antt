@@ -2,15 +2,23 @@
 -- Assumes nothing.
 use Prim.Native.Nat.{ℕ}
 use mathlib.Core.Bool.{Bool, cond}
-use mathlib.Core.List.{List, [], _∷_}
+use mathlib.Core.Path.{_≡_}
+use mathlib.Core.List.{List, [], _∷_, map}
 use lib.Dec.{eqb}
+use lib.ListN.{length}
+use Rattle.emit.specs.Text.{Written}
 use Rattle.groups.specs.Groups.{keto}
 use Rattle.record.specs.declared.Mod.{Mod}
+use Rattle.record.specs.Chain.{Chain}
 use Rattle.reading.specs.Piece.{show}
 use Rattle.reading.specs.Part.{Part}
 use Rattle.reading.specs.Chain.{partPieces, floatPieces}
+use Rattle.chain.specs.declared.Role.{Role}
 use Rattle.chain.specs.Lists.{only}
+use Rattle.chain.specs.Features.{floating}
 use Rattle.chain.specs.Drawing.{branchPart, branches}
+use Rattle.drawable.specs.declared.Drawn.{Drawn}
+use Rattle.drawable.specs.Drawn.{Draws}
 
 -- the branch of a row of the group table
 unfoldable pub branchText : ℕ → List ℕ
@@ -40,3 +48,13 @@ carbonylOf acyl k = cond acyl (cond (eqb k 1) (branchPart keto ∷ []) []) []
 
 unfoldable pub carbonylText : Bool → ℕ → List ℕ
 carbonylText acyl k = show (partPieces (carbonylOf acyl k))
+
+-- ---- the rows of groups
+
+unfoldable pub rowsIn : List Mod → List ℕ
+rowsIn gs = map (λ g. g .row) gs
+
+-- the rows of the floating groups of every chain that x draws are written
+pub record RowsPut (x : Drawn) (xs : List ℕ) (at : ℕ) (ys : List ℕ) (r : ℕ) : Type 0 where
+  pub rows : (ρ : Role) (d : Chain) → Draws ρ d x → Written xs at (rowsIn (floating d)) ys r
+  pub size : length ys ≡ length xs

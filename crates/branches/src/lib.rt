@@ -1,8 +1,8 @@
 // The groups of a chain, written at a place of a lent slice: those on a carbon, the carbonyl's O, and those without a position.
-use drawable::Groups;
+use drawable::Drawn;
 ghost use Rattle.emit.specs.Text.{Written};
 ghost use Rattle.drawable.specs.Drawn.{groupsIn};
-ghost use Rattle.branches.specs.Text.{branchText, groupText, sitting, groupsText, floatText, floatsText, carbonylText};
+ghost use Rattle.branches.specs.Text.{branchText, groupText, sitting, groupsText, floatText, floatsText, carbonylText, rowsIn, RowsPut};
 
 // The branch of a group, by its row of the table.
 fn put_branch(out: &mut [u8], at: usize, row: u8) -> usize
@@ -33,14 +33,14 @@ fn put_float(out: &mut [u8], at: usize, row: u8) -> usize
 }
 
 // The groups of carbon k, in token order.
-pub fn put_groups(out: &mut [u8], at: usize, groups: Groups, k: u32) -> usize
-    ensures { λ r. ⌜ Written (now (out .entry)) at (groupsText (sitting k (groupsIn groups))) (now (out .exit)) r ⌝ }
+pub fn put_groups(out: &mut [u8], at: usize, groups: &[u64], count: usize, k: u32) -> usize
+    ensures { λ r. ⌜ Written (now (out .entry)) at (groupsText (sitting k (groupsIn count (now (groups .entry))))) (now (out .exit)) r ⌝ }
 {
-    let n = groups.len();
+    let n = drawable::groups_len(groups, count);
     let mut p = at;
     let mut i = 0;
     while i < n {
-        let g = groups.at(i);
+        let g = drawable::nth_group(groups, count, i);
         if g.pos == k {
             let row = g.row;
             p = put_group(out, p, row);
@@ -53,18 +53,40 @@ pub fn put_groups(out: &mut [u8], at: usize, groups: Groups, k: u32) -> usize
 }
 
 // The groups without a position.
-pub fn put_floats(out: &mut [u8], at: usize, floats: Groups) -> usize
-    ensures { λ r. ⌜ Written (now (out .entry)) at (floatsText (groupsIn floats)) (now (out .exit)) r ⌝ }
+pub fn put_floats(out: &mut [u8], at: usize, floats: &[u64], count: usize) -> usize
+    ensures { λ r. ⌜ Written (now (out .entry)) at (floatsText (groupsIn count (now (floats .entry)))) (now (out .exit)) r ⌝ }
 {
-    let n = floats.len();
+    let n = drawable::groups_len(floats, count);
     let mut p = at;
     let mut i = 0;
     while i < n {
-        let g = floats.at(i);
+        let g = drawable::nth_group(floats, count, i);
         p = put_float(out, p, g.row);
         i += 1;
     }
     p
+}
+
+// The rows of groups, one number for each.
+fn write_rows(rows: &mut [u8], at: usize, groups: &[u64], count: usize) -> usize
+    ensures { λ r. ⌜ Written (now (rows .entry)) at (rowsIn (groupsIn count (now (groups .entry)))) (now (rows .exit)) r ⌝ }
+{
+    let n = drawable::groups_len(groups, count);
+    let mut p = at;
+    let mut i = 0;
+    while i < n {
+        let g = drawable::nth_group(groups, count, i);
+        p = emit::put_byte(rows, p, g.row);
+        i += 1;
+    }
+    p
+}
+
+// The rows of the groups without a position.
+pub fn put_rows(rows: &mut [u8], at: usize, x: Drawn) -> usize
+    ensures { λ r. ⌜ RowsPut x (now (rows .entry)) at (now (rows .exit)) r ⌝ }
+{
+    write_rows(rows, at, &x.floats, x.float_count)
 }
 
 // The doubly bonded O of an acyl C1.

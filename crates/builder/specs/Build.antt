@@ -1,5 +1,5 @@
 -- What a push adds to a builder, beside the definitions of `template` and `placed`. Assumes nothing.
-use Prim.Native.Nat.{ℕ, suc, _+_, _≤_, min}
+use Prim.Native.Nat.{ℕ, suc, _+_, _^_, _≤_, _<_, min}
 use mathlib.Core.Path.{_≡_}
 use mathlib.Core.Bool.{cond}
 use mathlib.Core.Option.{Option, none, some}
@@ -13,13 +13,15 @@ use Rattle.reading.specs.Template.{Item, templatePieces}
 use Rattle.chain.specs.declared.Role.{Role}
 use Rattle.chain.specs.declared.Role.the-variants.{Slot}
 use Rattle.drawable.specs.declared.Drawn.{Drawn}
-use Rattle.drawable.specs.Drawn.{ringsIn}
 use Rattle.template.specs.Template.{Element, slot, chain}
-use Rattle.template.specs.Request.{nonempty, atomsAfter, variablesAfter, chainItem, itemsOf}
+use Rattle.template.specs.Request as request
+use Rattle.template.specs.Request.{nonempty, place, atomsAfter, variablesAfter, chainItem, itemsOf}
 use Rattle.template.specs.Built.{labelsAfter, elementAtoms, elementVariables, elementLabels, elementPlaced}
-use Rattle.placed.specs.declared.CxFragment.{CxFragment}
 use Rattle.placed.specs.declared.Placed.{Placed}
-use Rattle.placed.specs.Fragment.{Carries, Stands, noted}
+use Rattle.placed.specs.Fragment.{Carries, Stands, siteOr, noted, indexList, rowsOf, gathered}
+use Rattle.strand.specs.declared.Strand.{Strand}
+use Rattle.strand.specs.declared.Figures.{Figures}
+use Rattle.strand.specs.Strand.{Rooms, Sizes}
 use Rattle.builder.specs.declared.Builder.{Builder}
 
 -- ---- numbers
@@ -35,20 +37,11 @@ inLabels l = min l 247
 abbrev pub variablesFor : ℕ → ℕ
 variablesFor n = cond (eqb n 0) 0 (suc n)
 
--- n is the number of rings
-pub record RingCount (x : Drawn) (n : ℕ) : Type 0 where
-  pub is : n ≡ length (ringsIn (x .rings))
-
 -- ---- a builder
 
 -- where the chains stand, in the order of the text
 unfoldable pub placedIn : Builder → List Placed
 placedIn b = take (b .count) (b .placed)
-
--- a chain at its place, where there is one
-abbrev pub placedAt : ℕ → Role → ℕ → ℕ → ℕ → Option Chain → List Placed
-placedAt sn r s n v none = []
-placedAt sn r s n v (some d) = record { sn = sn; role = r; first = n; site = s; variable = v } ∷ []
 
 -- a builder with nothing pushed
 pub record Fresh (b : Builder) : Type 0 where
@@ -56,6 +49,8 @@ pub record Fresh (b : Builder) : Type 0 where
   pub atoms : b .atoms .0 ≡ 0
   pub variables : b .variables .0 ≡ 0
   pub labels : b .labels .0 ≡ 10
+  pub used : b .used ≡ 0
+  pub rows : b .rows ≡ 0
   pub placed : placedIn b ≡ []
 
 -- ---- pushes
@@ -74,10 +69,17 @@ pub record Fits (n v l : ℕ) (ps : List Placed) : Type 0 where
   pub labels : l ≤ 247
   pub places : length ps ≤ 4
 
--- items are written at the builder's place, with labels from l on, and the builder then has these numbers
-pub record Pushing (is : List Item) (l : ℕ) (xs : List ℕ) (b : Builder) (ys : List ℕ) (q : Builder) (n v l′ : ℕ) (ps : List Placed) : Type 0 where
-  pub text : Written xs (b .at) (show (templatePieces l is)) ys (q .at)
+-- items are written at the builder's place, with labels from l on, and the indices and rows of their chains; the builder then has these numbers
+pub record Pushing (is : List Item) (l : ℕ) (cs : List request.Placed) (xs : Rooms) (b : Builder) (ys : Rooms) (q : Builder) (n v l′ : ℕ) (ps : List Placed) : Type 0 where
+  pub text : Written (xs .text) (b .at) (show (templatePieces l is)) (ys .text) (q .at)
+  pub index : Written (xs .index) (b .used) (gathered indexList cs) (ys .index) (q .used)
+  pub rows : Written (xs .rows) (b .rows) (gathered rowsOf cs) (ys .rows) (q .rows)
   pub counts : Counts q n v l′ ps
+
+-- a place stays what it is
+pub record Kept (a b : ℕ) : Type 0 where
+  pub is : b ≡ a
+  pub small : a < 2 ^ 64
 
 -- a text with k atoms
 pub record FixedPushed (ts : List ℕ) (k : ℕ) (xs : List ℕ) (b : Builder) (ys : List ℕ) (q : Builder) : Type 0 where
@@ -85,14 +87,9 @@ pub record FixedPushed (ts : List ℕ) (k : ℕ) (xs : List ℕ) (b : Builder) (
   pub atoms : q .atoms .0 ≡ plus (b .atoms .0) k
   pub variables : q .variables ≡ b .variables
   pub labels : q .labels ≡ b .labels
+  pub used : Kept (b .used) (q .used)
+  pub rows : Kept (b .rows) (q .rows)
   pub placed : placedIn q ≡ placedIn b
-
--- a chain's text and counts; where it stands is not noted
-pub record FragmentPushed (x : CxFragment) (xs : List ℕ) (b : Builder) (ys : List ℕ) (q : Builder) : Type 0 where
-  pub size : length ys ≡ length xs
-  pub pushed : (r : Role) (d : Chain) (n v l : ℕ) (ps : List Placed) → Carries r d x → Counts b n v l ps
-      → Fits (atomsAfter r n (some d)) (variablesAfter v (some d)) (labelsAfter l (some d)) ps
-      → Pushing (chainItem r (some d)) l xs b ys q (atomsAfter r n (some d)) (variablesAfter v (some d)) (labelsAfter l (some d)) ps
 
 -- only the chains are changed
 pub record Noted (p : Placed) (b q : Builder) : Type 0 where
@@ -100,14 +97,46 @@ pub record Noted (p : Placed) (b q : Builder) : Type 0 where
   pub atoms : q .atoms ≡ b .atoms
   pub variables : q .variables ≡ b .variables
   pub labels : q .labels ≡ b .labels
+  pub used : q .used ≡ b .used
+  pub rows : q .rows ≡ b .rows
   pub placed : placedIn q ≡ take 4 (placedIn b ++ p ∷ [])
 
--- a chain with an sn as r, its site given
-pub record ChainPushed (x : CxFragment) (sn : ℕ) (r : Role) (s : ℕ) (xs : List ℕ) (b : Builder) (ys : List ℕ) (q : Builder) : Type 0 where
-  pub size : length ys ≡ length xs
-  pub pushed : (o : Option Chain) (n v l : ℕ) (ps : List Placed) → Stands r o x → Counts b n v l ps
-      → Fits (atomsAfter r n o) (variablesAfter v o) (labelsAfter l o) (ps ++ placedAt sn r s n v o)
-      → Pushing (chainItem r o) l xs b ys q (atomsAfter r n o) (variablesAfter v o) (labelsAfter l o) (ps ++ placedAt sn r s n v o)
+-- what is kept of a chain that is laid down where the builder stands
+abbrev pub placedOf : Builder → ℕ → Role → ℕ → Strand → Figures → Placed
+placedOf b sn r s x f =
+    record { sn = sn; role = r; first = b .atoms .0; site = s; variable = b .variables .0; count = x .count; acyl = f .acyl; unlocated = f .unlocated; flexible = x .flexible; floats = x .floats; total = f .total; «float_count» = f .«float_count» }
+
+-- the places after a chain, and its counts
+pub record Advanced (x : Strand) (f : Figures) (b q : Builder) : Type 0 where
+  pub at : q .at ≡ x .at
+  pub used : q .used ≡ x .used
+  pub rows : q .rows ≡ x .rows
+  pub atoms : q .atoms .0 ≡ plus (b .atoms .0) (x .end)
+  pub variables : q .variables .0 ≡ plus (b .variables .0) (variablesFor (f .unlocated))
+  pub labels : q .labels .0 ≡ plus (b .labels .0) (f .rings)
+  pub placed : placedIn q ≡ placedIn b
+
+-- ---- a chain
+
+-- what can be kept of a chain with an sn as r, its site the one given, that follows n atoms, v variables and some chains
+abbrev pub FitsChain : ℕ → Role → Option ℕ → Option Chain → ℕ → ℕ → ℕ → List Placed → Type 0
+FitsChain sn r k o n v l ps = Fits (atomsAfter r n o) (variablesAfter v o) (labelsAfter l o) (ps ++ map noted (place sn r k n v o))
+
+abbrev pub PushingChain : ℕ → Role → Option ℕ → Option Chain → ℕ → ℕ → ℕ → List Placed → Rooms → Builder → Rooms → Builder → Type 0
+PushingChain sn r k o n v l ps xs b ys q =
+    Pushing (chainItem r o) l (place sn r k n v o) xs b ys q (atomsAfter r n o) (variablesAfter v o) (labelsAfter l o) (ps ++ map noted (place sn r k n v o))
+
+-- a chain that has carbons
+pub record FragmentPushed (x : Drawn) (sn : ℕ) (r : Role) (s : ℕ) (xs : Rooms) (b : Builder) (ys : Rooms) (q : Builder) : Type 0 where
+  pub sizes : Sizes xs ys
+  pub pushed : (d : Chain) (k : Option ℕ) (n v l : ℕ) (ps : List Placed) → s ≡ siteOr n k → Carries r d x → Counts b n v l ps
+      → FitsChain sn r k (some d) n v l ps → PushingChain sn r k (some d) n v l ps xs b ys q
+
+-- a chain of the request, or none
+pub record ChainPushed (x : Drawn) (sn : ℕ) (r : Role) (s : ℕ) (xs : Rooms) (b : Builder) (ys : Rooms) (q : Builder) : Type 0 where
+  pub sizes : Sizes xs ys
+  pub pushed : (o : Option Chain) (k : Option ℕ) (n v l : ℕ) (ps : List Placed) → s ≡ siteOr n k → Stands r o x → Counts b n v l ps
+      → FitsChain sn r k o n v l ps → PushingChain sn r k o n v l ps xs b ys q
 
 -- ---- an element of a template
 
@@ -115,16 +144,16 @@ abbrev pub FitsElement : List ℕ → List Chain → Element → ℕ → ℕ →
 FitsElement t ds e n v l ps =
     Fits (elementAtoms t ds n e) (elementVariables ds v e) (elementLabels ds l e) (ps ++ map noted (elementPlaced ds n v e))
 
-abbrev pub Pushed : List ℕ → List Chain → Element → ℕ → ℕ → ℕ → List Placed → List ℕ → Builder → List ℕ → Builder → Type 0
+abbrev pub Pushed : List ℕ → List Chain → Element → ℕ → ℕ → ℕ → List Placed → Rooms → Builder → Rooms → Builder → Type 0
 Pushed t ds e n v l ps xs b ys q =
-    Pushing (itemsOf t ds e) l xs b ys q (elementAtoms t ds n e) (elementVariables ds v e) (elementLabels ds l e) (ps ++ map noted (elementPlaced ds n v e))
+    Pushing (itemsOf t ds e) l (elementPlaced ds n v e) xs b ys q (elementAtoms t ds n e) (elementVariables ds v e) (elementLabels ds l e) (ps ++ map noted (elementPlaced ds n v e))
 
-pub record SlotPushed (x : CxFragment) (sn : ℕ) (xs : List ℕ) (b : Builder) (ys : List ℕ) (q : Builder) : Type 0 where
-  pub size : length ys ≡ length xs
+pub record SlotPushed (x : Drawn) (sn : ℕ) (xs : Rooms) (b : Builder) (ys : Rooms) (q : Builder) : Type 0 where
+  pub sizes : Sizes xs ys
   pub pushed : (t : List ℕ) (ds : List Chain) → Stands Slot (nonempty sn ds) x → (n v l : ℕ) (ps : List Placed) → Counts b n v l ps
       → FitsElement t ds (slot sn) n v l ps → Pushed t ds (slot sn) n v l ps xs b ys q
 
-pub record BarePushed (x : CxFragment) (sn : ℕ) (r : Role) (xs : List ℕ) (b : Builder) (ys : List ℕ) (q : Builder) : Type 0 where
-  pub size : length ys ≡ length xs
+pub record BarePushed (x : Drawn) (sn : ℕ) (r : Role) (xs : Rooms) (b : Builder) (ys : Rooms) (q : Builder) : Type 0 where
+  pub sizes : Sizes xs ys
   pub pushed : (t : List ℕ) (ds : List Chain) → Stands r (nonempty sn ds) x → (n v l : ℕ) (ps : List Placed) → Counts b n v l ps
       → FitsElement t ds (chain sn r) n v l ps → Pushed t ds (chain sn r) n v l ps xs b ys q

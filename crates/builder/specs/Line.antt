@@ -1,26 +1,45 @@
 -- What the builder writes after the text. Assumes nothing.
-use Prim.Native.Nat.{ℕ}
+use Prim.Native.Nat.{ℕ, _≤_}
 use mathlib.Core.Path.{_≡_}
 use mathlib.Core.Bool.{Bool}
 use mathlib.Core.List.{List}
-use lib.ListN.{take}
+use lib.ListN.{length, take}
 use Rattle.emit.specs.Text.{Written}
 use Rattle.template.specs.Request.{labels}
-use Rattle.shown.specs.Notes.{labelsOf}
-use Rattle.placed.specs.declared.Slots.{Slots}
+use Rattle.shown.specs.declared.Site.{Site}
+use Rattle.shown.specs.Notes.{labelsOf, Digits}
 use Rattle.placed.specs.declared.Placed.{Placed}
-use Rattle.listing.specs.Sites.{allSiteList}
-use Rattle.blocks.specs.Blocks.{marksIn, siteListsIn, sumsIn}
+use Rattle.listing.specs.declared.Sites.{Sites}
+use Rattle.blocks.specs.Marks.{marksIn, sumsIn}
+use Rattle.blocks.specs.Sites.{siteListsIn}
 use Rattle.blocks.specs.Notes.{notesText}
 use Rattle.builder.specs.declared.Builder.{Builder}
 use Rattle.builder.specs.Build.{placedIn}
 
--- what follows the text of these chains; a line has at most four sites
-unfoldable pub notesAfter : Bool → Slots → List Placed → List ℕ
-unfolding notesText labels labelsOf marksIn siteListsIn sumsIn
-notesAfter swap s ps = notesText (labels swap (labelsOf (take 4 (allSiteList ps)))) (marksIn s ps) (siteListsIn s ps) (sumsIn s ps)
+-- the sites that count
+abbrev pub sitesIn : Sites → List Site
+sitesIn s = take (s .count) (s .items)
 
--- it is written at the builder's place, and the chains stand where they stood
-pub record Finished (swap : Bool) (s : Slots) (xs : List ℕ) (b : Builder) (ys : List ℕ) (q : Builder) : Type 0 where
-  pub text : Written xs (b .at) (notesAfter swap s (placedIn b)) ys (q .at)
-  pub placed : placedIn q ≡ placedIn b
+-- a line has at most four sites, each with an sn of one digit
+pub record Few (s : Sites) : Type 0 where
+  pub count : s .count ≤ 4
+  pub digits : Digits (sitesIn s)
+
+-- n of them can be written: all, if they are such
+pub record Writable (s : Sites) (n : ℕ) : Type 0 where
+  pub few : n ≤ 4
+  pub digits : Digits (take n (s .items))
+  pub all : Few s → n ≡ s .count
+
+-- what follows the text of these chains, whose indices and rows stand end to end
+unfoldable pub notesAfter : Bool → List Site → List Placed → List ℕ → List ℕ → List ℕ
+unfolding notesText labels labelsOf marksIn siteListsIn sumsIn
+notesAfter swap ss ps numbers rows = notesText (labels swap (labelsOf ss)) (marksIn ps) (siteListsIn ps numbers rows) (sumsIn ps)
+
+-- it is written at the builder's place, where the sites are such, and all else stands as it stood
+pub record Finished (swap : Bool) (s : Sites) (numbers rows : List ℕ) (xs : List ℕ) (b : Builder) (ys : List ℕ) (q : Builder) : Type 0 where
+  pub size : length ys ≡ length xs
+  pub text : Few s → Written xs (b .at) (notesAfter swap (sitesIn s) (placedIn b) numbers rows) ys (q .at)
+  pub used : q .used ≡ b .used
+  pub count : q .count ≡ b .count
+  pub places : q .placed ≡ b .placed

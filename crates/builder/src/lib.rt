@@ -1,15 +1,18 @@
-// The builder of a line. It goes in and comes back by value: the place in the lent slice, three counters that run through the template, and
-// where each chain stands. Texts go to the slice at once; marks, sites and sums are numbers until the line is finished. On an empty slice the
-// same functions measure. What is built is said by the definitions of `template` (crates/template/specs); what a push adds, by specs/Build.antt.
+// The builder of a line. It goes in and comes back by value: the places in the lent slices, three counters that run through the template, and
+// where each chain stands. Texts go to the line at once, and so do the indices of each chain and the rows of its floating groups to slices of
+// their own; marks, sites and sums are numbers until the line is finished. On empty slices the same functions measure. What is built is said
+// by the definitions of `template` (crates/template/specs); what a push adds, by specs/Build.antt.
 use chain::Role;
 use drawable::Drawn;
-use placed::CxFragment;
+use listing::Sites;
 use placed::MAX_CHAINS;
 use placed::Placed;
-use placed::Slots;
+use strand::Figures;
+use strand::Strand;
 ghost use mathlib.Core.Path.{_≡_};
-ghost use Rattle.builder.specs.Build.{plus, inLabels, variablesFor, RingCount, Fresh, FixedPushed, FragmentPushed, Noted, ChainPushed, SlotPushed, BarePushed};
-ghost use Rattle.builder.specs.Line.{Finished};
+ghost use Rattle.strand.specs.Strand.{rooms};
+ghost use Rattle.builder.specs.Build.{plus, inLabels, variablesFor, Fresh, FixedPushed, FragmentPushed, Advanced, placedOf, Noted, ChainPushed, SlotPushed, BarePushed};
+ghost use Rattle.builder.specs.Line.{Writable, Finished};
 
 // The first ring label of a line is `%10`.
 pub const FIRST_LABEL: u32 = 10;
@@ -21,11 +24,14 @@ pub struct Variables(pub u32);
 
 pub struct Labels(pub u32);
 
+// The place in the line; the counters; the places in the slices of the indices and of the rows; and where the chains stand.
 pub struct Builder {
     pub at: usize,
     pub atoms: Atoms,
     pub variables: Variables,
     pub labels: Labels,
+    pub used: usize,
+    pub rows: usize,
     pub count: usize,
     pub placed: [Placed; MAX_CHAINS],
 }
@@ -74,14 +80,6 @@ fn variables_for(n: u16) -> u32
     n as u32 + 1
 }
 
-// The labels that a chain takes: one for each ring.
-fn ring_count(x: Drawn) -> u32
-    ensures { λ r. ⌜ RingCount x r ⌝ }
-{
-    let rings = x.rings;
-    rings.len() as u32
-}
-
 // A label as the writer of a chain takes it.
 fn in_labels(label: u32) -> u8
     ensures { λ r. ⌜ r ≡ inLabels label ⌝ }
@@ -90,6 +88,23 @@ fn in_labels(label: u32) -> u8
         return label as u8;
     }
     247
+}
+
+// How many of some sites can be written: four at most, each with an sn of one digit.
+fn writable(sites: Sites) -> usize
+    ensures { λ r. ⌜ Writable sites r ⌝ }
+{
+    let n = placed::in_places(sites.count);
+    let items = sites.items;
+    let mut i = 0;
+    while i < n {
+        let site = items[i];
+        if 9 < site.sn {
+            return i;
+        }
+        i += 1;
+    }
+    n
 }
 
 impl Builder {
@@ -102,6 +117,13 @@ impl Builder {
             first: 0,
             site: 0,
             variable: 0,
+            count: 0,
+            acyl: false,
+            unlocated: 0,
+            flexible: 0,
+            floats: 0,
+            total: 0,
+            float_count: 0,
         };
         let placed = [nowhere; MAX_CHAINS];
         Builder {
@@ -109,6 +131,8 @@ impl Builder {
             atoms: Atoms(0),
             variables: Variables(0),
             labels: Labels(FIRST_LABEL),
+            used: 0,
+            rows: 0,
             count: 0,
             placed,
         }
@@ -127,28 +151,6 @@ impl Builder {
         self
     }
 
-    // A chain: its text with the labels that are next, and its atoms, variables and labels.
-    pub fn push_fragment(mut self, out: &mut [u8], x: CxFragment) -> Builder
-        ensures { λ r. ⌜ FragmentPushed x (now (out .entry)) self (now (out .exit)) r ⌝ }
-    {
-        let chain = x.chain;
-        let at = self.at;
-        let a = self.atoms;
-        let v = self.variables;
-        let l = self.labels;
-        let tokens = carbons::chain_tokens(chain);
-        let next = fragment::build_chain_segment(out, at, chain, tokens, in_labels(l.0));
-        let own = x.atoms;
-        let atoms = a.plus(own.end as u32);
-        let variables = v.plus(variables_for(chain.unlocated));
-        let labels = l.plus(ring_count(chain));
-        self.at = next;
-        self.atoms = atoms;
-        self.variables = variables;
-        self.labels = labels;
-        self
-    }
-
     // Where a chain stands, kept while there is room.
     fn note(mut self, placed: Placed) -> Builder
         ensures { λ r. ⌜ Noted placed self r ⌝ }
@@ -162,61 +164,159 @@ impl Builder {
         self
     }
 
-    // A chain of the request at its place; nothing where it has no carbons.
-    pub fn push_chain(
-        mut self,
-        out: &mut [u8],
-        x: CxFragment,
-        sn: u8,
-        role: Role,
-        site: u32,
-    ) -> Builder
-        ensures { λ r. ⌜ ChainPushed x sn role site (now (out .entry)) self (now (out .exit)) r ⌝ }
+    // A chain that was laid down from here on.
+    fn note_chain(self, sn: u8, role: Role, site: u32, laid: Strand, own: Figures) -> Builder
+        ensures { λ r. ⌜ Noted (placedOf self sn role site laid own) self r ⌝ }
     {
-        let chain = x.chain;
         let a = self.atoms;
         let v = self.variables;
-        let placed = Placed {
+        self.note(Placed {
             sn,
             role,
             first: a.0,
             site,
             variable: v.0,
-        };
-        if chain.carbon == 0 {
+            count: laid.count,
+            acyl: own.acyl,
+            unlocated: own.unlocated,
+            flexible: laid.flexible,
+            floats: laid.floats,
+            total: own.total,
+            float_count: own.float_count,
+        })
+    }
+
+    // The places after a chain, and its atoms, variables and labels.
+    fn advance(mut self, laid: Strand, own: Figures) -> Builder
+        ensures { λ r. ⌜ Advanced laid own self r ⌝ }
+    {
+        let a = self.atoms;
+        let v = self.variables;
+        let l = self.labels;
+        let atoms = a.plus(laid.end as u32);
+        let variables = v.plus(variables_for(own.unlocated));
+        let labels = l.plus(own.rings as u32);
+        self.at = laid.at;
+        self.used = laid.used;
+        self.rows = laid.rows;
+        self.atoms = atoms;
+        self.variables = variables;
+        self.labels = labels;
+        self
+    }
+
+    // A chain that has carbons, at its place: its text with the labels that are next, its indices and rows, its counts, and where it stands.
+    pub fn push_fragment(
+        mut self,
+        out: &mut [u8],
+        index: &mut [u16],
+        rows: &mut [u8],
+        x: Drawn,
+        sn: u8,
+        role: Role,
+        site: u32,
+    ) -> Builder
+        ensures { λ r. ⌜ FragmentPushed x sn role site (rooms (now (out .entry)) (now (index .entry)) (now (rows .entry))) self (rooms (now (out .exit)) (now (index .exit)) (now (rows .exit))) r ⌝ }
+    {
+        let a = self.atoms;
+        let l = self.labels;
+        let label = in_labels(l.0);
+        let laid = strand::put_strand(
+            out,
+            index,
+            rows,
+            self.at,
+            self.used,
+            self.rows,
+            x,
+            role,
+            a.0,
+            label,
+        );
+        let own = strand::figures_of(x);
+        self = self.note_chain(sn, role, site, laid, own);
+        self.advance(laid, own)
+    }
+
+    // A chain of the request at its place; nothing where it has no carbons.
+    pub fn push_chain(
+        mut self,
+        out: &mut [u8],
+        index: &mut [u16],
+        rows: &mut [u8],
+        x: Drawn,
+        sn: u8,
+        role: Role,
+        site: u32,
+    ) -> Builder
+        ensures { λ r. ⌜ ChainPushed x sn role site (rooms (now (out .entry)) (now (index .entry)) (now (rows .entry))) self (rooms (now (out .exit)) (now (index .exit)) (now (rows .exit))) r ⌝ }
+    {
+        if x.carbon == 0 {
             return self;
         }
-        self = self.push_fragment(out, x);
-        self.note(placed)
+        self = self.push_fragment(out, index, rows, x, sn, role, site);
+        self
     }
 
     // A slot: its O, which is the site, and its chain.
-    pub fn push_slot(self, out: &mut [u8], x: CxFragment, sn: u8) -> Builder
-        ensures { λ r. ⌜ SlotPushed x sn (now (out .entry)) self (now (out .exit)) r ⌝ }
+    pub fn push_slot(
+        self,
+        out: &mut [u8],
+        index: &mut [u16],
+        rows: &mut [u8],
+        x: Drawn,
+        sn: u8,
+    ) -> Builder
+        ensures { λ r. ⌜ SlotPushed x sn (rooms (now (out .entry)) (now (index .entry)) (now (rows .entry))) self (rooms (now (out .exit)) (now (index .exit)) (now (rows .exit))) r ⌝ }
     {
         let a = self.atoms;
         let site = a.0;
         let b = self.push_fixed(out, b"O", 1);
-        b.push_chain(out, x, sn, Role::Slot, site)
+        b.push_chain(out, index, rows, x, sn, Role::Slot, site)
     }
 
     // A chain that stands without an O: its first atom is its site.
-    pub fn push_bare(self, out: &mut [u8], x: CxFragment, sn: u8, role: Role) -> Builder
-        ensures { λ r. ⌜ BarePushed x sn role (now (out .entry)) self (now (out .exit)) r ⌝ }
+    pub fn push_bare(
+        self,
+        out: &mut [u8],
+        index: &mut [u16],
+        rows: &mut [u8],
+        x: Drawn,
+        sn: u8,
+        role: Role,
+    ) -> Builder
+        ensures { λ r. ⌜ BarePushed x sn role (rooms (now (out .entry)) (now (index .entry)) (now (rows .entry))) self (rooms (now (out .exit)) (now (index .exit)) (now (rows .exit))) r ⌝ }
     {
         let a = self.atoms;
-        self.push_chain(out, x, sn, role, a.0)
+        self.push_chain(out, index, rows, x, sn, role, a.0)
     }
 
-    // What follows the text: the labels, marks and site lists, what may be exchanged, and the sums.
-    pub fn finish(mut self, out: &mut [u8], swap: bool, s: Slots) -> Builder
-        ensures { λ r. ⌜ Finished swap s (now (out .entry)) self (now (out .exit)) r ⌝ }
+    // What follows the text: the labels of the sites, marks and site lists, what may be exchanged, and the sums. The site lists are read from the
+    // indices and rows of the chains.
+    pub fn finish(
+        mut self,
+        out: &mut [u8],
+        swap: bool,
+        sites: Sites,
+        index: &[u16],
+        rows: &[u8],
+    ) -> Builder
+        ensures { λ r. ⌜ Finished swap sites (now (index .entry)) (now (rows .entry)) (now (out .entry)) self (now (out .exit)) r ⌝ }
     {
         let placed = self.placed;
-        let count = self.count;
-        let sites = listing::sites_by_sn(placed, count);
         let items = sites.items;
-        let at = blocks::put_notes(out, self.at, swap, items, sites.count, s, placed, count);
+        let sited = writable(sites);
+        let at = blocks::put_notes(
+            out,
+            self.at,
+            swap,
+            items,
+            sited,
+            index,
+            rows,
+            placed,
+            self.count,
+        );
         self.at = at;
         self
     }

@@ -19,7 +19,7 @@ use Rattle.record.specs.declared.Ring.{Ring}
 use Rattle.chain.specs.Lists.{anyOf}
 use Rattle.chain.specs.Refusals.{isEpoxide}
 use Rattle.chain.specs.Bonds.{openMark, opensDown, closeMark, closeByte, markBond, markFrom, geometryAt, plainBond, bridged, double}
-use Rattle.drawable.specs.Drawn.{Length, bondRoom, groupRoom, ringRoom, noBond, noGroup, noRing}
+use Rattle.drawable.specs.Drawn.{Length, noBond, noGroup, noRing}
 use Rattle.carbons.specs.ByCarbon.{geometryByte, geometryOf, doubleAt, bridgeAt, groupOn, ringOn, SetWhere, Geometries, Marks, PlainBonds}
 use Rattle.carbons.proofs.Fronts.{back-one, none-left}
 
@@ -62,46 +62,46 @@ or-assoc true b c = refl
 or-assoc false b c = refl
 
 -- nothing is set before the loop: the list is gone through from its end
-module _ {n : ℕ} (ks : List ℕ) where
-  pub doubles-none : {bs : List DbPos} → Length bondRoom bs n → SetWhere (doubleAt (drop n bs)) 61 ks ks
+module _ {room n : ℕ} (ks : List ℕ) where
+  pub doubles-none : {bs : List DbPos} → Length room bs n → SetWhere (doubleAt (drop n bs)) 61 ks ks
   unfolding doubleAt
   doubles-none s = where-none 61 ks (λ k. rw (none-left s n (omega arith)))
 
-  pub bridges-none : {rs : List Ring} → Length ringRoom rs n → SetWhere (bridgeAt (drop n rs)) 79 ks ks
+  pub bridges-none : {rs : List Ring} → Length room rs n → SetWhere (bridgeAt (drop n rs)) 79 ks ks
   unfolding bridgeAt
   bridges-none s = where-none 79 ks (λ k. rw (none-left s n (omega arith)))
 
-  pub groups-none : {gs : List Mod} → Length groupRoom gs n → SetWhere (groupOn (drop n gs)) 1 ks ks
+  pub groups-none : {gs : List Mod} → Length room gs n → SetWhere (groupOn (drop n gs)) 1 ks ks
   unfolding groupOn
   groups-none s = where-none 1 ks (λ k. rw (none-left s n (omega arith)))
 
-  pub rings-none : {rs : List Ring} → Length ringRoom rs n → SetWhere (ringOn (drop n rs)) 1 ks ks
+  pub rings-none : {rs : List Ring} → Length room rs n → SetWhere (ringOn (drop n rs)) 1 ks ks
   unfolding ringOn
   rings-none s = where-none 1 ks (λ k. rw (none-left s n (omega arith)))
 
 -- a turn
-module _ {n : ℕ} {ks js : List ℕ} (i : ℕ) (h : 0 < i) (m : i ≤ n) where
-  pub double-set : {is : List ℕ} {bs : List DbPos} (b : DbPos) → Length bondRoom bs n → SetWhere (doubleAt (drop i bs)) 61 ks js → b ≡ getD bs (i - 1) noBond
+module _ {room n : ℕ} {ks js : List ℕ} (i : ℕ) (h : 0 < i) (m : i ≤ n) where
+  pub double-set : {is : List ℕ} {bs : List DbPos} (b : DbPos) → Length room bs n → SetWhere (doubleAt (drop i bs)) 61 ks js → b ≡ getD bs (i - 1) noBond
       → is ≡ set js (b .pos) 61 → SetWhere (doubleAt (drop (i - 1) bs)) 61 ks is
   unfolding doubleAt
   double-set b s w e f = rw f (where-one (b .pos) w (λ k. rw (back-one s noBond b i e h m)))
 
-  pub bridge-set : {is : List ℕ} {rs : List Ring} (x : Ring) → Length ringRoom rs n → SetWhere (bridgeAt (drop i rs)) 79 ks js → x ≡ getD rs (i - 1) noRing
+  pub bridge-set : {is : List ℕ} {rs : List Ring} (x : Ring) → Length room rs n → SetWhere (bridgeAt (drop i rs)) 79 ks js → x ≡ getD rs (i - 1) noRing
       → x .bridge ≡ Epoxide → is ≡ set js (x .start) 79 → SetWhere (bridgeAt (drop (i - 1) rs)) 79 ks is
   unfolding bridgeAt
   bridge-set x s w e g f = rw f (where-one (x .start) w (λ k. rw (back-one s noRing x i e h m, g)))
 
-  pub bridge-not : {rs : List Ring} (x : Ring) → Length ringRoom rs n → SetWhere (bridgeAt (drop i rs)) 79 ks js → x ≡ getD rs (i - 1) noRing
+  pub bridge-not : {rs : List Ring} (x : Ring) → Length room rs n → SetWhere (bridgeAt (drop i rs)) 79 ks js → x ≡ getD rs (i - 1) noRing
       → x .bridge ≡ Carbocycle → SetWhere (bridgeAt (drop (i - 1) rs)) 79 ks js
   unfolding bridgeAt
   bridge-not x s w e g = where-same w (λ k. rw (back-one s noRing x i e h m, g))
 
-  pub group-set : {is : List ℕ} {gs : List Mod} (g : Mod) → Length groupRoom gs n → SetWhere (groupOn (drop i gs)) 1 ks js → g ≡ getD gs (i - 1) noGroup
+  pub group-set : {is : List ℕ} {gs : List Mod} (g : Mod) → Length room gs n → SetWhere (groupOn (drop i gs)) 1 ks js → g ≡ getD gs (i - 1) noGroup
       → is ≡ set js (g .pos) 1 → SetWhere (groupOn (drop (i - 1) gs)) 1 ks is
   unfolding groupOn
   group-set g s w e f = rw f (where-one (g .pos) w (λ k. rw (back-one s noGroup g i e h m)))
 
-  pub ring-set : {rs : List Ring} {mid is : List ℕ} (x : Ring) → Length ringRoom rs n → SetWhere (ringOn (drop i rs)) 1 ks js → x ≡ getD rs (i - 1) noRing
+  pub ring-set : {rs : List Ring} {mid is : List ℕ} (x : Ring) → Length room rs n → SetWhere (ringOn (drop i rs)) 1 ks js → x ≡ getD rs (i - 1) noRing
       → mid ≡ set js (x .end) 1 → is ≡ set mid (x .start) 1 → SetWhere (ringOn (drop (i - 1) rs)) 1 ks is
   unfolding ringOn
   ring-set {rs} {mid} x s w e f g =
@@ -130,21 +130,24 @@ module _ {ks js : List ℕ} (i : ℕ) (h : i ≤ 0) where
 
 -- ---- geometries
 
-pub geometries-none : {n : ℕ} {bs : List DbPos} → Length bondRoom bs n → Geometries (drop n bs) (replicate 256 0)
+pub geometries-none : {room n : ℕ} {bs : List DbPos} {zs : List ℕ} → zs ≡ replicate 256 0 → Length room bs n → Geometries (drop n bs) zs
 unfolding geometryAt
-geometries-none {n} s =
-    record { size = length-replicate {A = ℕ} 256 0; at = λ k h. getD-replicate 256 k 0 0 h ∙ (rw (none-left s n (omega arith))) }
+geometries-none {n = n} e s =
+    rw e (record { size = length-replicate {A = ℕ} 256 0; at = λ k h. getD-replicate 256 k 0 0 h ∙ (rw (none-left s n (omega arith))) })
 
-pub geometry-set : {n : ℕ} {bs : List DbPos} {js is : List ℕ} (i r : ℕ) (b : DbPos) → 0 < i → i ≤ n → Length bondRoom bs n
+pub geometry-set : {room n : ℕ} {bs : List DbPos} {js is : List ℕ} (i r : ℕ) (b : DbPos) → 0 < i → i ≤ n → Length room bs n
     → Geometries (drop i bs) js → b ≡ getD bs (i - 1) noBond → r ≡ geometryByte (b .geom) → is ≡ set js (b .pos) r → Geometries (drop (i - 1) bs) is
 unfolding geometryAt
-geometry-set {n} {bs} {js} {is} i r b h m s w e f g =
+geometry-set {room} {n} {bs} {js} {is} i r b h m s w e f g =
     rw (g, back-one s noBond b i e h m)
     (record { size = length-set js (b .pos) r ∙ w .size; at = λ k q. stored js (b .pos) r k (omega (arith, w .size)) ∙ go k (eqb (b .pos) k) (w .at k q) })
   where
     go : (k : ℕ) (t : Bool) → getD js k 0 ≡ geometryByte (geometryAt k (drop i bs)) → cond t r (getD js k 0) ≡ geometryByte (cond t (b .geom) (geometryAt k (drop i bs)))
     go k true u = f
     go k false u = u
+
+pub geometries-length : {bs : List DbPos} {zs js : List ℕ} → zs ≡ replicate 256 0 → Geometries bs js → length js ≡ length zs
+geometries-length e w = w .size ∙ sym (ap length e ∙ length-replicate {A = ℕ} 256 0)
 
 pub geometries-all : {bs : List DbPos} {js : List ℕ} (i : ℕ) → i ≤ 0 → Geometries (drop i bs) js → Geometries bs js
 geometries-all {bs} {js} i h w = rw (drop-none i h bs) at w

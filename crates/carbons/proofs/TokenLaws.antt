@@ -20,7 +20,7 @@ use Rattle.chain.specs.Lists.{anyOf, valuesFrom}
 use Rattle.chain.specs.Features.{literalEnd}
 use Rattle.chain.specs.Bonds.{openMark, opensDown, closeMark, closeByte, markBond, markFrom, geometryAt, plainBond, plainBonds}
 use Rattle.drawable.specs.declared.Drawn.{Drawn}
-use Rattle.drawable.specs.Drawn.{bondsIn, groupsIn, ringsIn, SaysUpTo}
+use Rattle.drawable.specs.Drawn.{bondsDrawn, groupsDrawn, ringsDrawn, SaysUpTo}
 use Rattle.carbons.specs.declared.ChainTokens.{ChainTokens}
 use Rattle.carbons.specs.Tokens.{TokensOf}
 use Rattle.carbons.specs.ByCarbon.{doubleAt, bridgeAt, groupOn, ringOn, carbonylOn, busyAt, SetWhere, Geometries, Marks, PlainBonds, BondsBy, Busy}
@@ -56,15 +56,18 @@ values-same f g k (suc n) e =
 zeros-size : (m : ℕ) → length (replicate {A = ℕ} m 0) ≡ m
 zeros-size m = length-replicate {A = ℕ} m 0
 
-pub bonds-plain : {bs : List DbPos} {rs : List Ring} {mid ks : List ℕ} → SetWhere (bridgeAt rs) 79 (replicate 256 0) mid → SetWhere (doubleAt bs) 61 mid ks → PlainBonds bs rs ks
+noughts : {zs : List ℕ} → zs ≡ replicate 256 0 → length zs ≡ 256
+noughts e = ap length e ∙ zeros-size 256
+
+pub bonds-plain : {bs : List DbPos} {rs : List Ring} {zs mid ks : List ℕ} → zs ≡ replicate 256 0 → SetWhere (bridgeAt rs) 79 zs mid → SetWhere (doubleAt bs) 61 mid ks → PlainBonds bs rs ks
 unfolding plainBond bridgeAt doubleAt
-bonds-plain {bs} {rs} {mid} v w =
+bonds-plain {bs} {rs} {zs} {mid} e v w =
     record {
-      size = w .size ∙ (v .size ∙ zeros-size 256);
+      size = w .size ∙ (v .size ∙ noughts e);
       at = λ k h.
-          let m : length mid ≡ 256 = v .size ∙ zeros-size 256 in
-          let z : k < length (replicate {A = ℕ} 256 0) = omega (arith, zeros-size 256) in
-          w .at k (omega arith) ∙ (rw (v .at k z, getD-replicate {A = ℕ} 256 k 0 0 h));
+          let m : length mid ≡ 256 = v .size ∙ noughts e in
+          let z : k < length zs = omega (arith, noughts e) in
+          w .at k (omega arith) ∙ (rw (v .at k z, e, getD-replicate {A = ℕ} 256 k 0 0 h));
     }
 
 plain-taken : (bs : List DbPos) (rs : List Ring) (c : ℕ) (ks : List ℕ) → c ≤ 255 → PlainBonds bs rs ks → take (suc c) ks ≡ plainBonds bs rs c
@@ -138,19 +141,19 @@ pub carbonyl-none : {ks : List ℕ} (acyl : Bool) → acyl ≡ false → SetWher
 unfolding carbonylOn
 carbonyl-none {ks} acyl e = rw e (where-none 1 ks (λ k. refl))
 
-pub busy-all : {acyl : Bool} {gs : List Mod} {rs : List Ring} {ks js is : List ℕ} → SetWhere (ringOn rs) 1 (replicate 256 0) ks → SetWhere (groupOn gs) 1 ks js
+pub busy-all : {acyl : Bool} {gs : List Mod} {rs : List Ring} {zs ks js is : List ℕ} → zs ≡ replicate 256 0 → SetWhere (ringOn rs) 1 zs ks → SetWhere (groupOn gs) 1 ks js
     → SetWhere (carbonylOn acyl) 1 js is → Busy acyl gs rs is
 unfolding busyAt
-busy-all {acyl} {gs} {rs} {ks} {js} {is} u v w =
+busy-all {acyl} {gs} {rs} {zs} {ks} {js} {is} e u v w =
     record {
       size = w .size ∙ m;
       at = λ k h.
-          let z : k < length (replicate {A = ℕ} 256 0) = omega (arith, zeros-size 256) in
-          w .at k (omega (arith, m)) ∙ (rw (v .at k (omega (arith, l)), u .at k z, getD-replicate {A = ℕ} 256 k 0 0 h) (go (carbonylOn acyl k) (groupOn gs k) (ringOn rs k)));
+          let z : k < length zs = omega (arith, noughts e) in
+          w .at k (omega (arith, m)) ∙ (rw (v .at k (omega (arith, l)), u .at k z, e, getD-replicate {A = ℕ} 256 k 0 0 h) (go (carbonylOn acyl k) (groupOn gs k) (ringOn rs k)));
     }
   where
     l : length ks ≡ 256
-    l = u .size ∙ zeros-size 256
+    l = u .size ∙ noughts e
 
     m : length js ≡ 256
     m = v .size ∙ l
@@ -162,8 +165,8 @@ busy-all {acyl} {gs} {rs} {ks} {js} {is} u v w =
 
 -- ---- all of it
 
-pub tokens-are : {x : Drawn} {bs us : List ℕ} {f e l : ℕ} → BondsBy (bondsIn (x .bonds)) (ringsIn (x .rings)) (x .carbon) bs
-    → Busy (x .acyl) (groupsIn (x .groups)) (ringsIn (x .rings)) us → f ≡ max (x .first) 1 → SaysUpTo x e literalEnd → l ≡ min e 255
+pub tokens-are : {x : Drawn} {bs us : List ℕ} {f e l : ℕ} → BondsBy (bondsDrawn x) (ringsDrawn x) (x .carbon) bs
+    → Busy (x .acyl) (groupsDrawn x) (ringsDrawn x) us → f ≡ max (x .first) 1 → SaysUpTo x e literalEnd → l ≡ min e 255
     → TokensOf x (record { first = f; last = l; bonds = bs; busy = us })
 tokens-are {x} {e = e} {l} b u f s m =
     record {

@@ -1,14 +1,11 @@
 // The bonds of a chain in an array by carbon, with their marks, and which carbons carry anything. The groups and rings are gone through once;
 // after that each carbon is looked up.
-use drawable::Bonds;
 use drawable::Drawn;
-use drawable::Groups;
-use drawable::Rings;
 use record::Bridge;
 use record::Geometry;
 ghost use mathlib.Core.Path.{_≡_};
 ghost use Prim.Native.Nat.{_≤_, _<_, min, max};
-ghost use lib.ListN.{length, set};
+ghost use lib.ListN.{length, set, replicate};
 ghost use Rattle.chain.specs.Bonds.{openMark, closeMark, markBond, closeByte, bridged, double};
 ghost use Rattle.drawable.specs.Drawn.{bondsIn, groupsIn, ringsIn};
 ghost use Rattle.carbons.specs.ByCarbon.{geometryByte, geometryOf, doubleAt, bridgeAt, groupOn, ringOn, carbonylOn, SetWhere, Geometries, Marks, PlainBonds, BondsBy, Busy};
@@ -27,13 +24,13 @@ fn set_at(xs: &mut [u8], p: usize, v: u8)
 }
 
 // The bridges: where an epoxide starts.
-fn set_bridges(bonds: &mut [u8], rings: Rings)
-    ensures { λ _. ⌜ SetWhere (bridgeAt (ringsIn rings)) bridged (now (bonds .entry)) (now (bonds .exit)) ⌝ }
+fn set_bridges(bonds: &mut [u8], rings: &[u64], count: usize)
+    ensures { λ _. ⌜ SetWhere (bridgeAt (ringsIn count (now (rings .entry)))) bridged (now (bonds .entry)) (now (bonds .exit)) ⌝ }
 {
-    let mut i = rings.len();
+    let mut i = drawable::rings_len(rings, count);
     while 0 < i {
         i -= 1;
-        let x = rings.at(i);
+        let x = drawable::nth_ring(rings, count, i);
         let bridge = x.bridge;
         match bridge {
             Bridge::Epoxide => {
@@ -48,13 +45,13 @@ fn set_bridges(bonds: &mut [u8], rings: Rings)
 }
 
 // The double bonds.
-fn set_doubles(bonds: &mut [u8], doubles: Bonds)
-    ensures { λ _. ⌜ SetWhere (doubleAt (bondsIn doubles)) double (now (bonds .entry)) (now (bonds .exit)) ⌝ }
+fn set_doubles(bonds: &mut [u8], doubles: &[u64], count: usize)
+    ensures { λ _. ⌜ SetWhere (doubleAt (bondsIn count (now (doubles .entry)))) double (now (bonds .entry)) (now (bonds .exit)) ⌝ }
 {
-    let mut i = doubles.len();
+    let mut i = drawable::bonds_len(doubles, count);
     while 0 < i {
         i -= 1;
-        let b = doubles.at(i);
+        let b = drawable::nth_bond(doubles, count, i);
         set_at(bonds, b.pos as usize, b'=');
     }
 }
@@ -70,19 +67,19 @@ fn geometry_byte(g: Geometry) -> u8
     }
 }
 
-// The geometry stated at each carbon. The list is gone through from its end, so that the first of two that share a carbon stands.
-fn geometries(doubles: Bonds) -> [u8; CARBON_ROOM]
-    ensures { λ r. ⌜ Geometries (bondsIn doubles) r ⌝ }
+// The geometry stated at each carbon, in an array of noughts. The list is gone through from its end, so that the first of two that share a
+// carbon stands.
+fn set_geometries(geoms: &mut [u8], doubles: &[u64], count: usize)
+    requires { ⌜ now geoms ≡ replicate 256 0 ⌝ }
+    ensures { λ _. ⌜ Geometries (bondsIn count (now (doubles .entry))) (now (geoms .exit)) ⌝ }
 {
-    let mut geoms = [0u8; CARBON_ROOM];
-    let mut i = doubles.len();
+    let mut i = drawable::bonds_len(doubles, count);
     while 0 < i {
         i -= 1;
-        let b = doubles.at(i);
+        let b = drawable::nth_bond(doubles, count, i);
         let g = b.geom;
-        set_at(&mut geoms, b.pos as usize, geometry_byte(g));
+        set_at(geoms, b.pos as usize, geometry_byte(g));
     }
-    geoms
 }
 
 // An empty bond before a double bond is marked up.
@@ -160,25 +157,25 @@ fn mark_bonds(bonds: &mut [u8], geoms: &[u8], carbon: usize)
 }
 
 // The carbons that have a group.
-fn set_groups(busy: &mut [u8], groups: Groups)
-    ensures { λ _. ⌜ SetWhere (groupOn (groupsIn groups)) 1 (now (busy .entry)) (now (busy .exit)) ⌝ }
+fn set_groups(busy: &mut [u8], groups: &[u64], count: usize)
+    ensures { λ _. ⌜ SetWhere (groupOn (groupsIn count (now (groups .entry)))) 1 (now (busy .entry)) (now (busy .exit)) ⌝ }
 {
-    let mut i = groups.len();
+    let mut i = drawable::groups_len(groups, count);
     while 0 < i {
         i -= 1;
-        let g = groups.at(i);
+        let g = drawable::nth_group(groups, count, i);
         set_at(busy, g.pos as usize, 1);
     }
 }
 
 // The carbons that have a ring's end.
-fn set_rings(busy: &mut [u8], rings: Rings)
-    ensures { λ _. ⌜ SetWhere (ringOn (ringsIn rings)) 1 (now (busy .entry)) (now (busy .exit)) ⌝ }
+fn set_rings(busy: &mut [u8], rings: &[u64], count: usize)
+    ensures { λ _. ⌜ SetWhere (ringOn (ringsIn count (now (rings .entry)))) 1 (now (busy .entry)) (now (busy .exit)) ⌝ }
 {
-    let mut i = rings.len();
+    let mut i = drawable::rings_len(rings, count);
     while 0 < i {
         i -= 1;
-        let x = rings.at(i);
+        let x = drawable::nth_ring(rings, count, i);
         set_at(busy, x.end as usize, 1);
         set_at(busy, x.start as usize, 1);
     }
@@ -194,14 +191,19 @@ fn set_carbonyl(busy: &mut [u8], acyl: bool)
     }
 }
 
-// The bonds before any mark: a double bond stands before a bridge.
-fn plain_bonds(doubles: Bonds, rings: Rings) -> [u8; CARBON_ROOM]
-    ensures { λ r. ⌜ PlainBonds (bondsIn doubles) (ringsIn rings) r ⌝ }
+// The bonds before any mark, in an array of noughts: a double bond stands before a bridge.
+fn plain_bonds<'a>(
+    bonds: &mut [u8],
+    doubles: &'a [u64],
+    bond_count: usize,
+    rings: &'a [u64],
+    ring_count: usize,
+)
+    requires { ⌜ now bonds ≡ replicate 256 0 ⌝ }
+    ensures { λ _. ⌜ PlainBonds (bondsIn «bond_count» (now (doubles .entry))) (ringsIn «ring_count» (now (rings .entry))) (now (bonds .exit)) ⌝ }
 {
-    let mut bonds = [0u8; CARBON_ROOM];
-    set_bridges(&mut bonds, rings);
-    set_doubles(&mut bonds, doubles);
-    bonds
+    set_bridges(bonds, rings, ring_count);
+    set_doubles(bonds, doubles, bond_count);
 }
 
 // A carbon's number, no higher than the arrays go.
@@ -224,25 +226,39 @@ fn from_one(first: u16) -> u16
     first
 }
 
-// The bonds with their marks.
-fn marked_bonds(doubles: Bonds, rings: Rings, carbon: u16) -> [u8; CARBON_ROOM]
-    ensures { λ r. ⌜ BondsBy (bondsIn doubles) (ringsIn rings) carbon r ⌝ }
+// The bonds with their marks, in an array of noughts.
+fn marked_bonds<'a>(
+    bonds: &mut [u8],
+    doubles: &'a [u64],
+    bond_count: usize,
+    rings: &'a [u64],
+    ring_count: usize,
+    carbon: u16,
+)
+    requires { ⌜ now bonds ≡ replicate 256 0 ⌝ }
+    ensures { λ _. ⌜ BondsBy (bondsIn «bond_count» (now (doubles .entry))) (ringsIn «ring_count» (now (rings .entry))) carbon (now (bonds .exit)) ⌝ }
 {
-    let mut bonds = plain_bonds(doubles, rings);
-    let geoms = geometries(doubles);
-    mark_bonds(&mut bonds, &geoms, in_room(carbon) as usize);
-    bonds
+    let mut geoms = [0u8; CARBON_ROOM];
+    set_geometries(&mut geoms, doubles, bond_count);
+    plain_bonds(bonds, doubles, bond_count, rings, ring_count);
+    mark_bonds(bonds, &geoms, in_room(carbon) as usize);
 }
 
-// The carbons that carry anything beside a bridge.
-fn busy_carbons(acyl: bool, groups: Groups, rings: Rings) -> [u8; CARBON_ROOM]
-    ensures { λ r. ⌜ Busy acyl (groupsIn groups) (ringsIn rings) r ⌝ }
+// The carbons that carry anything beside a bridge, in an array of noughts.
+fn busy_carbons<'a>(
+    busy: &mut [u8],
+    acyl: bool,
+    groups: &'a [u64],
+    group_count: usize,
+    rings: &'a [u64],
+    ring_count: usize,
+)
+    requires { ⌜ now busy ≡ replicate 256 0 ⌝ }
+    ensures { λ _. ⌜ Busy acyl (groupsIn «group_count» (now (groups .entry))) (ringsIn «ring_count» (now (rings .entry))) (now (busy .exit)) ⌝ }
 {
-    let mut busy = [0u8; CARBON_ROOM];
-    set_rings(&mut busy, rings);
-    set_groups(&mut busy, groups);
-    set_carbonyl(&mut busy, acyl);
-    busy
+    set_rings(busy, rings, ring_count);
+    set_groups(busy, groups, group_count);
+    set_carbonyl(busy, acyl);
 }
 
 // What is known of each carbon: the bond after it, and whether it carries anything (1) or not (0); with the first drawn carbon and the last
@@ -257,13 +273,26 @@ pub struct ChainTokens {
 pub fn chain_tokens(x: Drawn) -> ChainTokens
     ensures { λ r. ⌜ TokensOf x r ⌝ }
 {
-    let doubles = x.bonds;
-    let groups = x.groups;
-    let rings = x.rings;
-    let bonds = marked_bonds(doubles, rings, x.carbon);
-    let busy = busy_carbons(x.acyl, groups, rings);
+    let mut bonds = [0u8; CARBON_ROOM];
+    let mut busy = [0u8; CARBON_ROOM];
+    marked_bonds(
+        &mut bonds,
+        &x.bonds,
+        x.bond_count,
+        &x.rings,
+        x.ring_count,
+        x.carbon,
+    );
+    busy_carbons(
+        &mut busy,
+        x.acyl,
+        &x.groups,
+        x.group_count,
+        &x.rings,
+        x.ring_count,
+    );
     let first = from_one(x.first);
-    let last = in_room(drawable::draw::literal_end(x));
+    let last = in_room(reach::literal_end(x));
     ChainTokens {
         first,
         last,

@@ -7,8 +7,8 @@ use mathlib.Core.Path.{_≡_, refl, sym, _∙_}
 use mathlib.Core.Bool.{Bool, true, false, cond, _||_, false≢true}
 use mathlib.Core.List.{List, [], _∷_}
 use lib.Dec.{eqb, ltb}
-use lib.ListN.{length, take, drop, getD, length-take, drop-of-length-le}
-use lib.Seq.{drop-cons, getD-take}
+use lib.ListN.{drop, getD, drop-of-length-le}
+use lib.Seq.{drop-cons}
 use borrow.Author.Tests.{eq-eqb, ne-eqb, lt-ltb, le-ltb, ltb-true}
 use Rattle.record.specs.declared.Bridge.the-variants.{Epoxide, Carbocycle}
 use Rattle.record.specs.declared.DbPos.{DbPos}
@@ -18,10 +18,9 @@ use Rattle.chain.specs.declared.Role.{Role}
 use Rattle.chain.specs.Lists.{anyOf, anyTwo}
 use Rattle.chain.specs.Refusals.{sameBond, epoxideOn, smallRing, sameRing, clashes}
 use Rattle.drawable.specs.declared.Drawn.{Drawn}
-use Rattle.drawable.specs.declared.Bonds.{Bonds}
-use Rattle.drawable.specs.Drawn.{bondsIn, ringsIn, noBond, Length, Draws, Says}
+use Rattle.drawable.specs.Drawn.{bondsDrawn, ringsDrawn, noBond, Length, Draws, Says}
 use Rattle.clash.specs.Places.{bondAt, rising}
-use Rattle.drawable.proofs.Lists.{any-same, eqb-swap, take-of-length}
+use Rattle.drawable.proofs.Lists.{any-same, eqb-swap}
 
 -- ---- one feature
 
@@ -76,42 +75,23 @@ none-twice m (b ∷ l) e = go (ltb m (b .pos)) e (λ f. none-twice (b .pos) l f)
 pub rising-apart : (l : List DbPos) (t : Bool) → t ≡ rising 0 l → t ≡ true → false ≡ anyTwo sameBond l
 rising-apart l t e f = sym (none-twice 0 l (sym e ∙ f))
 
--- the loop that looks whether they rise, over an array of which n count
-module _ (xs : List DbPos) (n i m : ℕ) (s : length xs ≡ 33) (f : n ≤ 33) (h : i < n) where
-  here : drop i (take n xs) ≡ getD xs i noBond ∷ drop (i + 1) (take n xs)
-  here = rw (add-one i, ← getD-take n xs i noBond h) (drop-cons (take n xs) i noBond (omega (arith, length-take n xs)))
+-- the loop that looks whether they rise; what was asked is v
+module _ (v : Bool) (room : ℕ) (l : List DbPos) (n i m : ℕ) (w : Length room l n) (same : v ≡ rising m (drop i l)) where
+  module _ (b : DbPos) (h : i < n) (e : b ≡ getD l i noBond) where
+    here : drop i l ≡ b ∷ drop (i + 1) l
+    here = rw (add-one i, e) (drop-cons l i noBond (omega (arith, w .is)))
 
-  rise-here : m < getD xs i noBond .pos → rising m (drop i (take n xs)) ≡ rising (getD xs i noBond .pos) (drop (i + 1) (take n xs))
-  unfolding rising
-  rise-here g = rw (here, lt-ltb m (getD xs i noBond .pos) g)
-
-  fall-here : getD xs i noBond .pos ≤ m → rising m (drop i (take n xs)) ≡ false
-  unfolding rising
-  fall-here g = rw (here, le-ltb m (getD xs i noBond .pos) g)
-
-module _ (b : Bonds) (n : ℕ) (w : Length 33 (bondsIn b) n) where
-  counted : take n (b .items) ≡ bondsIn b
-  unfolding bondsIn
-  counted = rw (w .is) (take-of-length (b .items) (b .count))
-
-  pub rising-none : n ≡ 0 → true ≡ rising 0 (bondsIn b)
-  unfolding rising
-  rising-none e = rw (← counted, e)
-
-  module _ (i m : ℕ) (v : rising 0 (take n (b .items)) ≡ rising m (drop i (take n (b .items)))) where
-    pub rising-all : n ≤ i → true ≡ rising 0 (bondsIn b)
+    pub rising-not : b .pos ≤ m → false ≡ v
     unfolding rising
-    rising-all h =
-        let e : drop i (take n (b .items)) ≡ [] = drop-of-length-le (take n (b .items)) {i = i} (omega (arith, length-take n (b .items))) in
-        let k : rising m (drop i (take n (b .items))) ≡ true = rw e in
-        rw (← counted) (sym (v ∙ k))
+    rising-not g = sym (same ∙ rw (here, le-ltb m (b .pos) g))
 
-    pub rising-not : i < n → getD (b .items) i noBond .pos ≤ m → length (b .items) ≡ 33 → false ≡ rising 0 (bondsIn b)
-    rising-not h g s = rw (← counted) (sym (v ∙ fall-here (b .items) n i m s (w .fits) h g))
+    pub rising-next : m < b .pos → v ≡ rising (b .pos) (drop (i + 1) l)
+    unfolding rising
+    rising-next g = same ∙ rw (here, lt-ltb m (b .pos) g)
 
-pub rising-next : (xs : List DbPos) (n i m : ℕ) → length xs ≡ 33 → n ≤ 33 → rising 0 (take n xs) ≡ rising m (drop i (take n xs)) → i < n → m < getD xs i noBond .pos
-    → rising 0 (take n xs) ≡ rising (getD xs i noBond .pos) (drop (i + 1) (take n xs))
-rising-next xs n i m s f v h g = v ∙ rise-here xs n i m s f h g
+  pub rising-all : n ≤ i → true ≡ v
+  unfolding rising
+  rising-all h = let e : drop i l ≡ [] = drop-of-length-le l {i = i} (omega (arith, w .is)) in sym (same ∙ rw e)
 
 pub on-epoxide : (x : Ring) (l : List DbPos) (t : Bool) → x .bridge ≡ Epoxide → t ≡ anyOf (bondAt (x .start)) (drop 0 l) → t ≡ epoxideOn l x
 unfolding epoxideOn
@@ -126,22 +106,22 @@ on-carbocycle x l e = rw e
 module _ (x : Drawn) where
   clashes-as : (r : Role) (d : Chain) → Draws r d x
       → clashes r d
-      ≡ anyTwo sameBond (bondsIn (x .bonds)) || anyOf (epoxideOn (bondsIn (x .bonds))) (ringsIn (x .rings)) || anyOf smallRing (ringsIn (x .rings))
-      || anyTwo sameRing (ringsIn (x .rings))
+      ≡ anyTwo sameBond (bondsDrawn x) || anyOf (epoxideOn (bondsDrawn x)) (ringsDrawn x) || anyOf smallRing (ringsDrawn x)
+      || anyTwo sameRing (ringsDrawn x)
   unfolding clashes
   clashes-as r d w = rw (w .bonds, w .rings)
 
-  module _ (t₁ : Bool) (e₁ : t₁ ≡ anyTwo sameBond (bondsIn (x .bonds))) where
+  module _ (t₁ : Bool) (e₁ : t₁ ≡ anyTwo sameBond (bondsDrawn x)) where
     pub clash-bonds : t₁ ≡ true → Says x true clashes
     clash-bonds f₁ = record { is = λ r d w. sym (clashes-as r d w ∙ rw (sym e₁ ∙ f₁)) }
 
-    module _ (f₁ : t₁ ≡ false) (t₂ : Bool) (e₂ : t₂ ≡ anyOf (epoxideOn (bondsIn (x .bonds))) (ringsIn (x .rings))) where
+    module _ (f₁ : t₁ ≡ false) (t₂ : Bool) (e₂ : t₂ ≡ anyOf (epoxideOn (bondsDrawn x)) (ringsDrawn x)) where
       pub clash-epoxide : t₂ ≡ true → Says x true clashes
       clash-epoxide f₂ = record { is = λ r d w. sym (clashes-as r d w ∙ rw (sym e₁ ∙ f₁, sym e₂ ∙ f₂)) }
 
-      module _ (f₂ : t₂ ≡ false) (t₃ : Bool) (e₃ : t₃ ≡ anyOf smallRing (ringsIn (x .rings))) where
+      module _ (f₂ : t₂ ≡ false) (t₃ : Bool) (e₃ : t₃ ≡ anyOf smallRing (ringsDrawn x)) where
         pub clash-small : t₃ ≡ true → Says x true clashes
         clash-small f₃ = record { is = λ r d w. sym (clashes-as r d w ∙ rw (sym e₁ ∙ f₁, sym e₂ ∙ f₂, sym e₃ ∙ f₃)) }
 
-        pub clash-rings : (t₄ : Bool) → t₃ ≡ false → t₄ ≡ anyTwo sameRing (ringsIn (x .rings)) → Says x t₄ clashes
+        pub clash-rings : (t₄ : Bool) → t₃ ≡ false → t₄ ≡ anyTwo sameRing (ringsDrawn x) → Says x t₄ clashes
         clash-rings t₄ f₃ e₄ = record { is = λ r d w. sym (clashes-as r d w ∙ rw (sym e₁ ∙ f₁, sym e₂ ∙ f₂, sym e₃ ∙ f₃) (sym e₄)) }

@@ -1,8 +1,6 @@
 // 33: two features that clash. Features are held against features, never against carbons. What a clash is, is said by the definitions of the
 // crate `chain`.
-use drawable::Bonds;
 use drawable::Drawn;
-use drawable::Rings;
 use record::Bridge;
 use record::DbPos;
 use record::Ring;
@@ -22,13 +20,13 @@ fn starts_at(bond: DbPos, p: u32) -> bool
 }
 
 // Whether some double bond stands at p, among those from a place on.
-fn bond_from(bonds: Bonds, from: usize, p: u32) -> bool
-    ensures { λ r. ⌜ r ≡ anyOf (bondAt p) (drop from (bondsIn bonds)) ⌝ }
+fn bond_from(bonds: &[u64], count: usize, from: usize, p: u32) -> bool
+    ensures { λ r. ⌜ r ≡ anyOf (bondAt p) (drop from (bondsIn count (now (bonds .entry)))) ⌝ }
 {
-    let n = bonds.len();
+    let n = drawable::bonds_len(bonds, count);
     let mut i = from;
     while i < n {
-        let bond = bonds.at(i);
+        let bond = drawable::nth_bond(bonds, count, i);
         if starts_at(bond, p) {
             return true;
         }
@@ -37,20 +35,15 @@ fn bond_from(bonds: Bonds, from: usize, p: u32) -> bool
     false
 }
 
-// Whether the double bonds stand in rising order, none of them at 0. The array is read in a local of its own, which is made only where there
-// is a bond.
-fn rising_bonds(bonds: Bonds) -> bool
-    ensures { λ r. ⌜ r ≡ rising 0 (bondsIn bonds) ⌝ }
+// Whether the double bonds stand in rising order, none of them at 0.
+fn rising_bonds(bonds: &[u64], count: usize) -> bool
+    ensures { λ r. ⌜ r ≡ rising 0 (bondsIn count (now (bonds .entry))) ⌝ }
 {
-    let n = bonds.len();
-    if n == 0 {
-        return true;
-    }
-    let items = bonds.items;
+    let n = drawable::bonds_len(bonds, count);
     let mut last = 0;
     let mut i = 0;
     while i < n {
-        let bond = items[i];
+        let bond = drawable::nth_bond(bonds, count, i);
         if bond.pos <= last {
             return false;
         }
@@ -61,15 +54,15 @@ fn rising_bonds(bonds: Bonds) -> bool
 }
 
 // Whether some two double bonds stand at one carbon, each held against all that follow.
-fn repeated_anywhere(bonds: Bonds) -> bool
-    ensures { λ r. ⌜ r ≡ anyTwo sameBond (bondsIn bonds) ⌝ }
+fn repeated_anywhere(bonds: &[u64], count: usize) -> bool
+    ensures { λ r. ⌜ r ≡ anyTwo sameBond (bondsIn count (now (bonds .entry))) ⌝ }
 {
-    let n = bonds.len();
+    let n = drawable::bonds_len(bonds, count);
     let mut i = 0;
     while i < n {
-        let bond = bonds.at(i);
+        let bond = drawable::nth_bond(bonds, count, i);
         i += 1;
-        if bond_from(bonds, i, bond.pos) {
+        if bond_from(bonds, count, i, bond.pos) {
             return true;
         }
     }
@@ -77,35 +70,40 @@ fn repeated_anywhere(bonds: Bonds) -> bool
 }
 
 // Whether some two double bonds stand at one carbon. Most lists rise, and then no two do.
-fn repeated_bond(bonds: Bonds) -> bool
-    ensures { λ r. ⌜ r ≡ anyTwo sameBond (bondsIn bonds) ⌝ }
+fn repeated_bond(bonds: &[u64], count: usize) -> bool
+    ensures { λ r. ⌜ r ≡ anyTwo sameBond (bondsIn count (now (bonds .entry))) ⌝ }
 {
-    if rising_bonds(bonds) {
+    if rising_bonds(bonds, count) {
         return false;
     }
-    repeated_anywhere(bonds)
+    repeated_anywhere(bonds, count)
 }
 
 // Whether a ring is an epoxide where a double bond stands.
-fn epoxide_on(ring: Ring, bonds: Bonds) -> bool
-    ensures { λ r. ⌜ r ≡ epoxideOn (bondsIn bonds) ring ⌝ }
+fn epoxide_on(ring: Ring, bonds: &[u64], count: usize) -> bool
+    ensures { λ r. ⌜ r ≡ epoxideOn (bondsIn count (now (bonds .entry))) ring ⌝ }
 {
     let bridge = ring.bridge;
     match bridge {
-        Bridge::Epoxide => bond_from(bonds, 0, ring.start as u32),
+        Bridge::Epoxide => bond_from(bonds, count, 0, ring.start as u32),
         Bridge::Carbocycle => false,
     }
 }
 
 // Whether some ring is an epoxide where a double bond stands.
-fn any_epoxide_on(rings: Rings, bonds: Bonds) -> bool
-    ensures { λ r. ⌜ r ≡ anyOf (epoxideOn (bondsIn bonds)) (ringsIn rings) ⌝ }
+fn any_epoxide_on<'a>(
+    rings: &'a [u64],
+    ring_count: usize,
+    bonds: &'a [u64],
+    bond_count: usize,
+) -> bool
+    ensures { λ r. ⌜ r ≡ anyOf (epoxideOn (bondsIn «bond_count» (now (bonds .entry)))) (ringsIn «ring_count» (now (rings .entry))) ⌝ }
 {
-    let n = rings.len();
+    let n = drawable::rings_len(rings, ring_count);
     let mut i = 0;
     while i < n {
-        let ring = rings.at(i);
-        if epoxide_on(ring, bonds) {
+        let ring = drawable::nth_ring(rings, ring_count, i);
+        if epoxide_on(ring, bonds, bond_count) {
             return true;
         }
         i += 1;
@@ -125,13 +123,13 @@ fn small_ring(ring: Ring) -> bool
 }
 
 // Whether some carbocycle has one atom or two.
-fn any_small_ring(rings: Rings) -> bool
-    ensures { λ r. ⌜ r ≡ anyOf smallRing (ringsIn rings) ⌝ }
+fn any_small_ring(rings: &[u64], count: usize) -> bool
+    ensures { λ r. ⌜ r ≡ anyOf smallRing (ringsIn count (now (rings .entry))) ⌝ }
 {
-    let n = rings.len();
+    let n = drawable::rings_len(rings, count);
     let mut i = 0;
     while i < n {
-        let ring = rings.at(i);
+        let ring = drawable::nth_ring(rings, count, i);
         if small_ring(ring) {
             return true;
         }
@@ -154,13 +152,13 @@ fn same_ring(a: Ring, b: Ring) -> bool
 }
 
 // Whether some ring has the ends of a given one, among those from a place on.
-fn ring_from(rings: Rings, from: usize, ring: Ring) -> bool
-    ensures { λ r. ⌜ r ≡ anyOf (sameRing ring) (drop from (ringsIn rings)) ⌝ }
+fn ring_from(rings: &[u64], count: usize, from: usize, ring: Ring) -> bool
+    ensures { λ r. ⌜ r ≡ anyOf (sameRing ring) (drop from (ringsIn count (now (rings .entry)))) ⌝ }
 {
-    let n = rings.len();
+    let n = drawable::rings_len(rings, count);
     let mut i = from;
     while i < n {
-        let other = rings.at(i);
+        let other = drawable::nth_ring(rings, count, i);
         if same_ring(ring, other) {
             return true;
         }
@@ -170,15 +168,15 @@ fn ring_from(rings: Rings, from: usize, ring: Ring) -> bool
 }
 
 // Whether some two rings have the same ends.
-fn repeated_ring(rings: Rings) -> bool
-    ensures { λ r. ⌜ r ≡ anyTwo sameRing (ringsIn rings) ⌝ }
+fn repeated_ring(rings: &[u64], count: usize) -> bool
+    ensures { λ r. ⌜ r ≡ anyTwo sameRing (ringsIn count (now (rings .entry))) ⌝ }
 {
-    let n = rings.len();
+    let n = drawable::rings_len(rings, count);
     let mut i = 0;
     while i < n {
-        let ring = rings.at(i);
+        let ring = drawable::nth_ring(rings, count, i);
         i += 1;
-        if ring_from(rings, i, ring) {
+        if ring_from(rings, count, i, ring) {
             return true;
         }
     }
@@ -189,16 +187,14 @@ fn repeated_ring(rings: Rings) -> bool
 pub fn clash(x: Drawn) -> bool
     ensures { λ r. ⌜ Says x r clashes ⌝ }
 {
-    let bonds = x.bonds;
-    let rings = x.rings;
-    if repeated_bond(bonds) {
+    if repeated_bond(&x.bonds, x.bond_count) {
         return true;
     }
-    if any_epoxide_on(rings, bonds) {
+    if any_epoxide_on(&x.rings, x.ring_count, &x.bonds, x.bond_count) {
         return true;
     }
-    if any_small_ring(rings) {
+    if any_small_ring(&x.rings, x.ring_count) {
         return true;
     }
-    repeated_ring(rings)
+    repeated_ring(&x.rings, x.ring_count)
 }

@@ -1,5 +1,4 @@
 pub mod Held
 pub mod Through
 pub mod Lists
-pub mod Drawing
-pub mod Reach
+pub mod Counts

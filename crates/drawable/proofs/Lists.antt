@@ -26,12 +26,6 @@ take-front zero l m = refl
 take-front (suc n) [] m = refl
 take-front {A} (suc n) (a ∷ l) m = ap {B = List A} (λ r. a ∷ r) (take-front n l m)
 
--- as many as there are
-pub take-of-length : {A : Type 0} (l : List A) (n : ℕ) → take (length (take n l)) l ≡ take n l
-take-of-length l zero = refl
-take-of-length [] (suc n) = refl
-take-of-length {A} (a ∷ l) (suc n) = ap {B = List A} (λ r. a ∷ r) (take-of-length l n)
-
 -- two tests that agree
 pub any-same : {A : Type 0} (f g : A → Bool) (l : List A) → ((a : A) → f a ≡ g a) → anyOf f l ≡ anyOf g l
 unfolding anyOf

@@ -7,8 +7,8 @@ use native.Mathlib.Omega.{arith}
 use mathlib.Core.Path.{_≡_, sym, _∙_}
 use mathlib.Core.Bool.{Bool, true, false}
 use mathlib.Core.List.{List, [], _∷_, _++_, map, append-assoc, append-nil}
-use lib.ListN.{length, take, drop, getD, length-append, drop-of-length-le}
-use lib.Seq.{drop-cons, take-all}
+use lib.ListN.{drop, getD, drop-of-length-le}
+use lib.Seq.{drop-cons}
 use lib.Dec.{ltb}
 use borrow.Author.Tests.{lt-ltb, le-ltb}
 use Rattle.chain.specs.Lists.{anyOf, allOf, anyTwo, only, largest}
@@ -63,12 +63,9 @@ module _ {A : Type 0} (test : A → Bool) (room : ℕ) (l : List A) (n i : ℕ) 
   unfolding only
   only-skip f = rw (left-here room l n i d a w h e, f) at v
 
-  only-keep : (k′ : List A) → test a ≡ true → k′ ≡ k ++ (a ∷ []) → k′ ++ only test (drop (i + 1) l) ≡ only test l
+  pub only-keep : (k′ : List A) → test a ≡ true → k′ ≡ k ++ (a ∷ []) → k′ ++ only test (drop (i + 1) l) ≡ only test l
   unfolding only
   only-keep k′ f g = rw (g, append-assoc) (rw (left-here room l n i d a w h e, f) at v)
-
-  pub only-push : (m : List A) → test a ≡ true → length k ≤ i → m ≡ take room (k ++ (a ∷ [])) → m ++ only test (drop (i + 1) l) ≡ only test l
-  only-push m f j g = only-keep m f (g ∙ take-all room (k ++ (a ∷ [])) (omega (arith, length-append k (a ∷ []), w .fits)))
 
 pub only-all : {A : Type 0} (test : A → Bool) (room : ℕ) (l : List A) (n i : ℕ) (k : List A) → Length room l n → k ++ only test (drop i l) ≡ only test l → n ≤ i
     → k ≡ only test l

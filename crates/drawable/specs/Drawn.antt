@@ -1,8 +1,8 @@
 -- Which lists a chain as it is drawn holds: what the contracts of `drawable` cite, beside the definitions of `chain`. Assumes nothing.
-use Prim.Native.Nat.{ℕ, _+_, _*_, _≤_, min}
+use Prim.Native.Nat.{ℕ, _≤_, min}
 use mathlib.Core.Path.{_≡_}
-use mathlib.Core.List.{List}
-use mathlib.Core.Bool.{Bool, cond}
+use mathlib.Core.List.{List, map}
+use mathlib.Core.Bool.{Bool}
 use lib.Dec.{eqb}
 use lib.ListN.{length, take}
 use Rattle.record.specs.declared.Geometry.the-variants.{Unstated}
@@ -10,36 +10,23 @@ use Rattle.record.specs.declared.Bridge.the-variants.{Epoxide}
 use Rattle.record.specs.declared.DbPos.{DbPos}
 use Rattle.record.specs.declared.Mod.{Mod}
 use Rattle.record.specs.declared.Ring.{Ring}
-use Rattle.record.specs.declared.ParsedChain.{ParsedChain}
 use Rattle.record.specs.Chain.{Chain, maxBonds, maxGroups, maxRings}
+use Rattle.codes.specs.Codes.{bondIn, groupIn, ringIn}
+use Rattle.parsed.specs.declared.ParsedChain.{ParsedChain}
 use Rattle.chain.specs.declared.Role.{Role}
 use Rattle.chain.specs.Features.{firstDrawn, isAcyl, doubles, groupsOn, floating}
 use Rattle.chain.specs.Refusals.{etherBase}
-use Rattle.drawable.specs.declared.Bonds.{Bonds}
-use Rattle.drawable.specs.declared.Groups.{Groups}
-use Rattle.drawable.specs.declared.Rings.{Rings}
 use Rattle.drawable.specs.declared.Drawn.{Drawn}
 
--- 01, 31: 32 double bonds with a position, and the one that `P-` adds
-abbrev pub bondRoom : ℕ
-bondRoom = 33
+-- what an array of numbers with a count holds
+unfoldable pub bondsIn : ℕ → List ℕ → List DbPos
+bondsIn n xs = map bondIn (take n xs)
 
--- 01, 31: 16 groups, and a base's own O's
-abbrev pub groupRoom : ℕ
-groupRoom = 18
+unfoldable pub groupsIn : ℕ → List ℕ → List Mod
+groupsIn n xs = map groupIn (take n xs)
 
-abbrev pub ringRoom : ℕ
-ringRoom = maxRings
-
--- what an array with a count holds
-unfoldable pub bondsIn : Bonds → List DbPos
-bondsIn x = take (x .count) (x .items)
-
-unfoldable pub groupsIn : Groups → List Mod
-groupsIn x = take (x .count) (x .items)
-
-unfoldable pub ringsIn : Rings → List Ring
-ringsIn x = take (x .count) (x .items)
+unfoldable pub ringsIn : ℕ → List ℕ → List Ring
+ringsIn n xs = map ringIn (take n xs)
 
 -- what stands past the last element
 abbrev pub noBond : DbPos
@@ -60,27 +47,27 @@ pub record Length {A : Type 0} (room : ℕ) (l : List A) (n : ℕ) : Type 0 wher
 abbrev pub groupAt : ℕ → Mod → Bool
 groupAt p g = eqb (g .pos) p
 
--- the carbon at which a double bond ends
-abbrev pub bondReach : DbPos → ℕ
-bondReach b = b .pos + 1
-
 -- what a group pins
 abbrev pub groupPin : Mod → ℕ
 groupPin g = g .pos
 
--- the carbon at which a ring ends
-abbrev pub ringReach : Ring → ℕ
-ringReach x = x .end
-
--- m is the number of carbons that n double bonds without a position take
-pub record Flexible (n m : ℕ) : Type 0 where
-  pub is : m ≡ cond (eqb n 0) 0 (2 * n + 2)
-  pub fits : m ≤ 131072
-
 -- the chain that a record of the code holds, a count past its limit counting as the limit
 unfoldable pub chainOf : ParsedChain → Chain
 chainOf c =
-    record { prefix = c .prefix; written = c .written; carbon = c .carbon; branched = c .branched; unlocated = c .unlocated; oxygens = c .oxygens; bonds = take (min (c .«bond_count») maxBonds) (c .bonds); groups = take (min (c .«group_count») maxGroups) (c .groups); rings = take (min (c .«ring_count») maxRings) (c .rings) }
+    record { prefix = c .prefix; written = c .written; carbon = c .carbon; branched = c .branched; unlocated = c .unlocated; oxygens = c .oxygens; bonds = bondsIn (min (c .«bond_count») maxBonds) (c .bonds); groups = groupsIn (min (c .«group_count») maxGroups) (c .groups); rings = ringsIn (min (c .«ring_count») maxRings) (c .rings) }
+
+-- the lists of a drawn chain
+abbrev pub bondsDrawn : Drawn → List DbPos
+bondsDrawn x = bondsIn (x .«bond_count») (x .bonds)
+
+abbrev pub groupsDrawn : Drawn → List Mod
+groupsDrawn x = groupsIn (x .«group_count») (x .groups)
+
+abbrev pub floatsDrawn : Drawn → List Mod
+floatsDrawn x = groupsIn (x .«float_count») (x .floats)
+
+abbrev pub ringsDrawn : Drawn → List Ring
+ringsDrawn x = ringsIn (x .«ring_count») (x .rings)
 
 -- x is what is drawn of the chain d where it stands as r
 pub record Draws (r : Role) (d : Chain) (x : Drawn) : Type 0 where
@@ -89,10 +76,16 @@ pub record Draws (r : Role) (d : Chain) (x : Drawn) : Type 0 where
   pub acyl : x .acyl ≡ isAcyl r (d .prefix)
   pub ether : x .«ether_base» ≡ etherBase r (d .prefix)
   pub unlocated : x .unlocated ≡ d .unlocated
-  pub bonds : bondsIn (x .bonds) ≡ doubles r d
-  pub groups : groupsIn (x .groups) ≡ groupsOn r d
-  pub floats : groupsIn (x .floats) ≡ floating d
-  pub rings : ringsIn (x .rings) ≡ d .rings
+  pub bonds : bondsDrawn x ≡ doubles r d
+  pub groups : groupsDrawn x ≡ groupsOn r d
+  pub floats : floatsDrawn x ≡ floating d
+  pub rings : ringsDrawn x ≡ d .rings
+
+abbrev pub ringCount : Role → Chain → ℕ
+ringCount r d = length (d .rings)
+
+abbrev pub floatCount : Role → Chain → ℕ
+floatCount r d = length (floating d)
 
 -- a is what f says of every chain that x draws
 pub record Says {A : Type 0} (x : Drawn) (a : A) (f : Role → Chain → A) : Type 0 where

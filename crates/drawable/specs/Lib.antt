@@ -1,1 +1,2 @@
 pub mod Drawn
+pub mod Chains

@@ -1,258 +1,109 @@
-// A chain as it is drawn in its place: the record of a token with the double bond that `P-` adds, the O's that a base adds, and its groups
-// parted into those with a position and those that float. Every function is defined for every record: a count past its array counts as the
-// array's length. Which lists a drawn chain holds is said by specs/Drawn.antt, from the definitions of the crate `chain`.
-use chain::Role;
-use record::Bridge;
-use record::ChainPrefix;
+// A chain as it is drawn in its place, and how its lists are read: its double bonds, groups and rings stand as numbers (crate `codes`) in
+// arrays with a count each, which are lent whole. Every function is defined for every slice and count: a count past the slice counts as its
+// length. Which lists a drawn chain holds is said by specs/Drawn.antt, from the definitions of the crate `chain`.
 use record::DbPos;
 use record::GROUP_ROOM;
-use record::Geometry;
-use record::MAX_BONDS;
-use record::MAX_GROUPS;
 use record::MAX_RINGS;
 use record::Mod;
-use record::ParsedChain;
 use record::Ring;
 ghost use mathlib.Core.Path.{_≡_};
-ghost use mathlib.Core.List.{[], _∷_, _++_};
-ghost use Prim.Native.Nat.{min};
 ghost use lib.ListN.{length, take, getD};
-ghost use Rattle.chain.specs.declared.Role.the-variants.{Slot, Base};
 ghost use Rattle.chain.specs.Lists.{anyOf};
-ghost use Rattle.chain.specs.Features.{alkenylBond, doubles, located, unlocated, oxygenAt, baseOxygens};
-ghost use Rattle.drawable.specs.Drawn.{bondsIn, groupsIn, ringsIn, noBond, noGroup, noRing, bondRoom, groupRoom, ringRoom, Length, chainOf, groupAt, Draws};
-
-// draw.rt: how far the chain is drawn as it is written
-pub mod draw;
+ghost use Rattle.drawable.specs.Drawn.{bondsIn, groupsIn, ringsIn, noBond, noGroup, noRing, Length, groupAt, ringCount, floatCount, Says};
 
 // Room for the double bonds read and for the one that `P-` adds.
 pub const BOND_ROOM: usize = 33;
 
-// Double bonds, by value.
-pub struct Bonds {
-    pub count: usize,
-    pub items: [DbPos; BOND_ROOM],
-}
+// The most chains that a template takes.
+pub const MAX_CHAINS: usize = 4;
 
-// Groups, by value.
-pub struct Groups {
-    pub count: usize,
-    pub items: [Mod; GROUP_ROOM],
-}
-
-// Rings, by value.
-pub struct Rings {
-    pub count: usize,
-    pub items: [Ring; MAX_RINGS],
-}
-
-// What is drawn of a chain: its carbons from `first` to `carbon`, whether C1 carries a doubly bonded O, its located double bonds, the number
-// of those without a position, its groups with a position and those without, its rings; and whether an ether stands where a base should.
+// What is drawn of a chain: its carbons from `first` to `carbon`, whether C1 carries a doubly bonded O, whether an ether stands where a base
+// should, the number of its double bonds without a position; and its located double bonds, its groups with a position and those without, and
+// its rings, each list a count and an array.
 pub struct Drawn {
     pub first: u16,
     pub carbon: u16,
     pub acyl: bool,
     pub ether_base: bool,
     pub unlocated: u16,
-    pub bonds: Bonds,
-    pub groups: Groups,
-    pub floats: Groups,
-    pub rings: Rings,
+    pub bond_count: usize,
+    pub group_count: usize,
+    pub float_count: usize,
+    pub ring_count: usize,
+    pub bonds: [u64; BOND_ROOM],
+    pub groups: [u64; GROUP_ROOM],
+    pub floats: [u64; GROUP_ROOM],
+    pub rings: [u64; MAX_RINGS],
 }
 
-// The smaller of two numbers.
-fn at_most(n: usize, most: usize) -> usize
-    ensures { λ r. ⌜ r ≡ min n most ⌝ }
+// The chains of a request as they are drawn, in the order of its tokens.
+pub struct Chains {
+    pub count: usize,
+    pub items: [Drawn; MAX_CHAINS],
+}
+
+// How many numbers of a slice a count counts.
+fn within(xs: &[u64], count: usize) -> usize
+    ensures { λ r. ⌜ Length (length (now (xs .entry))) (take count (now (xs .entry))) r ⌝ }
 {
-    if n < most {
-        return n;
+    let n = xs.len();
+    if count < n {
+        return count;
     }
-    most
+    n
 }
 
-impl Bonds {
-    pub fn len(self) -> usize
-        ensures { λ r. ⌜ Length bondRoom (bondsIn self) r ⌝ }
-    {
-        at_most(self.count, BOND_ROOM)
-    }
-
-    // The double bond at a place; past the last an unstated one at 0.
-    pub fn at(self, i: usize) -> DbPos
-        ensures { λ r. ⌜ r ≡ getD (bondsIn self) i noBond ⌝ }
-    {
-        let n = at_most(self.count, BOND_ROOM);
-        if i < n {
-            return self.items[i];
-        }
-        DbPos {
-            pos: 0,
-            geom: Geometry::Unstated,
-        }
-    }
-}
-
-impl Groups {
-    pub fn len(self) -> usize
-        ensures { λ r. ⌜ Length groupRoom (groupsIn self) r ⌝ }
-    {
-        at_most(self.count, GROUP_ROOM)
-    }
-
-    // The group at a place; past the last the first row of the table, without a position.
-    pub fn at(self, i: usize) -> Mod
-        ensures { λ r. ⌜ r ≡ getD (groupsIn self) i noGroup ⌝ }
-    {
-        let n = at_most(self.count, GROUP_ROOM);
-        if i < n {
-            return self.items[i];
-        }
-        Mod { pos: 0, row: 0 }
-    }
-
-    // One more, where there is room.
-    fn push(mut self, group: Mod) -> Groups
-        ensures { λ r. ⌜ groupsIn r ≡ take groupRoom (groupsIn self ++ (group ∷ [])) ⌝ }
-    {
-        let at = self.count;
-        if at < GROUP_ROOM {
-            self.items[at] = group;
-            self.count = at + 1;
-            return self;
-        }
-        self
-    }
-}
-
-impl Rings {
-    pub fn len(self) -> usize
-        ensures { λ r. ⌜ Length ringRoom (ringsIn self) r ⌝ }
-    {
-        at_most(self.count, MAX_RINGS)
-    }
-
-    // The ring at a place; past the last an epoxide from 0 to 0.
-    pub fn at(self, i: usize) -> Ring
-        ensures { λ r. ⌜ r ≡ getD (ringsIn self) i noRing ⌝ }
-    {
-        let n = at_most(self.count, MAX_RINGS);
-        if i < n {
-            return self.items[i];
-        }
-        Ring {
-            start: 0,
-            end: 0,
-            bridge: Bridge::Epoxide,
-        }
-    }
-}
-
-// How many double bonds a prefix adds where no base stands: `P-` adds one.
-fn ether_bonds(prefix: ChainPrefix) -> usize
-    ensures { λ r. ⌜ r ≡ length (alkenylBond Slot prefix) ⌝ }
+// The number at a place of those that are counted; past the last 0.
+fn number_at(xs: &[u64], count: usize, i: usize) -> u64
+    ensures { λ r. ⌜ r ≡ getD (take count (now (xs .entry))) i 0 ⌝ }
 {
-    match prefix {
-        ChainPrefix::Acyl => 0,
-        ChainPrefix::EtherAlkyl => 0,
-        ChainPrefix::EtherAlkenyl => 1,
-        ChainPrefix::SphingoidD => 0,
-        ChainPrefix::SphingoidT => 0,
+    let n = within(xs, count);
+    if i < n {
+        return xs[i];
     }
+    0
 }
 
-// How many double bonds a prefix adds in a place.
-fn added_bonds(role: Role, prefix: ChainPrefix) -> usize
-    ensures { λ r. ⌜ r ≡ length (alkenylBond role prefix) ⌝ }
+// How many double bonds there are.
+pub fn bonds_len(bonds: &[u64], count: usize) -> usize
+    ensures { λ r. ⌜ Length (length (now (bonds .entry))) (bondsIn count (now (bonds .entry))) r ⌝ }
 {
-    match role {
-        Role::Slot => ether_bonds(prefix),
-        Role::Acyl => ether_bonds(prefix),
-        Role::Base => 0,
-    }
+    within(bonds, count)
 }
 
-// The located double bonds: that of `P-`, then those of the token. The array is filled with the bond of `P-`, so that it stands first where
-// it counts; those of the token are written behind it.
-fn double_bonds(role: Role, chain: ParsedChain) -> Bonds
-    ensures { λ r. ⌜ bondsIn r ≡ doubles role (chainOf chain) ⌝ }
+// How many groups there are.
+pub fn groups_len(groups: &[u64], count: usize) -> usize
+    ensures { λ r. ⌜ Length (length (now (groups .entry))) (groupsIn count (now (groups .entry))) r ⌝ }
 {
-    let prefix = chain.prefix;
-    let written = chain.bonds;
-    let n = at_most(chain.bond_count, MAX_BONDS);
-    let added = added_bonds(role, prefix);
-    let alkenyl = DbPos {
-        pos: 1,
-        geom: Geometry::Unstated,
-    };
-    let mut items = [alkenyl; BOND_ROOM];
-    let mut i = 0;
-    while i < n {
-        items[added + i] = written[i];
-        i += 1;
-    }
-    Bonds {
-        count: added + n,
-        items,
-    }
+    within(groups, count)
 }
 
-// The groups of a token.
-fn written_groups(chain: ParsedChain) -> Groups
-    ensures { λ r. ⌜ groupsIn r ≡ chainOf chain .groups ⌝ }
+// How many rings there are.
+pub fn rings_len(rings: &[u64], count: usize) -> usize
+    ensures { λ r. ⌜ Length (length (now (rings .entry))) (ringsIn count (now (rings .entry))) r ⌝ }
 {
-    let count = at_most(chain.group_count, MAX_GROUPS);
-    let items = chain.groups;
-    Groups { count, items }
+    within(rings, count)
 }
 
-// The rings of a token.
-fn written_rings(chain: ParsedChain) -> Rings
-    ensures { λ r. ⌜ ringsIn r ≡ chainOf chain .rings ⌝ }
+// The double bond at a place; past the last an unstated one at 0.
+pub fn nth_bond(bonds: &[u64], count: usize, i: usize) -> DbPos
+    ensures { λ r. ⌜ r ≡ getD (bondsIn count (now (bonds .entry))) i noBond ⌝ }
 {
-    let count = at_most(chain.ring_count, MAX_RINGS);
-    let items = chain.rings;
-    Rings { count, items }
+    codes::bond_in(number_at(bonds, count, i))
 }
 
-// The groups with a position, in order. Those that are kept are written over the front of the array, never past the one that is read: behind
-// them nothing is counted.
-fn located_groups(groups: Groups) -> Groups
-    ensures { λ r. ⌜ groupsIn r ≡ located (groupsIn groups) ⌝ }
+// The group at a place; past the last the first row of the table, without a position.
+pub fn nth_group(groups: &[u64], count: usize, i: usize) -> Mod
+    ensures { λ r. ⌜ r ≡ getD (groupsIn count (now (groups .entry))) i noGroup ⌝ }
 {
-    let n = groups.len();
-    let mut items = groups.items;
-    let mut count = 0;
-    let mut i = 0;
-    while i < n {
-        let group = items[i];
-        i += 1;
-        if group.pos == 0 {
-            continue;
-        }
-        items[count] = group;
-        count += 1;
-    }
-    Groups { count, items }
+    codes::group_in(number_at(groups, count, i))
 }
 
-// The groups without a position, in order.
-fn floating_groups(groups: Groups) -> Groups
-    ensures { λ r. ⌜ groupsIn r ≡ unlocated (groupsIn groups) ⌝ }
+// The ring at a place; past the last an epoxide from 0 to 0.
+pub fn nth_ring(rings: &[u64], count: usize, i: usize) -> Ring
+    ensures { λ r. ⌜ r ≡ getD (ringsIn count (now (rings .entry))) i noRing ⌝ }
 {
-    let n = groups.len();
-    let mut items = groups.items;
-    let mut count = 0;
-    let mut i = 0;
-    while i < n {
-        let group = items[i];
-        i += 1;
-        if group.pos != 0 {
-            continue;
-        }
-        items[count] = group;
-        count += 1;
-    }
-    Groups { count, items }
+    codes::ring_in(number_at(rings, count, i))
 }
 
 // Whether a group sits on the carbon p.
@@ -263,13 +114,13 @@ fn sits_at(group: Mod, p: u32) -> bool
 }
 
 // Whether some group sits at p.
-pub fn group_at(groups: Groups, p: u32) -> bool
-    ensures { λ r. ⌜ r ≡ anyOf (groupAt p) (groupsIn groups) ⌝ }
+pub fn group_at(groups: &[u64], count: usize, p: u32) -> bool
+    ensures { λ r. ⌜ r ≡ anyOf (groupAt p) (groupsIn count (now (groups .entry))) ⌝ }
 {
-    let n = groups.len();
+    let n = groups_len(groups, count);
     let mut i = 0;
     while i < n {
-        let group = groups.at(i);
+        let group = nth_group(groups, count, i);
         if sits_at(group, p) {
             return true;
         }
@@ -278,66 +129,16 @@ pub fn group_at(groups: Groups, p: u32) -> bool
     false
 }
 
-// An O at p more, unless a group of the token sits there.
-fn oxygen_at(groups: Groups, p: u32, written: Groups) -> Groups
-    ensures { λ r. ⌜ groupsIn r ≡ take groupRoom (groupsIn groups ++ oxygenAt p (groupsIn written)) ⌝ }
+// The rings of a chain.
+pub fn ring_count(x: Drawn) -> u16
+    ensures { λ r. ⌜ Says x r ringCount ⌝ }
 {
-    if group_at(written, p) {
-        return groups;
-    }
-    groups.push(Mod {
-        pos: p,
-        row: groups::HYDROXY,
-    })
+    rings_len(&x.rings, x.ring_count) as u16
 }
 
-// The groups of a base: those of the token, then an O at 3, and at 4 for t.
-fn base_groups(prefix: ChainPrefix, written: Groups) -> Groups
-    ensures { λ r. ⌜ groupsIn r ≡ take groupRoom (groupsIn written ++ baseOxygens Base prefix (groupsIn written)) ⌝ }
+// The floating groups of a chain.
+pub fn float_count(x: Drawn) -> u16
+    ensures { λ r. ⌜ Says x r floatCount ⌝ }
 {
-    let diol = oxygen_at(written, 3, written);
-    match prefix {
-        ChainPrefix::Acyl => diol,
-        ChainPrefix::EtherAlkyl => diol,
-        ChainPrefix::EtherAlkenyl => diol,
-        ChainPrefix::SphingoidD => diol,
-        ChainPrefix::SphingoidT => oxygen_at(diol, 4, written),
-    }
-}
-
-// The groups drawn on the chain.
-fn drawn_groups(role: Role, prefix: ChainPrefix, written: Groups) -> Groups
-    ensures { λ r. ⌜ groupsIn r ≡ take groupRoom (groupsIn written ++ baseOxygens role prefix (groupsIn written)) ⌝ }
-{
-    match role {
-        Role::Slot => written,
-        Role::Acyl => written,
-        Role::Base => base_groups(prefix, written),
-    }
-}
-
-// The chain as it is drawn where it stands.
-pub fn drawn_as(role: Role, chain: ParsedChain) -> Drawn
-    ensures { λ r. ⌜ Draws role (chainOf chain) r ⌝ }
-{
-    let prefix = chain.prefix;
-    let all = written_groups(chain);
-    let first = kind::first_drawn(role);
-    let acyl = kind::is_acyl(role, prefix);
-    let ether_base = kind::is_ether_base(role, prefix);
-    let bonds = double_bonds(role, chain);
-    let groups = drawn_groups(role, prefix, located_groups(all));
-    let floats = floating_groups(all);
-    let rings = written_rings(chain);
-    Drawn {
-        first,
-        carbon: chain.carbon,
-        acyl,
-        ether_base,
-        unlocated: chain.unlocated,
-        bonds,
-        groups,
-        floats,
-        rings,
-    }
+    groups_len(&x.floats, x.float_count) as u16
 }

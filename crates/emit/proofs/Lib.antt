@@ -1,2 +1,2 @@
-pub mod Laws
+pub use Rattle.store.proofs.Laws
 pub mod ReadsBack

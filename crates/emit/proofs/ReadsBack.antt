@@ -9,7 +9,7 @@ use mathlib.Core.Bool.{Bool, true, false, cond, false≢true}
 use mathlib.Core.List.{List, [], _∷_, _++_}
 use lib.Dec.{ltb}
 use borrow.Author.Tests.{lt-ltb, le-ltb, le-leb, ne-eqb}
-use Rattle.emit.specs.Text.{digits, decimal, pickList}
+use Rattle.store.specs.Text.{digits, decimal, pickList}
 use Rattle.scan.specs.Number.{afterPlus, isDigit, allDigits, valueFrom, checked, digitsUpTo, numberUpTo}
 use Rattle.scan.specs.declared.Number.{Number}
 use Rattle.scan.specs.declared.Number.the-variants.{Value, Unreadable}

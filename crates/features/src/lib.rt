@@ -1,14 +1,10 @@
-// What a piece of a segment says: a ring, a group, groups without a position, an oxygen count, or nothing that can be read. Each function
-// is defined for every byte string, position and number of carbons, and adds nothing to a chain yet. 01's sentences stand in
-// specs/Features.antt.
-use groups::Found;
-use groups::RingSize;
+// What a piece of a segment says: a ring, a group, groups without a position, an oxygen count, or nothing that can be read. The rings are
+// read here, what an abbreviation names in `naming`, and the other pieces in `items`. 01's sentences stand in specs/Features.antt.
 use record::Bridge;
 use record::Mod;
 use record::Ring;
-use scan::Number;
 ghost use mathlib.Core.Path.{_≡_};
-ghost use Rattle.features.specs.Features.{ringOf, Span, ringAt, bridgeOf, featureOf, placed, listedAs, oxygenCount, oxygensIn, itemAt, partOf, repeatedOf};
+ghost use Rattle.features.specs.Features.{ringOf, Span, ringAt};
 
 // The answer of a segment's piece.
 pub enum Segment {
@@ -78,119 +74,4 @@ pub fn ring_at(start: u32, bridge: Bridge, carbon: u16) -> Segment
         end: last as u16,
         bridge,
     })
-}
-
-// A ring of two carbons is bridged by an oxygen.
-fn bridge_of(size: u16) -> Bridge
-    ensures { λ r. ⌜ r ≡ bridgeOf size ⌝ }
-{
-    if size == 2 {
-        return Bridge::Epoxide;
-    }
-    Bridge::Carbocycle
-}
-
-// What an abbreviation names: an alias ring before a group.
-pub fn feature_of(abbr: &[u8]) -> Feature
-    ensures { λ r. ⌜ r ≡ featureOf (now (abbr .entry)) ⌝ }
-{
-    let alias = groups::alias_ring_size(abbr);
-    if let RingSize::Carbons(size) = alias {
-        let bridge = bridge_of(size);
-        return Feature::Ring(bridge);
-    }
-    let Found::At(row) = groups::substituent(abbr) else {
-        return Feature::Other;
-    };
-    Feature::Group(row)
-}
-
-// A feature at a position.
-fn placed_at(feature: Feature, pos: u32, carbon: u16) -> Segment
-    ensures { λ r. ⌜ r ≡ placed feature pos carbon ⌝ }
-{
-    match feature {
-        Feature::Ring(bridge) => ring_at(pos, bridge, carbon),
-        Feature::Group(row) => Segment::Located(Mod { pos, row }),
-        Feature::Other => Segment::Unreadable,
-    }
-}
-
-// A feature at a position of a list, which has no letter.
-pub fn read_listed(s: &[u8], feature: Feature, carbon: u16) -> Segment
-    ensures { λ r. ⌜ r ≡ listedAs feature (now (s .entry)) carbon ⌝ }
-{
-    let Number::Value(pos) = form::trimmed_number(s) else {
-        return Segment::Unreadable;
-    };
-    placed_at(feature, pos as u32, carbon)
-}
-
-// The oxygen count after an `O`: 1 where nothing follows.
-fn oxygen_count(s: &[u8]) -> Segment
-    ensures { λ r. ⌜ r ≡ oxygenCount (now (s .entry)) ⌝ }
-{
-    let Number::Value(n) = form::number_or_one(s) else {
-        return Segment::Unreadable;
-    };
-    Segment::Oxygens(n as u32)
-}
-
-// An abbreviation that names no feature: `O` and its count.
-fn read_oxygens(abbr: &[u8]) -> Segment
-    ensures { λ r. ⌜ r ≡ oxygensIn (now (abbr .entry)) ⌝ }
-{
-    if abbr.len() == 0 {
-        return Segment::Unreadable;
-    }
-    if abbr[0] != b'O' {
-        return Segment::Unreadable;
-    }
-    oxygen_count(&abbr[1..])
-}
-
-// An abbreviation after its position.
-fn read_item(abbr: &[u8], pos: u32, carbon: u16) -> Segment
-    ensures { λ r. ⌜ r ≡ itemAt (now (abbr .entry)) pos carbon ⌝ }
-{
-    let feature = feature_of(abbr);
-    match feature {
-        Feature::Ring(_) => placed_at(feature, pos, carbon),
-        Feature::Group(_) => placed_at(feature, pos, carbon),
-        Feature::Other => read_oxygens(abbr),
-    }
-}
-
-// A part between commas: a position, which may be missing, and an abbreviation, which may not.
-pub fn read_part(s: &[u8], carbon: u16) -> Segment
-    ensures { λ r. ⌜ r ≡ partOf (now (s .entry)) carbon ⌝ }
-{
-    let n = scan::digit_run(s);
-    if n == s.len() {
-        return Segment::Unreadable;
-    }
-    let Number::Value(pos) = form::leading_position(&s[0..n]) else {
-        return Segment::Unreadable;
-    };
-    read_item(&s[n..], pos as u32, carbon)
-}
-
-// What follows the `(` of (abbr)n.
-pub fn read_repeated(s: &[u8]) -> Segment
-    ensures { λ r. ⌜ r ≡ repeatedOf (now (s .entry)) ⌝ }
-{
-    let close = scan::find(s, b')');
-    if close == s.len() {
-        return Segment::Unreadable;
-    }
-    let Found::At(row) = groups::substituent(&s[0..close]) else {
-        return Segment::Unreadable;
-    };
-    let Number::Value(n) = form::number_or_one(&s[close + 1..]) else {
-        return Segment::Unreadable;
-    };
-    Segment::Repeated {
-        row,
-        times: n as u32,
-    }
 }

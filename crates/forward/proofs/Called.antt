@@ -13,15 +13,14 @@ use Rattle.template.specs.declared.Class.{Class}
 use Rattle.template.specs.Template.{hasTail}
 use Rattle.template.specs.Request.{lineOf, indexOf}
 use Rattle.template.proofs.Theorem.{promise}
-use Rattle.placed.specs.declared.Slots.{Slots}
 use Rattle.judge.specs.declared.Judged.{Judged}
 use Rattle.judge.specs.Judged.{JudgedIs}
 use Rattle.judge.specs.Verdict.{Verdict, Refused, Drawable, wrongTail, verdict, tokens}
 use Rattle.judge.proofs.Accepted.{judged-accepted, judged-fits, answer-drawable, answer-refused}
-use Rattle.forward.specs.declared.Answer.{Answer}
-use Rattle.forward.specs.Answer.{refusal, acceptance, short, answerTo, atStart, lineAfter, indexAfter}
-use Rattle.forward.specs.Call.{Answers, Kept, Called}
-use Rattle.forward.specs.Slots.{SlotsOf, SlotsDrawn}
+use Rattle.drawing.specs.declared.Answer.{Answer}
+use Rattle.drawing.specs.Answer.{refusal, acceptance, short, answerTo, atStart, lineAfter, indexAfter, Answers}
+use Rattle.drawing.specs.Draw.{ChainsDrawn}
+use Rattle.forward.specs.Call.{Kept, Called}
 use Rattle.forward.proofs.Ready.{ready}
 
 -- ---- refused
@@ -76,11 +75,11 @@ module _ (class t : List ℕ) (count : ℕ) (sn1 sn2 sn3 sn4 : List ℕ) where
   unfolding wrongTail
   right-tail c ds e q = not-false (isTail t) (rw q at (judged-fits class t count (tokens count sn1 sn2 sn3 sn4) c ds e .tail))
 
-  pub called-drawn : {swap : Bool} {k : ℕ} {s : Slots} {xs is ys js : List ℕ} {a : Answer} (j : Judged) → JudgedIs j v → j .fault .number ≡ 0 → SlotsOf (j .chains) s → k ≡ tailAtoms t
-      → SlotsDrawn (j .class) swap t k s xs is ys js a → Called v swap t xs is ys js a
-  called-drawn {swap} {k} {s} {xs} {is} {ys} {js} {a} j h n o e g =
+  pub called-drawn : {swap : Bool} {k : ℕ} {xs is ys js : List ℕ} {a : Answer} (j : Judged) → JudgedIs j v → j .fault .number ≡ 0 → k ≡ tailAtoms t
+      → ChainsDrawn (j .class) swap t k (j .chains) xs is ys js a → Called v swap t xs is ys js a
+  called-drawn {swap} {k} {xs} {is} {ys} {js} {a} j h n e g =
       let d = answer-drawable j v h n in
-      let r = ready (j .class) t (d .chains) k (j .chains) s (judged-accepted class t count sn1 sn2 sn3 sn4 (j .class) (d .chains) (d .is)) (right-tail (j .class) (d .chains) (d .is)) (d .drawing) o e in
+      let r = ready (j .class) t (d .chains) k (j .chains) (judged-accepted class t count sn1 sn2 sn3 sn4 (j .class) (d .chains) (d .is)) (right-tail (j .class) (d .chains) (d .is)) (d .drawing) e in
       let w : Answers (Drawable (j .class) (d .chains)) swap t xs is ys js a = g .drawn (d .chains) r in
       record {
         answers = rw (d .is) w;

@@ -1,4 +1,3 @@
 pub mod Ready
-pub mod Laws
 pub mod Called
 pub mod Cases

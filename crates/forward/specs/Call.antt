@@ -10,14 +10,8 @@ use Rattle.template.specs.declared.Class.{Class}
 use Rattle.template.specs.Request.{lineOf, indexOf}
 use Rattle.template.specs.Promise.{Promise}
 use Rattle.judge.specs.Verdict.{Verdict, Drawable}
-use Rattle.forward.specs.declared.Answer.{Answer}
-use Rattle.forward.specs.Answer.{answerTo, lineAfter, indexAfter}
-
--- the answer and both slices, ys and js, where the slices were xs and is
-pub record Answers (v : Verdict) (swap : Bool) (t xs is ys js : List ℕ) (a : Answer) : Type 0 where
-  pub answer : a ≡ answerTo v swap t (length xs) (length is)
-  pub line : ys ≡ lineAfter v swap t xs is
-  pub index : js ≡ indexAfter v swap t xs is
+use Rattle.drawing.specs.declared.Answer.{Answer}
+use Rattle.drawing.specs.Answer.{Answers}
 
 -- what is kept where the request is accepted: it has a class and chains, the line and the lists that stand in the slices are theirs, and
 -- the promise holds of them

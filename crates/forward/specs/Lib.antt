@@ -1,4 +1,3 @@
-pub mod Answer
+pub use Rattle.drawing.specs.Answer
 pub mod Call
-pub mod Slots
 pub mod Cases

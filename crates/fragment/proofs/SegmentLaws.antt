@@ -26,12 +26,12 @@ use Rattle.chain.specs.Features.{firstDrawn, doubles, groupsOn, prefixEnd, lite
 use Rattle.chain.specs.Bonds.{bondsOf, bondAt, markOf}
 use Rattle.chain.specs.Drawing.{carbonyl, groupsAt, carbonAt, literal, flexible, carbons, ringPairs, floats, chainDrawn}
 use Rattle.drawable.specs.declared.Drawn.{Drawn}
-use Rattle.drawable.specs.Drawn.{groupsIn, ringsIn, Draws}
+use Rattle.drawable.specs.Drawn.{groupsDrawn, floatsDrawn, ringsDrawn, Draws}
 use Rattle.carbons.specs.declared.ChainTokens.{ChainTokens}
 use Rattle.branches.specs.Text.{sitting, floatsText, carbonylOf}
 use Rattle.backbone.specs.Text.{flexibleText}
 use Rattle.fragment.specs.Text.{carbonOf, carbonsText}
-use Rattle.carbons.specs.Tokens.{TokensOf}
+use Rattle.carbons.specs.Tokens.{tokens, TokensOf}
 use Rattle.fragment.specs.Segment.{segmentText, RingsOn, Readable, Segment}
 use Rattle.carbons.proofs.Left.{written-three}
 use Rattle.carbons.proofs.TokenLaws.{length-values, values-same}
@@ -64,7 +64,7 @@ module _ (r : Role) (d : read.Chain) (x : Drawn) (t : ChainTokens) (w : Draws r 
   bond-is i h = ap (λ (ks : List ℕ). getD ks i 0) (sym bonds-are) ∙ getD-take (suc (d .carbon)) (t .bonds) i 0 (omega arith)
 
   -- C k is the carbon drawn
-  pub carbon-is : (i : ℕ) → i ≤ d .carbon → carbonOf (x .acyl) (t .bonds) (groupsIn (x .groups)) i ≡ carbonAt r d i
+  pub carbon-is : (i : ℕ) → i ≤ d .carbon → carbonOf (x .acyl) (t .bonds) (groupsDrawn x) i ≡ carbonAt r d i
   unfolding carbonOf carbonAt carbonylOf carbonyl sitting groupsAt
   carbon-is i h = rw (bond-is (i - 1) (omega arith), bond-is i h, w .acyl, w .groups)
 
@@ -136,15 +136,15 @@ module _ (r : Role) (d : read.Chain) (x : Drawn) (t : ChainTokens) (w : Draws r 
   on : literalEnd r d ≤ d .carbon
   on = literal-on r d
 
-  pub literal-is : valuesFrom (carbonOf (x .acyl) (t .bonds) (groupsIn (x .groups))) (t .first) (suc (t .last) - t .first) ≡ literal r d
+  pub literal-is : valuesFrom (carbonOf (x .acyl) (t .bonds) (groupsDrawn x)) (t .first) (suc (t .last) - t .first) ≡ literal r d
   unfolding literal
   literal-is =
       rw (first-is r d x t w k s, last-is r d x t w k s)
-      (values-same (carbonOf (x .acyl) (t .bonds) (groupsIn (x .groups))) (carbonAt r d) (firstDrawn r) (suc (literalEnd r d) - firstDrawn r)
+      (values-same (carbonOf (x .acyl) (t .bonds) (groupsDrawn x)) (carbonAt r d) (firstDrawn r) (suc (literalEnd r d) - firstDrawn r)
       (λ i g h. carbon-is r d x t w k s i (omega (arith, on))))
 
   literal-shown : (l : ℕ) → show (chainPieces (ringPairs (d .rings)) l (firstDrawn r) (literal r d))
-      ≡ carbonsText (x .acyl) (t .bonds) (groupsIn (x .groups)) (ringsIn (x .rings)) l (t .first) (suc (t .last) - t .first)
+      ≡ carbonsText (x .acyl) (t .bonds) (groupsDrawn x) (ringsDrawn x) l (t .first) (suc (t .last) - t .first)
   unfolding carbonsText
   literal-shown l = rw (literal-is, w .rings, first-is r d x t w k s)
 
@@ -160,7 +160,7 @@ module _ (r : Role) (d : read.Chain) (x : Drawn) (t : ChainTokens) (w : Draws r 
       (λ n. rings-literal r d (s .rings) n) (omega (arith, literal-length))
       ∙ (rw (bond-is r d x t w k s (literalEnd r d) on, last-is r d x t w k s, w .unlocated))
 
-  floats-shown : show (floatPieces (floats d)) ≡ floatsText (groupsIn (x .floats))
+  floats-shown : show (floatPieces (floats d)) ≡ floatsText (floatsDrawn x)
   unfolding floats floatsText
   floats-shown = rw (w .floats)
 
@@ -169,18 +169,18 @@ module _ (r : Role) (d : read.Chain) (x : Drawn) (t : ChainTokens) (w : Draws r 
   segment-is l =
       show-append (chainPieces (ringPairs (d .rings)) l (firstDrawn r) (literal r d ++ flexible (markOf (bondAt r d (literalEnd r d))) (d .unlocated))) (floatPieces (floats d))
       ∙ (rw (chain-append (ringPairs (d .rings)) l (firstDrawn r) (literal r d) (flexible (markOf (bondAt r d (literalEnd r d))) (d .unlocated)), show-append (chainPieces (ringPairs (d .rings)) l (firstDrawn r) (literal r d)) (chainPieces (ringPairs (d .rings)) l (firstDrawn r + length (literal r d)) (flexible (markOf (bondAt r d (literalEnd r d))) (d .unlocated))), literal-shown l, tail-shown l, floats-shown)
-      (append-assoc (carbonsText (x .acyl) (t .bonds) (groupsIn (x .groups)) (ringsIn (x .rings)) l (t .first) (suc (t .last) - t .first)) (flexibleText (getD (t .bonds) (t .last) 0) (x .unlocated)) (floatsText (groupsIn (x .floats)))))
+      (append-assoc (carbonsText (x .acyl) (t .bonds) (groupsDrawn x) (ringsDrawn x) l (t .first) (suc (t .last) - t .first)) (flexibleText (getD (t .bonds) (t .last) 0) (x .unlocated)) (floatsText (floatsDrawn x))))
 
 -- ---- what the functions need
 
-pub segment-written : {xs ys zs ws : List ℕ} {at p q o : ℕ} (x : Drawn) (t : ChainTokens) (l : ℕ) → length xs < 2 ^ 64
-    → Written xs at (carbonsText (x .acyl) (t .bonds) (groupsIn (x .groups)) (ringsIn (x .rings)) l (t .first) (suc (t .last) - t .first)) ys p
-    → Written ys p (flexibleText (getD (t .bonds) (t .last) 0) (x .unlocated)) zs q → Written zs q (floatsText (groupsIn (x .floats))) ws o
+segment-written : {xs ys zs ws : List ℕ} {at p q o : ℕ} (x : Drawn) (t : ChainTokens) (l : ℕ) → length xs < 2 ^ 64
+    → Written xs at (carbonsText (x .acyl) (t .bonds) (groupsDrawn x) (ringsDrawn x) l (t .first) (suc (t .last) - t .first)) ys p
+    → Written ys p (flexibleText (getD (t .bonds) (t .last) 0) (x .unlocated)) zs q → Written zs q (floatsText (floatsDrawn x)) ws o
     → Written xs at (segmentText x t l) ws o
 unfolding segmentText
 segment-written x t l h u v w = written-three h u v w
 
-pub segment-drawn : {xs ys : List ℕ} {at q m : ℕ} (x : Drawn) (t : ChainTokens) (l : ℕ) → TokensOf x t → m ≡ min l 247 → Written xs at (segmentText x t m) ys q → Segment x l xs at ys q
+segment-drawn : {xs ys : List ℕ} {at q m : ℕ} (x : Drawn) (t : ChainTokens) (l : ℕ) → TokensOf x t → m ≡ min l 247 → Written xs at (segmentText x t m) ys q → Segment x l xs at ys q
 segment-drawn {xs} {ys} {at} {q} {m} x t l k e w =
     record {
       size = written-length w;
@@ -188,3 +188,9 @@ segment-drawn {xs} {ys} {at} {q} {m} x t l k e w =
           let z : m ≡ l = omega arith in
           rw (segment-is r d x t g k s l) (rw z at w);
     }
+
+pub segment-done : {xs ys zs ws : List ℕ} {at p q o m : ℕ} (x : Drawn) (first last : ℕ) (bs us : List ℕ) (l : ℕ) → length xs < 2 ^ 64 → TokensOf x (tokens first last bs us) → m ≡ min l 247
+    → Written xs at (carbonsText (x .acyl) bs (groupsDrawn x) (ringsDrawn x) m first (suc last - first)) ys p → Written ys p (flexibleText (getD bs last 0) (x .unlocated)) zs q
+    → Written zs q (floatsText (floatsDrawn x)) ws o → Segment x l xs at ws o
+segment-done {m = m} x first last bs us l h k e u v w =
+    segment-drawn x (tokens first last bs us) l k e (segment-written x (tokens first last bs us) m h u v w)

@@ -11,7 +11,7 @@ use Rattle.reading.specs.Template.{itemPieces, chain}
 use Rattle.chain.specs.declared.Role.{Role}
 use Rattle.chain.specs.Drawing.{chainDrawn}
 use Rattle.drawable.specs.declared.Drawn.{Drawn}
-use Rattle.drawable.specs.Drawn.{groupsIn, ringsIn, Draws}
+use Rattle.drawable.specs.Drawn.{groupsDrawn, floatsDrawn, ringsDrawn, Draws}
 use Rattle.carbons.specs.declared.ChainTokens.{ChainTokens}
 use Rattle.branches.specs.Text.{floatsText}
 use Rattle.backbone.specs.Text.{flexibleText}
@@ -20,8 +20,8 @@ use Rattle.fragment.specs.Text.{carbonsText}
 -- the literal carbons, the flexible tail and the groups without a position
 unfoldable pub segmentText : Drawn → ChainTokens → ℕ → List ℕ
 segmentText x t l =
-    carbonsText (x .acyl) (t .bonds) (groupsIn (x .groups)) (ringsIn (x .rings)) l (t .first) (suc (t .last) - t .first)
-    ++ (flexibleText (getD (t .bonds) (t .last) 0) (x .unlocated) ++ floatsText (groupsIn (x .floats)))
+    carbonsText (x .acyl) (t .bonds) (groupsDrawn x) (ringsDrawn x) l (t .first) (suc (t .last) - t .first)
+    ++ (flexibleText (getD (t .bonds) (t .last) 0) (x .unlocated) ++ floatsText (floatsDrawn x))
 
 -- each ring starts no later than it ends, and ends on the chain: so the token reader reads it
 abbrev pub RingsOn : ℕ → List Ring → Type 0

@@ -1,27 +1,24 @@
 -- Laws of the group table: its rule by one computed test over the whole table, the look through its rows, and what callers use.
 -- Assumes nothing.
 use Prim.Native.Nat.{ℕ, zero, suc, _+_, _-_, _≤_, _<_}
-use native.Mathlib.Nat.{not-suc-le-zero, le-of-suc-le-suc, sub-zero}
-use native.Mathlib.Numerals.{add-one}
+use native.Mathlib.Nat.{not-suc-le-zero, le-of-suc-le-suc}
 use native.Mathlib.Omega.{arith}
 use mathlib.Core.Path.{_≡_, refl, sym, ap, _∙_}
 use mathlib.Core.Bool.{Bool, true, false, cond, true≢false}
 use mathlib.Core.List.{List, [], _∷_, map}
-use lib.Dec.{leb, eqb}
-use lib.ListN.{length, getD, take, drop, drop-of-length-le, length-map}
-use lib.Seq.{drop-cons}
+use lib.Dec.{leb}
+use lib.ListN.{length, getD}
 use borrow.Author.Tests.{leb-true, eqb-true}
 use Rattle.scan.specs.Part.{sameBytes}
 use Rattle.groups.specs.declared.Found.{Found}
-use Rattle.groups.specs.declared.Found.the-variants.{At, Nothing}
-use Rattle.groups.specs.declared.RingSize.{RingSize}
+use Rattle.groups.specs.declared.Found.the-variants.{At}
 use Rattle.groups.specs.declared.RingSize.the-variants.{Carbons, Nothing as NoRing}
 use Rattle.groups.specs.declared.Row.{Row}
 use Rattle.groups.specs.Groups.{Entry, entries, blank, entryAt, entryOf, RowIs, lookupFrom, substituentOf, aliasRingSize, atomsIn, atomsFrom, opensAtom, countIsRight, hydroxy, keto, hydroxyText, ketoText, epUpperText, epLowerText, epoxText, cycText, cycloText}
 
 -- ---- a table's rule
 
-mapped : {A B : Type 0} (f : A → B) (l : List A) (i : ℕ) (d : A) (b : B) → i < length l → f (getD l i d) ≡ getD (map f l) i b
+pub mapped : {A B : Type 0} (f : A → B) (l : List A) (i : ℕ) (d : A) (b : B) → i < length l → f (getD l i d) ≡ getD (map f l) i b
 mapped f [] i d b h = absurd (not-suc-le-zero h)
 mapped f (x ∷ l) zero d b h = refl
 mapped f (x ∷ l) (suc i) d b h = mapped f l i d b (le-of-suc-le-suc h)
@@ -51,12 +48,7 @@ both : (a b : Bool) → cond a b false ≡ true → (a ≡ true) × (b ≡ true)
 both true b e = (refl, e)
 both false b e = absurd (true≢false (sym e))
 
--- the code's rows are the table's entries, and their lengths are within their arrays
-pub record Table (l : List Row) : Type 0 where
-  pub rows : map entryOf l ≡ entries
-  pub fits : every short l ≡ true
-
-long : length entries ≡ 17
+pub long : length entries ≡ 17
 unfolding entries
 long = refl
 
@@ -70,13 +62,6 @@ row-rule l i d e f h =
       branch-fits = leb-true _ 12 (s .1);
     }
 
-module _ (l : List Row) (w : Table l) where
-  pub table-length : length l ≡ 17
-  table-length = sym (length-map l entryOf) ∙ ap (λ (k : List Entry). length k) (w .rows) ∙ long
-
-  pub table-row : (i : ℕ) (d : Row) → i < 17 → RowIs i (getD l i d)
-  table-row i d h = row-rule l i d (w .rows) (w .fits) (omega (arith, table-length))
-
 getD-past : {A : Type 0} (l : List A) (i : ℕ) (d : A) → length l ≤ i → getD l i d ≡ d
 getD-past [] i d h = refl
 getD-past (x ∷ l) zero d h = absurd (omega arith)
@@ -86,34 +71,10 @@ pub row-past : (i : ℕ) (r : Row) → 17 ≤ i → entryOf r ≡ blank → r .�
 unfolding entryAt
 row-past i r h e a b = record { entry-is = e ∙ sym (getD-past entries i blank (omega (arith, long))); abbr-fits = a; branch-fits = b }
 
--- ---- a row's abbreviation
-
-pub named-is : (s : List ℕ) (i : ℕ) (r : Row) (b : Bool) → RowIs i r → b ≡ sameBytes s (take (r .«abbr_len» - 0) (r .abbr)) → b ≡ sameBytes s (entryAt i .abbr)
-unfolding entryOf
-named-is s i r b w e = (rw (sub-zero (r .«abbr_len»)) at e) ∙ ap (λ (x : Entry). sameBytes s (x .abbr)) (w .entry-is)
-
-pub abbr-within : (i : ℕ) (r : Row) → RowIs i r → length (r .abbr) ≡ 4 → r .«abbr_len» ≤ length (r .abbr)
-abbr-within i r w l = omega (arith, w .abbr-fits)
+-- ---- a row's branch
 
 pub branch-within : (i : ℕ) (r : Row) → RowIs i r → length (r .branch) ≡ 12 → r .«branch_len» ≤ length (r .branch)
 branch-within i r w l = omega (arith, w .branch-fits)
-
--- ---- the look through the rows
-
-module _ (A : Found) (s : List ℕ) (i : ℕ) (v : A ≡ lookupFrom i (drop i entries) s) where
-  row-first : (b : Bool) → i < 17 → b ≡ sameBytes s (entryAt i .abbr) → A ≡ cond b (At i) (lookupFrom (suc i) (drop (suc i) entries) s)
-  unfolding lookupFrom entryAt
-  row-first b h e = rw e (v ∙ rw (drop-cons entries i blank (omega (arith, long))))
-
-  pub row-here : (b : Bool) → i < 17 → b ≡ sameBytes s (entryAt i .abbr) → b ≡ true → At i ≡ A
-  row-here b h e f = sym (row-first b h e ∙ rw f)
-
-  pub row-next : (b : Bool) → i < 17 → b ≡ sameBytes s (entryAt i .abbr) → b ≡ false → A ≡ lookupFrom (i + 1) (drop (i + 1) entries) s
-  row-next b h e f = rw (add-one i) (row-first b h e ∙ rw f)
-
-  pub row-none : 17 ≤ i → Nothing ≡ A
-  unfolding lookupFrom
-  row-none h = sym (v ∙ rw (drop-of-length-le entries {i = i} (omega (arith, long))))
 
 -- ---- the atom counts, by one computed test over the whole table
 

@@ -1,8 +1,6 @@
-// The group table of 01 as a constant array of 17 rows, and what an abbreviation means: a row of the table, or a ring of two or three
-// carbons. Every byte string has an answer, and a row past the table is blank. The table in words: specs/Groups.antt.
-ghost use mathlib.Core.Path.{_≡_};
-ghost use Rattle.groups.specs.Groups.{RowIs, entryAt, entries, lookupFrom, substituentOf, aliasRingSize};
-ghost use Rattle.scan.specs.Part.{sameBytes};
+// The group table of 01 as a constant array of 17 rows, and the answers to an abbreviation: a row of the table, which `abbreviations` finds,
+// or a ring of two or three carbons, which `aliases` does. A row past the table is blank. The table in words: specs/Groups.antt.
+ghost use Rattle.groups.specs.Groups.{RowIs};
 
 pub const MAX_ABBR: usize = 4;
 
@@ -211,70 +209,8 @@ pub enum Found {
     Nothing,
 }
 
-// Whether s is the abbreviation of row i, which is at hand.
-fn named(s: &[u8], i: u8, row: Row) -> bool
-    requires { ⌜ RowIs i row ⌝ }
-    ensures { λ b. ⌜ b ≡ sameBytes (now (s .entry)) (entryAt i .abbr) ⌝ }
-{
-    let n = row.abbr_len as usize;
-    let abbr = row.abbr;
-    scan::same(s, &abbr[0..n])
-}
-
-// The row of the table with an abbreviation. The rows are laid out once for the whole search.
-fn lookup(s: &[u8]) -> Found
-    ensures { λ r. ⌜ r ≡ lookupFrom 0 entries (now (s .entry)) ⌝ }
-{
-    let rows = ROWS;
-    let mut i = 0;
-    while i < ROW_COUNT {
-        let at = i as usize;
-        let row = rows[at];
-        if named(s, i, row) {
-            return Found::At(i);
-        }
-        i += 1;
-    }
-    Found::Nothing
-}
-
-// The group that an abbreviation means: a row's own, and hydroxy and keto.
-pub fn substituent(s: &[u8]) -> Found
-    ensures { λ r. ⌜ r ≡ substituentOf (now (s .entry)) ⌝ }
-{
-    if scan::same(s, b"hydroxy") {
-        return Found::At(HYDROXY);
-    }
-    if scan::same(s, b"keto") {
-        return Found::At(KETO);
-    }
-    lookup(s)
-}
-
 // The carbons that an alias ring spans.
 pub enum RingSize {
     Carbons(u16),
     Nothing,
-}
-
-// The alias rings: an epoxide spans two carbons, a cyclopropane three.
-pub fn alias_ring_size(s: &[u8]) -> RingSize
-    ensures { λ r. ⌜ r ≡ aliasRingSize (now (s .entry)) ⌝ }
-{
-    if scan::same(s, b"Ep") {
-        return RingSize::Carbons(2);
-    }
-    if scan::same(s, b"ep") {
-        return RingSize::Carbons(2);
-    }
-    if scan::same(s, b"epox") {
-        return RingSize::Carbons(2);
-    }
-    if scan::same(s, b"cyc") {
-        return RingSize::Carbons(3);
-    }
-    if scan::same(s, b"cyclo") {
-        return RingSize::Carbons(3);
-    }
-    RingSize::Nothing
 }

@@ -22,10 +22,11 @@ use Rattle.class.specs.Class.{read}
 use Rattle.drawable.specs.declared.Drawn.{Drawn}
 use Rattle.judge.specs.declared.Fault.{Fault}
 use Rattle.judge.specs.declared.Faults.{Faults}
-use Rattle.judge.specs.declared.Chains.{Chains}
+use Rattle.drawable.specs.declared.Chains.{Chains}
+use Rattle.drawable.specs.Chains.{drawnIn}
 use Rattle.judge.specs.declared.Judged.{Judged}
 use Rattle.judge.specs.Verdict.{Verdict, Refused, Drawable, tokens, noFault, firstOf, kindRefusal, wrongTail, orElse, judgeDrawn, judgeChains, judgeRead, wrongCount, judgeTokens, verdict}
-use Rattle.judge.specs.Judged.{drawnIn, Drawing, JudgedIs, dueOf}
+use Rattle.judge.specs.Judged.{Drawing, JudgedIs, dueOf}
 use Rattle.judge.proofs.Laws.{Met, draws-length}
 
 -- ---- a fault, or what follows

@@ -11,8 +11,9 @@ use lib.ListN.{length, take, getD, set, length-take}
 use lib.Seq.{take-suc, take-suc-set}
 use lib.Dec.{eqb}
 use borrow.Author.Tests.{eq-eqb, ne-eqb, eqb-false}
-use Rattle.record.specs.declared.Parsed.{Parsed}
-use Rattle.record.specs.Chain.{Chain, Outcome, Read, Refused, Stands}
+use Rattle.record.specs.Chain.{Chain, Outcome, Read, Refused}
+use Rattle.parsed.specs.declared.Parsed.{Parsed}
+use Rattle.parsed.specs.Parsed.{Stands}
 use Rattle.token.specs.Token.{tokenOf}
 use Rattle.token.specs.Request.{Verdict, All, First, withToken, tokensFrom, tokensOf}
 use Rattle.token.proofs.Sound.{token-sound}
@@ -22,7 +23,7 @@ use Rattle.template.specs.declared.Class.{Class}
 use Rattle.template.specs.Template.{roleOf}
 use Rattle.drawable.specs.declared.Drawn.{Drawn}
 use Rattle.drawable.specs.Drawn.{Draws, chainOf, Says}
-use Rattle.drawable.proofs.Drawing.{held-chain}
+use Rattle.fitted.proofs.Drawing.{held-chain}
 use Rattle.judge.specs.declared.Fault.{Fault}
 use Rattle.judge.specs.declared.Faults.{Faults}
 use Rattle.judge.specs.declared.Reasons.{Reasons}

@@ -4,15 +4,16 @@ use mathlib.Core.Path.{_≡_}
 use mathlib.Core.Bool.{Bool, cond}
 use mathlib.Core.List.{List, [], _∷_}
 use lib.Dec.{eqb}
-use lib.ListN.{length, take}
+use lib.ListN.{length}
 use Rattle.record.specs.Chain.{Chain, Outcome, Read, Refused as record·Refused}
 use Rattle.chain.specs.declared.Role.{Role}
 use Rattle.chain.specs.Refusals.{placeRefusal, drawRefusal}
 use Rattle.template.specs.declared.Class.{Class}
 use Rattle.template.specs.Template.{roleOf}
 use Rattle.drawable.specs.declared.Drawn.{Drawn}
+use Rattle.drawable.specs.declared.Chains.{Chains}
 use Rattle.drawable.specs.Drawn.{Draws}
-use Rattle.judge.specs.declared.Chains.{Chains}
+use Rattle.drawable.specs.Chains.{drawnIn}
 use Rattle.judge.specs.declared.Judged.{Judged}
 use Rattle.judge.specs.declared.Fault.{Fault}
 use Rattle.judge.specs.declared.Faults.{Faults}
@@ -24,10 +25,6 @@ use Rattle.judge.specs.Verdict.{Verdict, Refused, Drawable, noFault, kin
 pub data DrawsAll : Class → ℕ → List Drawn → List Chain → Type 0 where
   none : {c : Class} {p : ℕ} → DrawsAll c p [] []
   more : {c : Class} {p : ℕ} {x : Drawn} {d : Chain} {xs : List Drawn} {ds : List Chain} → Draws (roleOf c p) d x → DrawsAll c (suc p) xs ds → DrawsAll c p (x ∷ xs) (d ∷ ds)
-
--- the drawn chains of the code
-unfoldable pub drawnIn : Chains → List Drawn
-drawnIn x = take (x .count) (x .items)
 
 -- x holds the chains ds as a class draws them
 pub record Drawing (c : Class) (ds : List Chain) (x : Chains) : Type 0 where

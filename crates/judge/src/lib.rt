@@ -2,9 +2,10 @@
 // the order of document 01. Every request has an answer. Which, is said by specs/Verdict.antt.
 use chain::Role;
 use class::Code;
+use drawable::Chains;
 use drawable::Drawn;
+use parsed::ParsedChain;
 use record::ChainPrefix;
-use record::ParsedChain;
 use template::Class;
 use token::MAX_TOKENS;
 ghost use mathlib.Core.Path.{_≡_};
@@ -31,12 +32,6 @@ pub const WRONG_TAIL: u16 = 23;
 pub struct Fault {
     pub number: u16,
     pub place: usize,
-}
-
-// The chains of a request as they are drawn, in the order of its tokens.
-pub struct Chains {
-    pub count: usize,
-    pub items: [Drawn; MAX_TOKENS],
 }
 
 // A request that was judged: refused; or its class and its chains, and no fault. An enum holds no array, so the fault stands beside them.
@@ -69,16 +64,14 @@ struct Faults {
     draw: Fault,
 }
 
-impl Chains {
-    // No chains.
-    fn new() -> Chains
-        ensures { λ r. ⌜ r .count ≡ 0 ⌝ }
-    {
-        let chain = ParsedChain::new(ChainPrefix::Acyl, 0, 0, false);
-        let drawn = drawable::drawn_as(Role::Slot, chain);
-        let items = [drawn; MAX_TOKENS];
-        Chains { count: 0, items }
-    }
+// No chains.
+fn no_chains() -> Chains
+    ensures { λ r. ⌜ r .count ≡ 0 ⌝ }
+{
+    let chain = ParsedChain::new(ChainPrefix::Acyl, 0, 0, false);
+    let drawn = fitted::drawn_as(Role::Slot, chain);
+    let items = [drawn; MAX_TOKENS];
+    Chains { count: 0, items }
 }
 
 impl Judged {
@@ -89,7 +82,7 @@ impl Judged {
         Judged {
             fault,
             class: Class::Fa,
-            chains: Chains::new(),
+            chains: no_chains(),
         }
     }
 }
@@ -198,10 +191,9 @@ fn token_at<'a>(i: usize, sn1: &'a [u8], sn2: &'a [u8], sn3: &'a [u8], sn4: &'a 
     sn4
 }
 
-// Token i, counted from 0, in its place, read in the room of a record at hand. Its chain is drawn before its kind is known to fit: most do.
+// Token i, counted from 0, in its place. Its chain is drawn before its kind is known to fit: most do.
 fn look<'a>(
     class: Class,
-    room: ParsedChain,
     i: usize,
     sn1: &'a [u8],
     sn2: &'a [u8],
@@ -212,9 +204,9 @@ fn look<'a>(
     ensures { λ r. ⌜ SeenIs (roleOf class (i + 1)) r (tokenOf (getD (now (sn1 .entry) ∷ now (sn2 .entry) ∷ now (sn3 .entry) ∷ now (sn4 .entry) ∷ []) i [])) ⌝ }
 {
     let role = class::role_of(class, i + 1);
-    let parsed = token::parse_token(token_at(i, sn1, sn2, sn3, sn4), room);
+    let parsed = token::parse_chain_token(token_at(i, sn1, sn2, sn3, sn4));
     let chain = parsed.chain;
-    let drawn = drawable::drawn_as(role, chain);
+    let drawn = fitted::drawn_as(role, chain);
     let reasons = Reasons {
         token: parsed.refusal,
         kind: kind_refusal(role, chain),
@@ -239,14 +231,13 @@ fn judge_tokens<'a>(
     requires { ⌜ count ≤ 4 ⌝ }
     ensures { λ r. ⌜ JudgedIs r (judgeRead class (now (tail .entry)) (tokensOf (tokens count (now (sn1 .entry)) (now (sn2 .entry)) (now (sn3 .entry)) (now (sn4 .entry))))) ⌝ }
 {
-    let room = ParsedChain::new(ChainPrefix::Acyl, 0, 0, false);
-    let seen = look(class, room, 0, sn1, sn2, sn3, sn4);
+    let seen = look(class, 0, sn1, sn2, sn3, sn4);
     let first = seen.drawn;
     let mut faults = Faults::new().join(seen.reasons, 1);
     let mut items = [first; MAX_TOKENS];
     let mut i = 1;
     while i < count {
-        let next = look(class, room, i, sn1, sn2, sn3, sn4);
+        let next = look(class, i, sn1, sn2, sn3, sn4);
         let drawn = next.drawn;
         faults = faults.join(next.reasons, i + 1);
         items[i] = drawn;

@@ -15,7 +15,7 @@ use Rattle.reading.specs.Piece.{showLabel, showLabels}
 use Rattle.reading.specs.Chain.{labelsAt}
 use Rattle.chain.specs.Drawing.{ringPairs}
 use Rattle.labels.specs.Text.{labelsText}
-use Rattle.drawable.specs.Drawn.{Length, ringRoom, noRing}
+use Rattle.drawable.specs.Drawn.{Length, noRing}
 use Rattle.carbons.proofs.Fronts.{next-of, none-left}
 use Rattle.carbons.proofs.Left.{Left, left-less, left-none, written-three}
 
@@ -58,7 +58,7 @@ unfolding labelsText labelsAt ringPairs showLabels
 end-none xs at k l x h n e = rw (ne-eqb (x .start) k n, ne-eqb (x .end) k e) (written-nil xs at h)
 
 -- a turn of the loop through the rings, and its end
-module _ {xs ys ts : List ℕ} {at p n : ℕ} {rs : List Closed} (i k l : ℕ) (s : Length ringRoom rs n)
+module _ {xs ys ts : List ℕ} {at p room n : ℕ} {rs : List Closed} (i k l : ℕ) (s : Length room rs n)
     (v : Left xs at ts ys p (labelsText k l (ringPairs (drop i rs)))) where
   pub label-next : {zs : List ℕ} {q : ℕ} (x : Closed) → length xs < 2 ^ 64 → i < n → x ≡ getD rs i noRing → Written ys p (labelsText k l (ringPairs (x ∷ []))) zs q
       → Left xs at ts zs q (labelsText k (l + 1) (ringPairs (drop (i + 1) rs)))

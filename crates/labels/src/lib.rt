@@ -1,8 +1,8 @@
 // The ring labels of a carbon, written at a place of a lent slice.
-use drawable::Rings;
 use record::Ring;
 ghost use mathlib.Core.List.{[], _∷_};
 ghost use Prim.Native.Nat.{_+_, _≤_};
+ghost use lib.ListN.{length};
 ghost use Rattle.emit.specs.Text.{Written};
 ghost use Rattle.drawable.specs.Drawn.{ringsIn};
 ghost use Rattle.reading.specs.Piece.{showLabel};
@@ -35,16 +35,23 @@ fn put_end(out: &mut [u8], at: usize, ring: Ring, k: u16, label: u8) -> usize
 }
 
 // The labels of carbon k, in the rings' order; the first ring has the label given, the next the one after.
-pub fn put_labels(out: &mut [u8], at: usize, rings: Rings, k: u16, label: u8) -> usize
-    requires { ⌜ label + 8 ≤ 255 ⌝ }
-    ensures { λ r. ⌜ Written (now (out .entry)) at (labelsText k label (ringPairs (ringsIn rings))) (now (out .exit)) r ⌝ }
+pub fn put_labels(
+    out: &mut [u8],
+    at: usize,
+    rings: &[u64],
+    count: usize,
+    k: u16,
+    label: u8,
+) -> usize
+    requires { ⌜ label + length (now rings) ≤ 255 ⌝ }
+    ensures { λ r. ⌜ Written (now (out .entry)) at (labelsText k label (ringPairs (ringsIn count (now (rings .entry))))) (now (out .exit)) r ⌝ }
 {
-    let n = rings.len();
+    let n = drawable::rings_len(rings, count);
     let mut p = at;
     let mut l = label;
     let mut i = 0;
     while i < n {
-        p = put_end(out, p, rings.at(i), k, l);
+        p = put_end(out, p, drawable::nth_ring(rings, count, i), k, l);
         l += 1;
         i += 1;
     }

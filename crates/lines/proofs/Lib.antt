@@ -1,6 +1,3 @@
-pub mod Built
-pub mod Templates
-pub mod Small
-pub mod Classes
-pub mod Fits
-pub mod Line
+pub use Rattle.templates.proofs.Fits
+pub mod Following
+pub mod Room

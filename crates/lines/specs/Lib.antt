@@ -1,3 +1,3 @@
-pub mod Templates
-pub mod Classes
+pub use Rattle.templates.specs.Templates
+pub use Rattle.templates.specs.Classes
 pub mod Line

@@ -1,94 +1,86 @@
 -- Laws of the listed chains.
 -- Assumes nothing.
-use Prim.Native.Nat.{ℕ, _+_, _≤_, _<_, min}
+use Prim.Native.Nat.{ℕ, suc, _+_, _*_, _≤_, _<_, min}
 use native.Mathlib.Numerals.{add-one}
 use native.Mathlib.Omega.{arith}
 use mathlib.Core.Path.{_≡_, refl, ap, ap₂, _∙_}
-use mathlib.Core.List.{List, [], _∷_, map, map-append}
-use lib.ListN.{length, take, getD, length-map, length-append, length-take}
-use lib.Seq.{take-suc, take-all}
-use Rattle.record.specs.Chain.{Chain}
+use mathlib.Core.List.{List, [], _∷_, _++_, map, map-append}
+use lib.ListN.{length, take, getD, length-append}
+use lib.Seq.{take-suc}
 use Rattle.reading.proofs.PartingLaws.{All}
-use Rattle.atoms.specs.Atoms.{Counts}
-use Rattle.template.specs.declared.Class.{Class}
 use Rattle.template.specs.Request as request
-use Rattle.template.specs.Request.{headCarbons, placed, bySn}
-use Rattle.template.specs.Promise.{Each}
-use Rattle.template.proofs.Sorted.{all-sorted}
-use Rattle.placed.specs.declared.CxFragment.{CxFragment}
+use Rattle.template.specs.Request.{bySn, indicesOf, allIndices}
 use Rattle.placed.specs.declared.Placed.{Placed}
-use Rattle.placed.specs.declared.Slots.{Slots}
-use Rattle.placed.specs.Fragment.{fragmentAt, noted, Told}
-use Rattle.placed.specs.Sn.{fromSn}
+use Rattle.placed.specs.Fragment.{noted}
+use Rattle.rising.specs.declared.Rising.{Rising}
+use Rattle.rising.specs.Order.{picked, placesIn, InOrder}
+use Rattle.rising.proofs.OrderLaws.{take-places}
+use Rattle.rising.proofs.Picked.{picked-here, picked-past}
+use Rattle.rising.proofs.Sorted.{in-order}
 use Rattle.listing.specs.declared.Listed.{Listed}
 use Rattle.listing.specs.declared.Lists.{Lists}
-use Rattle.listing.specs.Index.{indexFrom, indexList}
-use Rattle.listing.specs.Lists.{noList, listOf, listOfChain, allLists, ListsAre, ListsHeld, ListsAdded}
-use Rattle.listing.proofs.FourLaws.{filled-held}
-use Rattle.listing.proofs.PlacedLaws.{each-all, sns-told, places-few, noted-by-sn}
-use Rattle.listing.proofs.OrderLaws.{from-few}
-use Rattle.listing.proofs.IndexLaws.{indices-of}
+use Rattle.listing.specs.Lists.{noList, listOf, listIn, listsAt, countsOf, Counted, ListsHeld, ListsAdded}
 
--- what is counted are the listed chains, as far as there is room
-pub lists-held : {l : List Listed} {r : Lists} → ListsAre l r → take (r .count) (r .items) ≡ take 4 l
-lists-held {l} {r} s = filled-held noList l (r .count) (r .items) (s .count) (s .items)
+-- ---- the lists of all chains
 
--- ---- a chain
+module _ (ps : List Placed) (l : List ℕ) (i n : ℕ) where
+  pub lists-more : (x y : Lists) (d : Placed) → length ps ≡ 4 → length l ≡ 4 → n ≤ 4 → i < n → getD l i 0 < 4 → ListsHeld (listsAt ps (take i l)) x
+      → ListsAdded (listIn (getD ps (getD l i 0) d) ∷ []) x y → ListsHeld (listsAt ps (take (i + 1) l)) y
+  unfolding listsAt
+  lists-more x y d k m b h g f u =
+      rw (picked-here ps l i d (omega arith) (omega arith), map-append listIn (picked ps (take i l)) (getD ps (getD l i 0) d ∷ [])) (u .holds (map listIn (picked ps (take i l))) f)
 
-pub carbons-counted : (l : List ℕ) (count n : ℕ) → length l ≡ 256 → n ≡ min count 256 → Counts 256 (length (take count l)) n
-carbons-counted l count n k e = record { is = omega (arith, length-take count l); few = omega arith }
+  pub lists-past : (x : Lists) → length ps ≡ 4 → length l ≡ 4 → n ≤ 4 → i < n → 4 ≤ getD l i 0 → ListsHeld (listsAt ps (take i l)) x → ListsHeld (listsAt ps (take (i + 1) l)) x
+  unfolding listsAt
+  lists-past x k m b h g f = rw (picked-past ps l i (omega arith) (omega arith)) f
 
-pub list-is : (x : CxFragment) (p : Placed) (heads n : ℕ) → Counts 2 (length (headCarbons (p .role))) heads → Counts 256 (length (take (x .atoms .count) (x .atoms .carbons))) n
-    → record { sn = p .sn; count = heads + n } ≡ listOfChain x p
-unfolding listOfChain indexList
-list-is x p heads n h c =
-    let many : heads + n ≡ length (indexList x p) =
-    omega (arith, h .is, c .is, length-append (headCarbons (p .role)) (map (indexFrom (p .first)) (take (x .atoms .count) (x .atoms .carbons))), length-map (take (x .atoms .count) (x .atoms .carbons)) (indexFrom (p .first))) in
-    ap (λ (m : ℕ). record { sn = p .sn; count = m }) many
+  pub lists-all : (x : Lists) (count : ℕ) → length l ≡ 4 → n ≡ min count 4 → i ≤ n → n ≤ i → ListsHeld (listsAt ps (take i l)) x → ListsHeld (listsAt ps (take count l)) x
+  lists-all x count k e h g f = let q : i ≡ n = omega arith in rw (q, take-places l 4 count n k e) at f
 
--- ---- all chains
+-- ---- their indices together
 
--- what is said of each
-abbrev pub listAt : Slots → Placed → Listed
-listAt s p = listOfChain (fragmentAt s (p .sn)) p
+counts-append : (a b : List Listed) → countsOf (a ++ b) ≡ countsOf a + countsOf b
+unfolding countsOf
+counts-append [] b = omega arith
+counts-append (l ∷ a) b = omega (arith, counts-append a b)
 
-module _ (s : Slots) (l : List Placed) (i n : ℕ) where
-  pub lists-more : (x y : Lists) (d : Placed) (f : CxFragment) (m : Listed) → length l ≡ 4 → n ≤ 4 → i < n → ListsHeld (map (listAt s) (take i l)) x
-      → f ≡ fragmentAt s (getD l i d .sn) → m ≡ listOfChain f (getD l i d) → ListsAdded (m ∷ []) x y → ListsHeld (map (listAt s) (take (i + 1) l)) y
-  lists-more x y d f m k b h u e g w =
-      let is : m ≡ listAt s (getD l i d) = g ∙ ap (λ (z : CxFragment). listOfChain z (getD l i d)) e in
-      rw (add-one i, take-suc l i d (omega arith), map-append (listAt s) (take i l) (getD l i d ∷ []), ← is) (w .holds (map (listAt s) (take i l)) u)
+-- those of the first i
+pub record SumTo (l : List Listed) (i sum : ℕ) : Type 0 where
+  pub is : sum ≡ countsOf (take i l)
+  pub few : sum ≤ 65535 * i
 
-  pub lists-are : (r : Lists) (ps : List Placed) → take n l ≡ fromSn 1 4 ps → i ≤ n → n ≤ i → ListsHeld (map (listAt s) (take i l)) r → ListsAre (allLists s ps) r
-  unfolding allLists
-  lists-are r ps e h g u =
-      let q : i ≡ n = omega arith in
-      let f : ListsHeld (allLists s ps) r = rw (q, e) at u in
-      record { count = f .count; items = f .items }
+pub sum-none : (l : List Listed) → SumTo l 0 0
+unfolding countsOf
+sum-none l = record { is = refl; few = omega arith }
+
+pub sum-more : (l : List Listed) (i n sum : ℕ) (d : Listed) → length l ≡ 4 → n ≤ 4 → i < n → getD l i d .count < 65536 → SumTo l i sum → SumTo l (i + 1) (sum + getD l i d .count)
+unfolding countsOf
+sum-more l i n sum d k m h f s =
+    record {
+      is = rw (add-one i, take-suc l i d (omega arith), counts-append (take i l) (getD l i d ∷ [])) (omega (arith, s .is));
+      few = omega (arith, s .few);
+    }
+
+pub sum-all : (l : List Listed) (i n sum count : ℕ) → length l ≡ 4 → n ≡ min count 4 → i ≤ n → n ≤ i → SumTo l i sum → Counted (take count l) sum
+sum-all l i n sum count k e h g s =
+    let q : i ≡ n = omega arith in
+    record { is = s .is ∙ rw (q, take-places l 4 count n k e); few = omega (arith, s .few) }
 
 -- ---- the listed chains are those of the request
 
-lists-same : (s : Slots) (ps : List request.Placed) → All (Told s) ps → map (listAt s) (map noted ps) ≡ map listOf ps
-unfolding listOf listOfChain noted
-lists-same s [] h = refl
-lists-same s (p ∷ ps) h =
-    ap₂ (λ (a : Listed) (b : List Listed). a ∷ b) (ap (λ (is : List ℕ). record { sn = p .sn; count = length is }) (indices-of s p (h .0)))
-    (lists-same s ps (h .1))
+lists-same : (ps : List request.Placed) → map listIn (map noted ps) ≡ map listOf ps
+unfolding listOf noted
+lists-same [] = refl
+lists-same (p ∷ ps) = ap (λ (l : List Listed). record { sn = p .sn; count = length (indicesOf p) } ∷ l) (lists-same ps)
 
--- THE LISTED CHAINS, where they are at hand and have sn 1 to 4
-pub lists-told : (s : Slots) (ps : List request.Placed) → Each (Told s) ps → Each (λ p. (1 ≤ p .sn) × (p .sn ≤ 4)) ps → allLists s (map noted ps) ≡ map listOf (bySn ps)
-unfolding allLists
-lists-told s ps h n =
-    ap (λ (l : List Placed). map (listAt s) l) (noted-by-sn ps n) ∙ lists-same s (bySn ps) (all-sorted (Told s) ps (each-all (Told s) ps h))
+-- THE LISTED CHAINS, where they have sn 1 to 4
+pub lists-told : (l : List Placed) (count : ℕ) (o : Rising) (ps : List request.Placed) → All (λ p. (1 ≤ p .sn) × (p .sn ≤ 4)) ps → take count l ≡ map noted ps
+    → InOrder (take count l) o → listsAt l (placesIn o) ≡ map listOf (bySn ps)
+unfolding listsAt
+lists-told l count o ps h e i = ap (map listIn) (in-order l count o ps h e i) ∙ lists-same (bySn ps)
 
--- there is room for all of them
-pub lists-few : (s : Slots) (ps : List Placed) → length (allLists s ps) ≤ length ps
-unfolding allLists
-lists-few s ps = omega (arith, length-map (fromSn 1 4 ps) (listAt s), from-few 1 4 ps)
-
-pub placed-lists : (s : Slots) (c : Class) (t : List ℕ) (ds : List Chain) (r : Lists) → Each (Told s) (placed c t ds) → ListsAre (allLists s (map noted (placed c t ds))) r
-    → take (r .count) (r .items) ≡ map listOf (bySn (placed c t ds))
-placed-lists s c t ds r h a =
-    let few : length (allLists s (map noted (placed c t ds))) ≤ 4 =
-    omega (arith, lists-few s (map noted (placed c t ds)), length-map (placed c t ds) noted, places-few c t ds) in
-    lists-held a ∙ (take-all 4 (allLists s (map noted (placed c t ds))) few ∙ lists-told s (placed c t ds) h (sns-told c t ds))
+-- their numbers are those of the indices
+pub counts-told : (ps : List request.Placed) → countsOf (map listOf ps) ≡ length (allIndices ps)
+unfolding countsOf listOf allIndices
+counts-told [] = refl
+counts-told (p ∷ ps) = omega (arith, counts-told ps, length-append (indicesOf p) (allIndices ps))

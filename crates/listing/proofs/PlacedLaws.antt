@@ -2,10 +2,10 @@
 -- Assumes nothing.
 use Prim.Native.Nat.{ℕ, suc, _+_, _≤_, _<_}
 use native.Mathlib.Omega.{arith}
-use mathlib.Core.Path.{_≡_, refl, sym}
+use mathlib.Core.Path.{_≡_, refl}
 use mathlib.Core.Bool.{true}
 use mathlib.Core.Option.{Option, none, some}
-use mathlib.Core.List.{List, [], _∷_, map}
+use mathlib.Core.List.{List, [], _∷_}
 use lib.Dec.{ltb}
 use lib.ListN.{length}
 use borrow.Author.Tests.{ltb-true, leb-true}
@@ -19,14 +19,11 @@ use Rattle.chain.proofs.Lists.{all-append, all-both}
 use Rattle.template.specs.declared.Class.{Class}
 use Rattle.template.specs.Template.{Element, fixed, tail, slot, chain, elements}
 use Rattle.template.specs.Request as request
-use Rattle.template.specs.Request.{nonempty, fixedPieces, tailPart, atomsOfPieces, siteOf, place, atomsAfter, variablesAfter, placedFrom, placed, bySn}
+use Rattle.template.specs.Request.{nonempty, fixedPieces, tailPart, atomsOfPieces, siteOf, place, atomsAfter, variablesAfter, placedFrom, placed}
 use Rattle.template.specs.Promise.{Each}
 use Rattle.template.proofs.Templates.{snsOf, fitting}
 use Rattle.template.proofs.Sorted.{sns-placed, length-placed}
-use Rattle.placed.specs.declared.Placed.{Placed}
-use Rattle.placed.specs.Fragment.{noted, siteOr}
-use Rattle.placed.specs.Sn.{fromSn}
-use Rattle.placed.proofs.Sn.{noted-sorted}
+use Rattle.placed.specs.Fragment.{siteOr}
 
 all-each : {A : Type 0} (P : A → Type 0) (l : List A) → All P l → Each P l
 all-each P [] h = tt
@@ -88,11 +85,3 @@ sited-from t ds n v (chain sn r ∷ es) =
 pub sites-placed : (c : Class) (t : List ℕ) (ds : List Chain) → Each Sited (placed c t ds)
 unfolding placed
 sites-placed c t ds = all-each Sited (placedFrom t ds 0 0 (elements c)) (sited-from t ds 0 0 (elements c))
-
--- ---- by rising sn, by numbers alone
-
-pub noted-by-sn : (ps : List request.Placed) → Each (λ p. (1 ≤ p .sn) × (p .sn ≤ 4)) ps → fromSn 1 4 (map noted ps) ≡ map noted (bySn ps)
-noted-by-sn ps h =
-    let within : All (λ (p : request.Placed). (1 ≤ p .sn) × (p .sn < 5)) ps =
-    all-map {P = λ (p : request.Placed). (1 ≤ p .sn) × (p .sn ≤ 4)} (λ p q. (q .0, omega (arith, q .1))) ps (each-all (λ (p : request.Placed). (1 ≤ p .sn) × (p .sn ≤ 4)) ps h) in
-    sym (noted-sorted ps within)

@@ -1,21 +1,23 @@
 -- Laws of the sn sites.
 -- Assumes nothing.
-use Prim.Native.Nat.{ℕ, zero, suc, _+_, _≤_, _<_}
+use Prim.Native.Nat.{ℕ, zero, suc, _+_, _≤_, _<_, min}
 use native.Mathlib.Omega.{arith}
 use mathlib.Core.Path.{_≡_, refl, sym, ap, ap₂, _∙_}
-use mathlib.Core.Bool.{true}
+use mathlib.Core.Bool.{Bool, true, false, cond}
 use mathlib.Core.Option.{Option}
 use mathlib.Core.List.{List, [], _∷_, _++_, map, map-append}
-use lib.Dec.{ltb}
-use lib.ListN.{length, take, getD, length-append, length-map}
+use lib.Dec.{eqb, ltb}
+use lib.ListN.{length, take, getD, length-append, length-map, length-take}
 use lib.Seq.{take-all}
-use borrow.Author.Tests.{lt-ltb}
+use borrow.Author.Tests.{lt-ltb, eqb-true}
 use Rattle.record.specs.Chain.{Chain}
 use Rattle.reading.specs.Molecule.{At, at, notesOf}
 use Rattle.reading.specs.Line.{below}
 use Rattle.reading.proofs.PartingLaws.{All, and-left, and-right, and-both}
 use Rattle.chain.specs.declared.Role.{Role}
 use Rattle.chain.specs.declared.Role.the-variants.{Slot, Acyl, Base}
+use Rattle.chain.specs.Lists.{only}
+use Rattle.chain.proofs.Lists.{all-append}
 use Rattle.shown.specs.declared.Site.{Site}
 use Rattle.shown.specs.Notes.{labelsOf, Digits}
 use Rattle.template.specs.declared.Class.{Class}
@@ -25,13 +27,16 @@ use Rattle.template.specs.Promise.{Each}
 use Rattle.template.proofs.Sorted.{all-sorted}
 use Rattle.placed.specs.declared.Placed.{Placed}
 use Rattle.placed.specs.Fragment.{noted, siteOr, gathered}
-use Rattle.placed.specs.Sn.{fromSn}
-use Rattle.placed.proofs.Laws.{gathered-more}
+use Rattle.placed.proofs.Laws.{gathered-append}
+use Rattle.rising.specs.declared.Rising.{Rising}
+use Rattle.rising.specs.Order.{snsOf, placesOf, placesFrom, picked, placesIn, InOrder}
+use Rattle.rising.proofs.FourLaws.{added-none, filled-held}
+use Rattle.rising.proofs.OrderLaws.{take-places, sns-length, from-few}
+use Rattle.rising.proofs.Picked.{picked-append, picked-none, picked-take, picked-here, picked-past, picked-of, picked-few, gathered-one, from-within}
+use Rattle.rising.proofs.Sorted.{picked-sorted}
 use Rattle.listing.specs.declared.Sites.{Sites}
-use Rattle.listing.specs.Sites.{noSite, siteIn, siteList, allSiteList, SitesAre, SitesHeld, SitesAdded}
-use Rattle.listing.proofs.FourLaws.{added-none, filled-held}
-use Rattle.listing.proofs.OrderLaws.{all-from, from-few}
-use Rattle.listing.proofs.PlacedLaws.{each-all, Sited, sns-told, places-few, sites-placed, noted-by-sn}
+use Rattle.listing.specs.Sites.{noSite, siteIn, siteList, sitesAt, allSiteList, SitesAre, SitesHeld, SitesAdded}
+use Rattle.listing.proofs.PlacedLaws.{each-all, Sited, sns-told, places-few, sites-placed}
 
 -- what is counted are the sites, as far as there is room
 pub sites-held : {l : List Site} {r : Sites} → SitesAre l r → take (r .count) (r .items) ≡ take 4 l
@@ -83,27 +88,58 @@ unfolding gathered below notesOf labelsOf
 digits-gathered [] h = refl
 digits-gathered (p ∷ ps) h = digits-append (siteList p) (gathered siteList ps) (digit-one p (h .0)) (digits-gathered ps (h .1))
 
+-- the sns that are picked are those from 1 to 4
+only-sn : (k : ℕ) (ps : List Placed) → k < 10 → All (λ (p : Placed). p .sn < 10) (only (λ (p : Placed). eqb (p .sn) k) ps)
+unfolding only
+only-sn k [] h = tt
+only-sn k (p ∷ ps) h = go (eqb (p .sn) k) refl (only-sn k ps h)
+  where
+    go : (b : Bool) → eqb (p .sn) k ≡ b → All (λ (q : Placed). q .sn < 10) (only (λ (q : Placed). eqb (q .sn) k) ps)
+        → All (λ (q : Placed). q .sn < 10) (cond b (p ∷ only (λ (q : Placed). eqb (q .sn) k) ps) (only (λ (q : Placed). eqb (q .sn) k) ps))
+    go true e r = (omega (arith, eqb-true (p .sn) k e), r)
+    go false e r = r
+
+sns-from : (m k : ℕ) (ps : List Placed) → k + m ≤ 10 → All (λ (p : Placed). p .sn < 10) (picked ps (placesFrom k m (snsOf ps)))
+unfolding placesFrom snsOf
+sns-from zero k ps h = rw (picked-none ps) tt
+sns-from (suc m) k ps h =
+    rw (picked-append ps (placesOf k 0 (snsOf ps)) (placesFrom (suc k) m (snsOf ps)), picked-of (λ (p : Placed). p .sn) k ps)
+    (all-append (λ (p : Placed). p .sn < 10) (only (λ (p : Placed). eqb (p .sn) k) ps) (picked ps (placesFrom (suc k) m (snsOf ps))) (only-sn k ps (omega arith)) (sns-from m (suc k) ps (omega arith)))
+
 digits-all : (ps : List Placed) → Digits (allSiteList ps)
-unfolding allSiteList
-digits-all ps = digits-gathered (fromSn 1 4 ps) (all-from 10 4 1 ps (omega arith))
+unfolding allSiteList sitesAt
+digits-all ps = digits-gathered (picked ps (placesFrom 1 4 (snsOf ps))) (sns-from 4 1 ps (omega arith))
 
 -- ---- the sites of all chains
 
-module _ (l : List Placed) (i n : ℕ) where
-  pub sites-more : (x y : Sites) (d : Placed) → length l ≡ 4 → n ≤ 4 → i < n → SitesHeld (gathered siteList (take i l)) x → SitesAdded (siteList (getD l i d)) x y
-      → SitesHeld (gathered siteList (take (i + 1) l)) y
-  sites-more x y d k m h f u = rw (gathered-more siteList l i d (omega arith)) (u .holds (gathered siteList (take i l)) f)
+module _ (ps : List Placed) (l : List ℕ) (i n : ℕ) where
+  pub sites-more : (x y : Sites) (d : Placed) → length ps ≡ 4 → length l ≡ 4 → n ≤ 4 → i < n → getD l i 0 < 4 → SitesHeld (sitesAt ps (take i l)) x
+      → SitesAdded (siteList (getD ps (getD l i 0) d)) x y → SitesHeld (sitesAt ps (take (i + 1) l)) y
+  unfolding sitesAt
+  sites-more x y d k m b h g f u =
+      rw (picked-here ps l i d (omega arith) (omega arith), gathered-append siteList (picked ps (take i l)) (getD ps (getD l i 0) d ∷ []), gathered-one siteList (getD ps (getD l i 0) d))
+      (u .holds (gathered siteList (picked ps (take i l))) f)
 
-  pub sites-are : (r : Sites) (ps : List Placed) → take n l ≡ fromSn 1 4 ps → i ≤ n → n ≤ i → SitesHeld (gathered siteList (take i l)) r → SitesAre (allSiteList ps) r
-  unfolding allSiteList
-  sites-are r ps e h g u =
-      let q : i ≡ n = omega arith in
-      let f : SitesHeld (allSiteList ps) r = rw (q, e) at u in
-      record {
-        count = f .count;
-        items = f .items;
-        digits = rw (filled-held noSite (allSiteList ps) (r .count) (r .items) (f .count) (f .items)) (digits-take 4 (allSiteList ps) (digits-all ps));
-      }
+  pub sites-past : (x : Sites) → length ps ≡ 4 → length l ≡ 4 → n ≤ 4 → i < n → 4 ≤ getD l i 0 → SitesHeld (sitesAt ps (take i l)) x → SitesHeld (sitesAt ps (take (i + 1) l)) x
+  unfolding sitesAt
+  sites-past x k m b h g f = rw (picked-past ps l i (omega arith) (omega arith)) f
+
+  pub sites-all : (x : Sites) (count : ℕ) → length l ≡ 4 → n ≡ min count 4 → i ≤ n → n ≤ i → SitesHeld (sitesAt ps (take i l)) x → SitesHeld (sitesAt ps (take count l)) x
+  sites-all x count k e h g f = let q : i ≡ n = omega arith in rw (q, take-places l 4 count n k e) at f
+
+-- the sites of the chains that are in order
+pub sites-in-order : (l : List Placed) (count : ℕ) (o : Rising) (r : Sites) → InOrder (take count l) o → SitesHeld (sitesAt l (placesIn o)) r → SitesAre (allSiteList (take count l)) r
+unfolding allSiteList sitesAt
+sites-in-order l count o r i h =
+    let ps : List Placed = take count l in
+    let ks : List ℕ = placesFrom 1 4 (snsOf ps) in
+    let same : picked ps ks ≡ picked l ks = picked-take count l ks (from-within count 4 1 (snsOf ps) (omega (arith, sns-length ps, length-take count l))) in
+    let f : SitesHeld (allSiteList ps) r = rw (i .held, ← same) at h in
+    record {
+      count = f .count;
+      items = f .items;
+      digits = rw (filled-held noSite (allSiteList ps) (r .count) (r .items) (f .count) (f .items)) (digits-take 4 (allSiteList ps) (digits-all ps));
+    }
 
 -- ---- the labels are those of the chains
 
@@ -129,9 +165,9 @@ labels-gathered (p ∷ ps) h =
 
 -- THE SN SITES of chains with sn 1 to 4, each with the site of its role
 pub sites-told : (ps : List request.Placed) → Each (λ p. (1 ≤ p .sn) × (p .sn ≤ 4)) ps → Each Sited ps → labelsOf (allSiteList (map noted ps)) ≡ snSites (bySn ps)
-unfolding allSiteList
+unfolding allSiteList sitesAt
 sites-told ps h g =
-    ap (λ (l : List Placed). labelsOf (gathered siteList l)) (noted-by-sn ps h)
+    ap (λ (l : List Placed). labelsOf (gathered siteList l)) (picked-sorted noted (map noted ps) ps (each-all (λ (p : request.Placed). (1 ≤ p .sn) × (p .sn ≤ 4)) ps h) (take-all (length ps) (map noted ps) (omega (arith, length-map ps noted))))
     ∙ labels-gathered (bySn ps) (all-sorted Sited ps (each-all Sited ps g))
 
 -- ---- the sites of a request
@@ -152,8 +188,10 @@ gathered-few (p ∷ ps) = omega (arith, length-append (siteList p) (gathered sit
 
 -- there is room for all of them
 pub sites-few : (ps : List Placed) → length (allSiteList ps) ≤ length ps
-unfolding allSiteList
-sites-few ps = omega (arith, gathered-few (fromSn 1 4 ps), from-few 1 4 ps)
+unfolding allSiteList sitesAt
+sites-few ps =
+    omega
+    (arith, gathered-few (picked ps (placesFrom 1 4 (snsOf ps))), picked-few ps (placesFrom 1 4 (snsOf ps)), from-few (snsOf ps), sns-length ps)
 
 pub placed-sites : (c : Class) (t : List ℕ) (ds : List Chain) (r : Sites) → SitesAre (allSiteList (map noted (placed c t ds))) r
     → labelsOf (take (r .count) (r .items)) ≡ snSites (bySn (placed c t ds))

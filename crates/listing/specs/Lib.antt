@@ -1,5 +1,4 @@
-pub mod Four
-pub mod Order
+pub use Rattle.rising.specs.Four
+pub use Rattle.rising.specs.Order
 pub mod Sites
-pub mod Index
 pub mod Lists

@@ -1,18 +1,15 @@
 -- The listed chains, by numbers alone. Assumes nothing.
+use Prim.Native.Nat.{ℕ, _+_, _≤_}
 use mathlib.Core.Path.{_≡_}
-use mathlib.Core.List.{List, [], map}
-use lib.ListN.{length, take}
+use mathlib.Core.List.{List, [], _∷_, map}
+use lib.ListN.{length}
 use Rattle.template.specs.Request as request
 use Rattle.template.specs.Request.{indicesOf}
-use Rattle.placed.specs.declared.CxFragment.{CxFragment}
 use Rattle.placed.specs.declared.Placed.{Placed}
-use Rattle.placed.specs.declared.Slots.{Slots}
-use Rattle.placed.specs.Fragment.{fragmentAt}
-use Rattle.placed.specs.Sn.{fromSn}
+use Rattle.rising.specs.Four.{Filled, Added}
+use Rattle.rising.specs.Order.{picked}
 use Rattle.listing.specs.declared.Listed.{Listed}
 use Rattle.listing.specs.declared.Lists.{Lists}
-use Rattle.listing.specs.Four.{four, Filled, Added}
-use Rattle.listing.specs.Index.{indexList}
 
 -- what stands past the last
 abbrev pub noList : Listed
@@ -24,24 +21,29 @@ unfolding indicesOf
 listOf p = record { sn = p .sn; count = length (indicesOf p) }
 
 -- the same, by numbers alone
-unfoldable pub listOfChain : CxFragment → Placed → Listed
-unfolding indexList
-listOfChain x p = record { sn = p .sn; count = length (indexList x p) }
+abbrev pub listIn : Placed → Listed
+listIn p = record { sn = p .sn; count = p .count }
 
--- all of them, by rising sn
-unfoldable pub allLists : Slots → List Placed → List Listed
-unfolding fromSn listOfChain
-allLists s ps = map (λ p. listOfChain (fragmentAt s (p .sn)) p) (fromSn 1 4 ps)
+-- those of the chains at some places
+unfoldable pub listsAt : List Placed → List ℕ → List Listed
+unfolding picked
+listsAt ps ks = map listIn (picked ps ks)
+
+-- the indices of some lists together
+unfoldable pub countsOf : List Listed → ℕ
+countsOf [] = 0
+countsOf (l ∷ ls) = l .count + countsOf ls
+
+-- n is their number; it is small
+pub record Counted (ls : List Listed) (n : ℕ) : Type 0 where
+  pub is : n ≡ countsOf ls
+  pub few : n ≤ 262140
 
 -- r holds the first four of some listed chains; its other places are zero
-pub record ListsAre (l : List Listed) (r : Lists) : Type 0 where
-  pub count : r .count ≡ length (take 4 l)
-  pub items : r .items ≡ four noList l
-
--- ---- while they are gathered
-
 abbrev pub ListsHeld : List Listed → Lists → Type 0
 ListsHeld l r = Filled noList l (r .count) (r .items)
+
+-- ---- while they are gathered
 
 abbrev pub NoLists : Lists → Type 0
 NoLists r = ListsHeld [] r

@@ -1,4 +1,5 @@
 -- The sn sites of chains in their places, by numbers alone. Assumes nothing.
+use Prim.Native.Nat.{ℕ}
 use mathlib.Core.Path.{_≡_}
 use mathlib.Core.List.{List, [], _∷_}
 use lib.ListN.{length, take}
@@ -8,9 +9,9 @@ use Rattle.shown.specs.declared.Site.{Site}
 use Rattle.shown.specs.Notes.{Digits}
 use Rattle.placed.specs.declared.Placed.{Placed}
 use Rattle.placed.specs.Fragment.{gathered}
-use Rattle.placed.specs.Sn.{fromSn}
+use Rattle.rising.specs.Four.{four, Filled, Added}
+use Rattle.rising.specs.Order.{snsOf, placesFrom, picked}
 use Rattle.listing.specs.declared.Sites.{Sites}
-use Rattle.listing.specs.Four.{four, Filled, Added}
 
 -- what stands past the last site
 abbrev pub noSite : Site
@@ -25,21 +26,27 @@ siteIn Base s = []
 unfoldable pub siteList : Placed → List Site
 siteList p = siteIn (p .role) (record { sn = p .sn; atom = p .site })
 
+-- those of the chains at some places
+unfoldable pub sitesAt : List Placed → List ℕ → List Site
+unfolding gathered picked siteList
+sitesAt ps ks = gathered siteList (picked ps ks)
+
 -- all of them, by rising sn
 unfoldable pub allSiteList : List Placed → List Site
-unfolding gathered fromSn siteList
-allSiteList ps = gathered siteList (fromSn 1 4 ps)
+unfolding sitesAt placesFrom snsOf
+allSiteList ps = sitesAt ps (placesFrom 1 4 (snsOf ps))
 
--- r holds the first four of some sites, each with an sn of one digit; its other places are zero
+-- r holds the first four of some sites; its other places are zero
+abbrev pub SitesHeld : List Site → Sites → Type 0
+SitesHeld l r = Filled noSite l (r .count) (r .items)
+
+-- the same, each with an sn of one digit
 pub record SitesAre (l : List Site) (r : Sites) : Type 0 where
   pub count : r .count ≡ length (take 4 l)
   pub items : r .items ≡ four noSite l
   pub digits : Digits (take (r .count) (r .items))
 
 -- ---- while they are gathered
-
-abbrev pub SitesHeld : List Site → Sites → Type 0
-SitesHeld l r = Filled noSite l (r .count) (r .items)
 
 abbrev pub NoSites : Sites → Type 0
 NoSites r = SitesHeld [] r

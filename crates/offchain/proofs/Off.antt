@@ -6,8 +6,7 @@ use mathlib.Core.Path.{_≡_, refl, sym, ap, _∙_}
 use mathlib.Core.Bool.{Bool, true, false, not, _&&_, _||_, or-true, or-false, and-false}
 use mathlib.Core.List.{List, [], _∷_, _++_}
 use lib.Dec.{eqb, leb}
-use lib.ListN.{length, take, drop, getD, length-take}
-use lib.Seq.{getD-take}
+use lib.ListN.{length}
 use borrow.Author.Tests.{lt-ltb, le-ltb, le-leb, lt-leb, eq-eqb, ne-eqb, not-true, not-false, eqb-false}
 use Rattle.record.specs.declared.DbPos.{DbPos}
 use Rattle.record.specs.declared.Mod.{Mod}
@@ -18,10 +17,7 @@ use Rattle.chain.specs.Lists.{anyOf, only, isEmpty}
 use Rattle.chain.specs.Features.{located, unlocated, baseOxygens, groupsOn, floating}
 use Rattle.chain.specs.Refusals.{doubleOff, groupOff, ringOff, offChain}
 use Rattle.drawable.specs.declared.Drawn.{Drawn}
-use Rattle.drawable.specs.declared.Bonds.{Bonds}
-use Rattle.drawable.specs.Drawn.{bondsIn, groupsIn, ringsIn, noBond, Length, Draws, Says}
-use Rattle.drawable.proofs.Lists.{take-of-length}
-use Rattle.drawable.proofs.Through.{any-here, any-next, any-none}
+use Rattle.drawable.specs.Drawn.{bondsDrawn, groupsDrawn, floatsDrawn, ringsDrawn, Length, Draws, Says}
 
 -- ---- one feature
 
@@ -37,34 +33,6 @@ module _ (b : DbPos) (f c : ℕ) where
   pub bond-on : f ≤ b .pos → b .pos < c → false ≡ doubleOff f c b
   unfolding doubleOff
   bond-on h g = rw (le-leb f (b .pos) h, lt-ltb (b .pos) c g)
-
-all : (xs : List DbPos) (n : ℕ) → length xs ≡ 33 → n ≤ 33 → Length 33 (take n xs) n
-all xs n s k = record { is = omega (arith, length-take n xs); fits = k }
-
--- the loop over the double bonds: an array of which n count
-module _ (b : Bonds) (n : ℕ) (w : Length 33 (bondsIn b) n) (f c : ℕ) where
-  counted : take n (b .items) ≡ bondsIn b
-  unfolding bondsIn
-  counted = rw (w .is) (take-of-length (b .items) (b .count))
-
-  pub bonds-empty : n ≡ 0 → false ≡ anyOf (doubleOff f c) (bondsIn b)
-  unfolding anyOf
-  bonds-empty e = rw (← counted, e)
-
-  module _ (i : ℕ) (v : anyOf (doubleOff f c) (take n (b .items)) ≡ anyOf (doubleOff f c) (drop i (take n (b .items)))) where
-    pub bonds-here : (t : Bool) → i < n → length (b .items) ≡ 33 → t ≡ doubleOff f c (getD (b .items) i noBond) → t ≡ true → true ≡ anyOf (doubleOff f c) (bondsIn b)
-    bonds-here t h s e g =
-        rw
-        (← counted)
-        (any-here _ (doubleOff f c) 33 (take n (b .items)) n i noBond (getD (b .items) i noBond) t (all (b .items) n s (w .fits)) v h (sym (getD-take n (b .items) i noBond h)) e g)
-
-    pub bonds-none : n ≤ i → length (b .items) ≡ 33 → false ≡ anyOf (doubleOff f c) (bondsIn b)
-    bonds-none h s = rw (← counted) (any-none _ (doubleOff f c) 33 (take n (b .items)) n i (all (b .items) n s (w .fits)) v h)
-
-pub bonds-next : (f c : ℕ) (xs : List DbPos) (n i : ℕ) (t : Bool) → length xs ≡ 33 → n ≤ 33 → anyOf (doubleOff f c) (take n xs) ≡ anyOf (doubleOff f c) (drop i (take n xs)) → i < n
-    → t ≡ doubleOff f c (getD xs i noBond) → t ≡ false → anyOf (doubleOff f c) (take n xs) ≡ anyOf (doubleOff f c) (drop (i + 1) (take n xs))
-bonds-next f c xs n i t s k v h e g =
-    any-next _ (doubleOff f c) 33 (take n xs) n i noBond (getD xs i noBond) t (all xs n s k) v h (sym (getD-take n xs i noBond h)) e g
 
 module _ (g : Mod) (f c : ℕ) where
   pub group-below : g .pos < f → true ≡ groupOff f c g
@@ -126,21 +94,21 @@ some-float (g ∷ gs) h = refl
 module _ (x : Drawn) where
   off-as : (r : Role) (d : Chain) → Draws r d x
       → offChain r d
-      ≡ anyOf (doubleOff (x .first) (x .carbon)) (bondsIn (x .bonds)) || anyOf (groupOff (x .first) (x .carbon)) (groupsIn (x .groups))
-      || anyOf (ringOff (x .first) (x .acyl)) (ringsIn (x .rings))
+      ≡ anyOf (doubleOff (x .first) (x .carbon)) (bondsDrawn x) || anyOf (groupOff (x .first) (x .carbon)) (groupsDrawn x)
+      || anyOf (ringOff (x .first) (x .acyl)) (ringsDrawn x)
       || (eqb (x .carbon) 0 && not (isEmpty (d .groups))) || x .«ether_base»
   unfolding offChain
   off-as r d w = rw (w .first, w .carbon, w .acyl, w .ether, w .bonds, w .groups, w .rings)
 
-  module _ (t₁ : Bool) (e₁ : t₁ ≡ anyOf (doubleOff (x .first) (x .carbon)) (bondsIn (x .bonds))) where
+  module _ (t₁ : Bool) (e₁ : t₁ ≡ anyOf (doubleOff (x .first) (x .carbon)) (bondsDrawn x)) where
     pub off-bond : t₁ ≡ true → Says x true offChain
     off-bond f₁ = record { is = λ r d w. sym (off-as r d w ∙ rw (sym e₁ ∙ f₁)) }
 
-    module _ (f₁ : t₁ ≡ false) (t₂ : Bool) (e₂ : t₂ ≡ anyOf (groupOff (x .first) (x .carbon)) (groupsIn (x .groups))) where
+    module _ (f₁ : t₁ ≡ false) (t₂ : Bool) (e₂ : t₂ ≡ anyOf (groupOff (x .first) (x .carbon)) (groupsDrawn x)) where
       pub off-group : t₂ ≡ true → Says x true offChain
       off-group f₂ = record { is = λ r d w. sym (off-as r d w ∙ rw (sym e₁ ∙ f₁, sym e₂ ∙ f₂)) }
 
-      module _ (f₂ : t₂ ≡ false) (t₃ : Bool) (e₃ : t₃ ≡ anyOf (ringOff (x .first) (x .acyl)) (ringsIn (x .rings))) where
+      module _ (f₂ : t₂ ≡ false) (t₃ : Bool) (e₃ : t₃ ≡ anyOf (ringOff (x .first) (x .acyl)) (ringsDrawn x)) where
         pub off-ring : t₃ ≡ true → Says x true offChain
         off-ring f₃ = record { is = λ r d w. sym (off-as r d w ∙ rw (sym e₁ ∙ f₁, sym e₂ ∙ f₂, sym e₃ ∙ f₃)) }
 
@@ -158,7 +126,7 @@ module _ (x : Drawn) where
                 off-as r d w
                 ∙ rw (sym e₁ ∙ f₁, sym e₂ ∙ f₂, sym e₃ ∙ f₃, f₄, eq-eqb (x .carbon) 0 (omega arith)) (or-false (not (isEmpty (d .groups))))
 
-            module _ (h : x .carbon ≤ 0) (n : ℕ) (l : Length 18 (groupsIn (x .floats)) n) where
+            module _ (h : x .carbon ≤ 0) (room n : ℕ) (l : Length room (floatsDrawn x) n) where
               pub on-nothing : n ≡ 0 → Says x false offChain
               unfolding groupsOn floating
               on-nothing z =

@@ -1,8 +1,5 @@
 // 32: a feature off the chain that is drawn. What that is, is said by the definitions of the crate `chain`.
-use drawable::Bonds;
 use drawable::Drawn;
-use drawable::Groups;
-use drawable::Rings;
 use record::DbPos;
 use record::Mod;
 use record::Ring;
@@ -57,18 +54,14 @@ fn ring_off(ring: Ring, first: u16, acyl: bool) -> bool
     false
 }
 
-// Whether some double bond is off the chain. The array is read in a local of its own, which is made only where there is a bond.
-fn any_bond_off(bonds: Bonds, first: u16, carbon: u16) -> bool
-    ensures { λ r. ⌜ r ≡ anyOf (doubleOff first carbon) (bondsIn bonds) ⌝ }
+// Whether some double bond is off the chain.
+fn any_bond_off(bonds: &[u64], count: usize, first: u16, carbon: u16) -> bool
+    ensures { λ r. ⌜ r ≡ anyOf (doubleOff first carbon) (bondsIn count (now (bonds .entry))) ⌝ }
 {
-    let n = bonds.len();
-    if n == 0 {
-        return false;
-    }
-    let items = bonds.items;
+    let n = drawable::bonds_len(bonds, count);
     let mut i = 0;
     while i < n {
-        let bond = items[i];
+        let bond = drawable::nth_bond(bonds, count, i);
         if bond_off(bond, first, carbon) {
             return true;
         }
@@ -78,13 +71,13 @@ fn any_bond_off(bonds: Bonds, first: u16, carbon: u16) -> bool
 }
 
 // Whether some group is off the chain.
-fn any_group_off(groups: Groups, first: u16, carbon: u16) -> bool
-    ensures { λ r. ⌜ r ≡ anyOf (groupOff first carbon) (groupsIn groups) ⌝ }
+fn any_group_off(groups: &[u64], count: usize, first: u16, carbon: u16) -> bool
+    ensures { λ r. ⌜ r ≡ anyOf (groupOff first carbon) (groupsIn count (now (groups .entry))) ⌝ }
 {
-    let n = groups.len();
+    let n = drawable::groups_len(groups, count);
     let mut i = 0;
     while i < n {
-        let group = groups.at(i);
+        let group = drawable::nth_group(groups, count, i);
         if group_off(group, first, carbon) {
             return true;
         }
@@ -94,13 +87,13 @@ fn any_group_off(groups: Groups, first: u16, carbon: u16) -> bool
 }
 
 // Whether some ring starts off the chain.
-fn any_ring_off(rings: Rings, first: u16, acyl: bool) -> bool
-    ensures { λ r. ⌜ r ≡ anyOf (ringOff first acyl) (ringsIn rings) ⌝ }
+fn any_ring_off(rings: &[u64], count: usize, first: u16, acyl: bool) -> bool
+    ensures { λ r. ⌜ r ≡ anyOf (ringOff first acyl) (ringsIn count (now (rings .entry))) ⌝ }
 {
-    let n = rings.len();
+    let n = drawable::rings_len(rings, count);
     let mut i = 0;
     while i < n {
-        let ring = rings.at(i);
+        let ring = drawable::nth_ring(rings, count, i);
         if ring_off(ring, first, acyl) {
             return true;
         }
@@ -118,17 +111,13 @@ pub fn off_chain(x: Drawn) -> bool
     let carbon = x.carbon;
     let acyl = x.acyl;
     let ether_base = x.ether_base;
-    let bonds = x.bonds;
-    let groups = x.groups;
-    let floats = x.floats;
-    let rings = x.rings;
-    if any_bond_off(bonds, first, carbon) {
+    if any_bond_off(&x.bonds, x.bond_count, first, carbon) {
         return true;
     }
-    if any_group_off(groups, first, carbon) {
+    if any_group_off(&x.groups, x.group_count, first, carbon) {
         return true;
     }
-    if any_ring_off(rings, first, acyl) {
+    if any_ring_off(&x.rings, x.ring_count, first, acyl) {
         return true;
     }
     if ether_base {
@@ -137,7 +126,7 @@ pub fn off_chain(x: Drawn) -> bool
     if carbon > 0 {
         return false;
     }
-    if floats.len() == 0 {
+    if drawable::groups_len(&x.floats, x.float_count) == 0 {
         return false;
     }
     true

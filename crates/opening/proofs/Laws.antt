@@ -1,11 +1,9 @@
 -- Laws of the opening of a token: one for each way out of its readers.
 -- Assumes nothing.
-use Prim.Native.Nat.{ℕ, zero, suc, _+_, _-_, _≤_, _<_}
+use Prim.Native.Nat.{ℕ, _+_, _-_, _≤_, _<_}
 use native.Mathlib.Omega.{arith}
-use mir.Syntax.{w16}
-use mir.Val.{Fits}
 use mathlib.Core.Path.{_≡_, refl, sym, ap, _∙_}
-use mathlib.Core.Bool.{Bool, true, false, not, cond, true≢false}
+use mathlib.Core.Bool.{Bool, true, false, not, cond}
 use mathlib.Core.List.{List, [], _∷_}
 use lib.ListN.{length, take, drop, getD, length-drop}
 use lib.Dec.{eqb, ltb}
@@ -18,13 +16,14 @@ use Rattle.scan.proofs.Laws.{to-end, starts-length}
 use Rattle.groups.specs.Groups.{methyl}
 use Rattle.record.specs.declared.ChainPrefix.{ChainPrefix}
 use Rattle.record.specs.declared.ChainPrefix.the-variants.{Acyl, EtherAlkyl, EtherAlkenyl, SphingoidD, SphingoidT}
-use Rattle.record.specs.declared.ParsedChain.{ParsedChain}
-use Rattle.record.specs.declared.Parsed.{Parsed}
-use Rattle.record.specs.Chain.{Chain, Outcome, Read, Refused, Stands, Holds, Takes, noFeatures, withGroup, maxCarbons, unreadable, overLimit}
+use Rattle.record.specs.Chain.{Chain, Outcome, Read, Refused, noFeatures, withGroup, maxCarbons, unreadable, overLimit}
+use Rattle.parsed.specs.Parsed.{Grows, first, groupsAs}
+use Rattle.parsed.proofs.Laws.{holds-none}
 use Rattle.opening.specs.declared.Branch.{Branch}
 use Rattle.opening.specs.declared.Branch.the-variants.{Straight, Iso, Anteiso}
 use Rattle.opening.specs.declared.Opening.{Opening}
-use Rattle.opening.specs.Opening.{isoText, anteisoText, branchOf, branchLength, etherText, alkenylText, sphingoidOf, beforeDigit, prefixOf, prefixLength, secondWord, openingOf, branchOffset, branched, startChain, carbonsBy, carbonsOf, Word, Prefixed, Opened}
+use Rattle.opening.specs.declared.Started.{Started}
+use Rattle.opening.specs.Opening.{isoText, anteisoText, branchOf, branchLength, etherText, alkenylText, sphingoidOf, beforeDigit, prefixOf, prefixLength, secondWord, openingOf, branchOffset, branched, startChain, carbonsBy, carbonsOf, Word, Prefixed, Opened, startedAs, Starts}
 
 -- ---- the branch word
 
@@ -121,37 +120,42 @@ module _ (t : List ℕ) (first : Branch) (n : ℕ) (prefix : ChainPrefix) (m : �
 -- ---- the carbons
 
 module _ (p : ChainPrefix) (offset w : ℕ) where
-  pub too-few : (c : ParsedChain) → w < offset + 3 → Stands (record { refusal = 11; chain = c }) (branched p offset w)
+  pub too-few : (r : Started) (gs : List ℕ) → w < offset + 3 → r .refusal ≡ 11 → Starts r gs (branched p offset w)
   unfolding branched
-  too-few c h = rw (lt-ltb w (offset + 3) h) (refl, omega arith)
+  too-few r gs h e = record { stands = λ bs rs. rw (lt-ltb w (offset + 3) h) (e, omega arith) }
 
-  pub methyl-on : (c r : ParsedChain) → offset + 3 ≤ w → Holds c (noFeatures p w (w - 1) true) → Takes c r (withGroup (record { pos = w - 1 - offset; row = 1 }))
-      → Stands (record { refusal = 0; chain = r }) (branched p offset w)
+  pub methyl-on : (m : ℕ) (gs ys : List ℕ) → offset + 3 ≤ w → Grows groupsAs (first 0 gs) (first m ys) (withGroup (record { pos = w - 1 - offset; row = 1 }))
+      → Starts (record { refusal = 0; prefix = p; written = w; carbon = w - 1; branched = true; groups = m }) ys (branched p offset w)
   unfolding branched
-  methyl-on c r h k t = rw (le-ltb w (offset + 3) h) (refl, t .holds (noFeatures p w (w - 1) true) k)
+  methyl-on m gs ys h t =
+      record {
+        stands = λ bs rs.
+            let start : Started = record { refusal = 0; prefix = p; written = w; carbon = w - 1; branched = true; groups = 0 } in
+            rw (le-ltb w (offset + 3) h) (refl, t .takes (startedAs start bs gs rs) .holds (noFeatures p w (w - 1) true) (holds-none p w (w - 1) true bs gs rs));
+      }
 
-module _ (p : ChainPrefix) (b : Branch) (w : ℕ) where
-  pub start-straight : (c : ParsedChain) → b ≡ Straight → Holds c (noFeatures p w w false) → Stands (record { refusal = 0; chain = c }) (startChain p b w)
-  start-straight c e k = rw e (refl, k)
+module _ (p : ChainPrefix) (b : Branch) (w : ℕ) (gs : List ℕ) where
+  pub start-straight : b ≡ Straight → Starts (record { refusal = 0; prefix = p; written = w; carbon = w; branched = false; groups = 0 }) gs (startChain p b w)
+  start-straight e = rw e (record { stands = λ bs rs. (refl, holds-none p w w false bs gs rs) })
 
-  pub start-iso : (o : ℕ) (r : Parsed) → b ≡ Iso → o ≡ branchOffset b → Stands r (branched p o w) → Stands r (startChain p b w)
+  pub start-iso : (o : ℕ) (r : Started) → b ≡ Iso → o ≡ branchOffset b → Starts r gs (branched p o w) → Starts r gs (startChain p b w)
   start-iso o r e f s = let g : o ≡ 1 = f ∙ ap branchOffset e in rw e (rw g at s)
 
-  pub start-anteiso : (o : ℕ) (r : Parsed) → b ≡ Anteiso → o ≡ branchOffset b → Stands r (branched p o w) → Stands r (startChain p b w)
+  pub start-anteiso : (o : ℕ) (r : Started) → b ≡ Anteiso → o ≡ branchOffset b → Starts r gs (branched p o w) → Starts r gs (startChain p b w)
   start-anteiso o r e f s = let g : o ≡ 2 = f ∙ ap branchOffset e in rw e (rw g at s)
 
-module _ (p : ChainPrefix) (b : Branch) (t : List ℕ) (v : Number) (e : v ≡ numberUpTo 4294967295 t) where
-  pub carbons-unreadable : (c : ParsedChain) → v ≡ Unreadable → Stands (record { refusal = 11; chain = c }) (carbonsOf p b t)
+module _ (p : ChainPrefix) (b : Branch) (t : List ℕ) (v : Number) (e : v ≡ numberUpTo 4294967295 t) (r : Started) (gs : List ℕ) where
+  pub carbons-unreadable : v ≡ Unreadable → r .refusal ≡ 11 → Starts r gs (carbonsOf p b t)
   unfolding carbonsOf
-  carbons-unreadable c f = rw (sym e ∙ f) (refl, omega arith)
+  carbons-unreadable f h = record { stands = λ bs rs. rw (sym e ∙ f) (h, omega arith) }
 
-  pub carbons-over : (c : ParsedChain) (n : ℕ) → v ≡ Value n → 255 < n → Stands (record { refusal = 31; chain = c }) (carbonsOf p b t)
+  pub carbons-over : (n : ℕ) → v ≡ Value n → 255 < n → r .refusal ≡ 31 → Starts r gs (carbonsOf p b t)
   unfolding carbonsOf
-  carbons-over c n f h = rw (sym e ∙ f, lt-ltb maxCarbons n h) (refl, omega arith)
+  carbons-over n f h k = record { stands = λ bs rs. rw (sym e ∙ f, lt-ltb maxCarbons n h) (k, omega arith) }
 
-  pub carbons-read : (r : Parsed) (n : ℕ) → v ≡ Value n → n ≤ 255 → Stands r (startChain p b n) → Stands r (carbonsOf p b t)
+  pub carbons-read : (n : ℕ) → v ≡ Value n → n ≤ 255 → Starts r gs (startChain p b n) → Starts r gs (carbonsOf p b t)
   unfolding carbonsOf
-  carbons-read r n f h s = rw (sym e ∙ f, le-ltb maxCarbons n h) s
+  carbons-read n f h s = record { stands = λ bs rs. rw (sym e ∙ f, le-ltb maxCarbons n h) (s .stands bs rs) }
 
 -- ---- what callers use: the chain that carbons give
 

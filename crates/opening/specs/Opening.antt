@@ -13,10 +13,13 @@ use Rattle.scan.specs.declared.Number.the-variants.{Value, Unreadable}
 use Rattle.groups.specs.Groups.{methyl}
 use Rattle.record.specs.declared.ChainPrefix.{ChainPrefix}
 use Rattle.record.specs.declared.ChainPrefix.the-variants.{Acyl, EtherAlkyl, EtherAlkenyl, SphingoidD, SphingoidT}
+use Rattle.parsed.specs.declared.ParsedChain.{ParsedChain}
+use Rattle.parsed.specs.Parsed.{Stands}
 use Rattle.record.specs.Chain.{Outcome, Read, Refused, unreadable, overLimit, maxCarbons, noFeatures, withGroup}
 use Rattle.opening.specs.declared.Branch.{Branch}
 use Rattle.opening.specs.declared.Branch.the-variants.{Straight, Iso, Anteiso}
 use Rattle.opening.specs.declared.Opening.{Opening}
+use Rattle.opening.specs.declared.Started.{Started}
 
 -- `iso-`
 abbrev pub isoText : List ℕ
@@ -120,3 +123,12 @@ pub record Prefixed (s : List ℕ) (r : ChainPrefix) : Type 0 where
 pub record Opened (t : List ℕ) (r : Opening) : Type 0 where
   pub is : r ≡ openingOf t
   pub within : r .carbons ≤ length t
+
+-- the record of a chain that was started, with these arrays
+abbrev pub startedAs : Started → List ℕ → List ℕ → List ℕ → ParsedChain
+startedAs r bs gs rs =
+    record { prefix = r .prefix; written = r .written; carbon = r .carbon; branched = r .branched; unlocated = 0; oxygens = 0; «bond_count» = 0; bonds = bs; «group_count» = r .groups; groups = gs; «ring_count» = 0; rings = rs }
+
+-- r stands for an outcome, with the groups gs
+pub record Starts (r : Started) (gs : List ℕ) (o : Outcome) : Type 0 where
+  pub stands : (bs rs : List ℕ) → Stands (record { refusal = r .refusal; chain = startedAs r bs gs rs }) o

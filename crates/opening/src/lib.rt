@@ -1,15 +1,15 @@
-// The opening of a token: branch word, prefix and carbons, up to a chain that has nothing on it but the methyl of its branch word. Every byte
-// string has an answer; carbons that are unreadable, or too few for the branch word, are refused by 11 and too many by 31.
+// The opening of a token: branch word, prefix and carbons, up to a chain that has nothing on it but the methyl of its branch word, which is
+// written to a lent array. Every byte string has an answer; carbons that are unreadable, or too few for the branch word, are refused by 11 and
+// too many by 31.
 use groups::METHYL;
 use record::ChainPrefix;
 use record::Mod;
-use record::Parsed;
-use record::ParsedChain;
 use scan::Number;
 ghost use mathlib.Core.Path.{_≡_};
 ghost use Prim.Native.Nat.{_≤_};
-ghost use Rattle.record.specs.Chain.{Stands};
-ghost use Rattle.opening.specs.Opening.{Word, Prefixed, branchLength, branchOffset, prefixLength, sphingoidOf, Opened, branched, startChain, carbonsOf};
+ghost use lib.ListN.{length};
+ghost use Rattle.record.specs.Chain.{maxGroups};
+ghost use Rattle.opening.specs.Opening.{Word, Prefixed, branchLength, branchOffset, prefixLength, sphingoidOf, Opened, Starts, branched, startChain, carbonsOf};
 
 // The branch word before the carbons.
 pub enum Branch {
@@ -142,60 +142,91 @@ fn branch_offset(b: Branch) -> u16
     }
 }
 
-// A chain with a branch word: one carbon of those written is the methyl. The chain is made in the room of one at hand.
-fn branched_chain(prefix: ChainPrefix, offset: u16, written: u16, room: ParsedChain) -> Parsed
+// The start of a chain: its prefix; the carbons written, and those left after a branch word; whether there was one, and how many groups it gave; or a
+// refusal by its number (0: none).
+pub struct Started {
+    pub refusal: u16,
+    pub prefix: ChainPrefix,
+    pub written: u16,
+    pub carbon: u16,
+    pub branched: bool,
+    pub groups: usize,
+}
+
+// Refused: what stands beside the number says nothing.
+fn refused(refusal: u16) -> Started
+    ensures { λ r. ⌜ r .refusal ≡ refusal ⌝ }
+{
+    Started {
+        refusal,
+        prefix: ChainPrefix::Acyl,
+        written: 0,
+        carbon: 0,
+        branched: false,
+        groups: 0,
+    }
+}
+
+// A chain with a branch word: one carbon of those written is the methyl.
+fn branched_chain(prefix: ChainPrefix, offset: u16, written: u16, groups: &mut [u64]) -> Started
     requires { ⌜ offset ≤ 2 ⌝ }
-    ensures { λ r. ⌜ Stands r (branched prefix offset written) ⌝ }
+    requires { ⌜ maxGroups ≤ length (now groups) ⌝ }
+    ensures { λ r. ⌜ Starts r (now (groups .exit)) (branched prefix offset written) ⌝ }
 {
     if written < offset + 3 {
-        return Parsed {
-            refusal: record::UNREADABLE,
-            chain: room,
-        };
+        return refused(record::UNREADABLE);
     }
     let carbon = written - 1;
-    let chain = room.emptied(prefix, written, carbon, true);
     let methyl = Mod {
         pos: (carbon - offset) as u32,
         row: METHYL,
     };
-    let whole = chain.push_group(methyl);
-    Parsed {
+    let count = parsed::push_group(groups, 0, methyl);
+    Started {
         refusal: 0,
-        chain: whole,
+        prefix,
+        written,
+        carbon,
+        branched: true,
+        groups: count,
     }
 }
 
 // The chain of so many written carbons, with its methyl.
-fn start_chain(prefix: ChainPrefix, branch: Branch, written: u16, room: ParsedChain) -> Parsed
-    ensures { λ r. ⌜ Stands r (startChain prefix branch written) ⌝ }
+fn start_chain(prefix: ChainPrefix, branch: Branch, written: u16, groups: &mut [u64]) -> Started
+    requires { ⌜ maxGroups ≤ length (now groups) ⌝ }
+    ensures { λ r. ⌜ Starts r (now (groups .exit)) (startChain prefix branch written) ⌝ }
 {
     let offset = branch_offset(branch);
     match branch {
-        Branch::Straight => {
-            let chain = room.emptied(prefix, written, written, false);
-            Parsed { refusal: 0, chain }
-        }
-        Branch::Iso => branched_chain(prefix, offset, written, room),
-        Branch::Anteiso => branched_chain(prefix, offset, written, room),
+        Branch::Straight => Started {
+            refusal: 0,
+            prefix,
+            written,
+            carbon: written,
+            branched: false,
+            groups: 0,
+        },
+        Branch::Iso => branched_chain(prefix, offset, written, groups),
+        Branch::Anteiso => branched_chain(prefix, offset, written, groups),
     }
 }
 
 // The chain that a carbon text says.
-pub fn parse_carbons(text: &[u8], prefix: ChainPrefix, branch: Branch, room: ParsedChain) -> Parsed
-    ensures { λ r. ⌜ Stands r (carbonsOf prefix branch (now (text .entry))) ⌝ }
+pub fn parse_carbons(
+    text: &[u8],
+    prefix: ChainPrefix,
+    branch: Branch,
+    groups: &mut [u64],
+) -> Started
+    requires { ⌜ maxGroups ≤ length (now groups) ⌝ }
+    ensures { λ r. ⌜ Starts r (now (groups .exit)) (carbonsOf prefix branch (now (text .entry))) ⌝ }
 {
     let Number::Value(n) = scan::read_number(text, 4294967295) else {
-        return Parsed {
-            refusal: record::UNREADABLE,
-            chain: room,
-        };
+        return refused(record::UNREADABLE);
     };
     if (record::MAX_CARBONS as u64) < n {
-        return Parsed {
-            refusal: record::OVER_LIMIT,
-            chain: room,
-        };
+        return refused(record::OVER_LIMIT);
     }
-    start_chain(prefix, branch, n as u16, room)
+    start_chain(prefix, branch, n as u16, groups)
 }

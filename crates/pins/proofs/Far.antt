@@ -4,65 +4,65 @@ use Prim.Native.Nat.{ℕ, _+_, _<_, _≤_}
 use native.Mathlib.Omega.{arith}
 use mathlib.Core.Path.{_≡_, sym, _∙_}
 use mathlib.Core.Bool.{Bool, true, false, cond, not, _&&_}
-use mathlib.Core.List.{map}
+use mathlib.Core.List.{List, map}
 use lib.Dec.{eqb, ltb}
 use borrow.Author.Tests.{eq-eqb, ne-eqb}
+use Rattle.record.specs.declared.Mod.{Mod}
+use Rattle.record.specs.declared.Ring.{Ring}
 use Rattle.record.specs.Chain.{Chain}
 use Rattle.chain.specs.declared.Role.{Role}
 use Rattle.chain.specs.Lists.{allOf, isEmpty}
 use Rattle.chain.specs.Features.{pins}
 use Rattle.chain.specs.Refusals.{pinTooFar}
-use Rattle.drawable.specs.declared.Groups.{Groups}
-use Rattle.drawable.specs.declared.Rings.{Rings}
 use Rattle.drawable.specs.declared.Drawn.{Drawn}
-use Rattle.drawable.specs.Drawn.{groupsIn, ringsIn, groupPin, Length, Draws, Says}
+use Rattle.drawable.specs.Drawn.{groupsDrawn, ringsDrawn, groupPin, Length, Draws, Says}
 use Rattle.pins.specs.Pins.{ringPin, pinsIn}
 use Rattle.drawable.proofs.Lists.{all-append, empty-append, empty-map, some-empty, none-empty}
 
 pub bound-other : (f : ℕ) (a : Bool) → a ≡ false → f + 1 ≡ cond a 3 (f + 1)
 bound-other f a h = rw h
 
-module _ (gs : Groups) (rs : Rings) where
-  empty-as : isEmpty (pinsIn gs rs) ≡ isEmpty (groupsIn gs) && isEmpty (ringsIn rs)
-  empty-as = empty-append (map groupPin (groupsIn gs)) (map ringPin (ringsIn rs)) ∙ rw (empty-map groupPin (groupsIn gs), empty-map ringPin (ringsIn rs))
+module _ (gs : List Mod) (rs : List Ring) where
+  empty-as : isEmpty (pinsIn gs rs) ≡ isEmpty gs && isEmpty rs
+  empty-as = empty-append (map groupPin gs) (map ringPin rs) ∙ rw (empty-map groupPin gs, empty-map ringPin rs)
 
-  module _ (n : ℕ) (l : Length 18 (groupsIn gs) n) where
+  module _ (room n : ℕ) (l : Length room gs n) where
     pub pins-group : 0 < n → false ≡ isEmpty (pinsIn gs rs)
-    pins-group h = sym (empty-as ∙ rw (some-empty (groupsIn gs) (omega (arith, l .is))))
+    pins-group h = sym (empty-as ∙ rw (some-empty gs (omega (arith, l .is))))
 
-    module _ (z : n ≤ 0) (m : ℕ) (k : Length 8 (ringsIn rs) m) where
+    module _ (z : n ≤ 0) (space m : ℕ) (k : Length space rs m) where
       pub pins-ring : 0 < m → false ≡ isEmpty (pinsIn gs rs)
-      pins-ring h = sym (empty-as ∙ rw (none-empty (groupsIn gs) (omega (arith, l .is)), some-empty (ringsIn rs) (omega (arith, k .is))))
+      pins-ring h = sym (empty-as ∙ rw (none-empty gs (omega (arith, l .is)), some-empty rs (omega (arith, k .is))))
 
       pub pins-none : m ≤ 0 → true ≡ isEmpty (pinsIn gs rs)
-      pins-none h = sym (empty-as ∙ rw (none-empty (groupsIn gs) (omega (arith, l .is)), none-empty (ringsIn rs) (omega (arith, k .is))))
+      pins-none h = sym (empty-as ∙ rw (none-empty gs (omega (arith, l .is)), none-empty rs (omega (arith, k .is))))
 
 module _ (x : Drawn) where
-  pins-as : (r : Role) (d : Chain) → Draws r d x → pins r d ≡ pinsIn (x .groups) (x .rings)
+  pins-as : (r : Role) (d : Chain) → Draws r d x → pins r d ≡ pinsIn (groupsDrawn x) (ringsDrawn x)
   unfolding pins
   pins-as r d w = rw (w .groups, w .rings)
 
   far-as : (r : Role) (d : Chain) → Draws r d x
       → pinTooFar r d
-      ≡ not (eqb (x .unlocated) 0) && not (isEmpty (pinsIn (x .groups) (x .rings)))
-      && allOf (ltb (cond (x .acyl) 3 (x .first + 1))) (pinsIn (x .groups) (x .rings))
+      ≡ not (eqb (x .unlocated) 0) && not (isEmpty (pinsIn (groupsDrawn x) (ringsDrawn x)))
+      && allOf (ltb (cond (x .acyl) 3 (x .first + 1))) (pinsIn (groupsDrawn x) (ringsDrawn x))
   unfolding pinTooFar
   far-as r d w = rw (← w .unlocated, pins-as r d w, ← w .acyl, ← w .first)
 
   pub far-located : x .unlocated ≡ 0 → Says x false pinTooFar
   far-located h = record { is = λ r d w. sym (far-as r d w ∙ rw (eq-eqb (x .unlocated) 0 h)) }
 
-  module _ (h : x .unlocated ≡ 0 → ⊥) (t : Bool) (e : t ≡ isEmpty (pinsIn (x .groups) (x .rings))) where
+  module _ (h : x .unlocated ≡ 0 → ⊥) (t : Bool) (e : t ≡ isEmpty (pinsIn (groupsDrawn x) (ringsDrawn x))) where
     pub far-none : t ≡ true → Says x false pinTooFar
     far-none f = record { is = λ r d w. sym (far-as r d w ∙ rw (ne-eqb (x .unlocated) 0 h, sym e ∙ f)) }
 
-    module _ (f : t ≡ false) (b : ℕ) (k : b ≡ cond (x .acyl) 3 (x .first + 1)) (u : Bool) (g : u ≡ allOf (ltb b) (map groupPin (groupsIn (x .groups)))) where
-      far-last : (r : Role) (d : Chain) → Draws r d x → pinTooFar r d ≡ u && allOf (ltb b) (map ringPin (ringsIn (x .rings)))
+    module _ (f : t ≡ false) (b : ℕ) (k : b ≡ cond (x .acyl) 3 (x .first + 1)) (u : Bool) (g : u ≡ allOf (ltb b) (map groupPin (groupsDrawn x))) where
+      far-last : (r : Role) (d : Chain) → Draws r d x → pinTooFar r d ≡ u && allOf (ltb b) (map ringPin (ringsDrawn x))
       far-last r d w =
           far-as r d w
-          ∙ rw (ne-eqb (x .unlocated) 0 h, sym e ∙ f, ← k, g) (all-append (ltb b) (map groupPin (groupsIn (x .groups))) (map ringPin (ringsIn (x .rings))))
+          ∙ rw (ne-eqb (x .unlocated) 0 h, sym e ∙ f, ← k, g) (all-append (ltb b) (map groupPin (groupsDrawn x)) (map ringPin (ringsDrawn x)))
 
-      pub far-rings : (v : Bool) → u ≡ true → v ≡ allOf (ltb b) (map ringPin (ringsIn (x .rings))) → Says x v pinTooFar
+      pub far-rings : (v : Bool) → u ≡ true → v ≡ allOf (ltb b) (map ringPin (ringsDrawn x)) → Says x v pinTooFar
       far-rings v z i = record { is = λ r d w. sym (far-last r d w ∙ rw z (sym i)) }
 
       pub far-not : u ≡ false → Says x false pinTooFar

@@ -1,15 +1,14 @@
 -- What the contracts of the test for 13 cite, beside the definitions of `chain`: what is pinned. Assumes nothing.
 use Prim.Native.Nat.{ℕ}
 use mathlib.Core.List.{List, _++_, map}
+use Rattle.record.specs.declared.Mod.{Mod}
 use Rattle.record.specs.declared.Ring.{Ring}
-use Rattle.drawable.specs.declared.Groups.{Groups}
-use Rattle.drawable.specs.declared.Rings.{Rings}
-use Rattle.drawable.specs.Drawn.{groupsIn, ringsIn, groupPin}
+use Rattle.drawable.specs.Drawn.{groupPin}
 
 -- what a ring pins
 abbrev pub ringPin : Ring → ℕ
 ringPin x = x .start
 
 -- 01, Drawing a chain: "a first pin (located group or ring start)"
-abbrev pub pinsIn : Groups → Rings → List ℕ
-pinsIn gs rs = map groupPin (groupsIn gs) ++ map ringPin (ringsIn rs)
+abbrev pub pinsIn : List Mod → List Ring → List ℕ
+pinsIn gs rs = map groupPin gs ++ map ringPin rs

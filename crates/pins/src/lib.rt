@@ -1,8 +1,6 @@
 // 13: unlocated double bonds before a first pin (located group or ring start) too far along the chain. What that is, is said by the
 // definitions of the crate `chain`.
 use drawable::Drawn;
-use drawable::Groups;
-use drawable::Rings;
 ghost use mathlib.Core.Path.{_≡_};
 ghost use mathlib.Core.Bool.{cond};
 ghost use mathlib.Core.List.{map};
@@ -24,26 +22,26 @@ fn pin_bound(first: u16, acyl: bool) -> u32
 }
 
 // Whether there is no group and no ring to pin.
-fn no_pins(groups: Groups, rings: Rings) -> bool
-    ensures { λ r. ⌜ r ≡ isEmpty (pinsIn groups rings) ⌝ }
+fn no_pins<'a>(groups: &'a [u64], group_count: usize, rings: &'a [u64], ring_count: usize) -> bool
+    ensures { λ r. ⌜ r ≡ isEmpty (pinsIn (groupsIn «group_count» (now (groups .entry))) (ringsIn «ring_count» (now (rings .entry)))) ⌝ }
 {
-    if groups.len() > 0 {
+    if drawable::groups_len(groups, group_count) > 0 {
         return false;
     }
-    if rings.len() > 0 {
+    if drawable::rings_len(rings, ring_count) > 0 {
         return false;
     }
     true
 }
 
 // Whether every group is past a carbon.
-fn groups_past(groups: Groups, bound: u32) -> bool
-    ensures { λ r. ⌜ r ≡ allOf (ltb bound) (map groupPin (groupsIn groups)) ⌝ }
+fn groups_past(groups: &[u64], count: usize, bound: u32) -> bool
+    ensures { λ r. ⌜ r ≡ allOf (ltb bound) (map groupPin (groupsIn count (now (groups .entry)))) ⌝ }
 {
-    let n = groups.len();
+    let n = drawable::groups_len(groups, count);
     let mut i = 0;
     while i < n {
-        let group = groups.at(i);
+        let group = drawable::nth_group(groups, count, i);
         if group.pos <= bound {
             return false;
         }
@@ -53,13 +51,13 @@ fn groups_past(groups: Groups, bound: u32) -> bool
 }
 
 // Whether every ring starts past a carbon.
-fn rings_past(rings: Rings, bound: u32) -> bool
-    ensures { λ r. ⌜ r ≡ allOf (ltb bound) (map ringPin (ringsIn rings)) ⌝ }
+fn rings_past(rings: &[u64], count: usize, bound: u32) -> bool
+    ensures { λ r. ⌜ r ≡ allOf (ltb bound) (map ringPin (ringsIn count (now (rings .entry)))) ⌝ }
 {
-    let n = rings.len();
+    let n = drawable::rings_len(rings, count);
     let mut i = 0;
     while i < n {
-        let ring = rings.at(i);
+        let ring = drawable::nth_ring(rings, count, i);
         if ring.start as u32 <= bound {
             return false;
         }
@@ -72,17 +70,15 @@ fn rings_past(rings: Rings, bound: u32) -> bool
 pub fn pin_too_far(x: Drawn) -> bool
     ensures { λ r. ⌜ Says x r pinTooFar ⌝ }
 {
-    let groups = x.groups;
-    let rings = x.rings;
     if x.unlocated == 0 {
         return false;
     }
-    if no_pins(groups, rings) {
+    if no_pins(&x.groups, x.group_count, &x.rings, x.ring_count) {
         return false;
     }
     let bound = pin_bound(x.first, x.acyl);
-    if groups_past(groups, bound) {
-        return rings_past(rings, bound);
+    if groups_past(&x.groups, x.group_count, bound) {
+        return rings_past(&x.rings, x.ring_count, bound);
     }
     false
 }

@@ -1,3 +1,2 @@
-pub mod Sn
 pub mod Laws
 pub mod Ready

@@ -1,61 +1,61 @@
--- What a chain with its counts holds, and the chains of a request in their places, by numbers alone. Assumes nothing.
-use Prim.Native.Nat.{ℕ, suc, _≤_, min}
+-- The chains of a request by sn, and where each of them stands, by numbers alone. Assumes nothing.
+use Prim.Native.Nat.{ℕ, zero, suc, _+_, _≤_}
 use mathlib.Core.Path.{_≡_}
-use mathlib.Core.Bool.{Bool, cond}
 use mathlib.Core.Option.{Option, none, some}
 use mathlib.Core.List.{List, [], _∷_, _++_}
-use lib.Dec.{eqb}
 use lib.ListN.{length}
 use Rattle.record.specs.Chain.{Chain}
+use Rattle.reading.specs.Chain.{chainEnd}
 use Rattle.chain.specs.declared.Role.{Role}
+use Rattle.chain.specs.Features.{isAcyl, drawnCount, floating}
+use Rattle.chain.specs.Drawing.{carbons, carbonAtoms, flexibleAtom}
 use Rattle.drawable.specs.declared.Drawn.{Drawn}
-use Rattle.drawable.specs.Drawn.{Draws, Says}
+use Rattle.drawable.specs.declared.Chains.{Chains}
+use Rattle.drawable.specs.Drawn.{Draws}
+use Rattle.drawable.specs.Chains.{drawnIn}
+use Rattle.branches.specs.Text.{rowsIn}
 use Rattle.fragment.specs.Segment.{Readable}
-use Rattle.atoms.specs.Atoms.{AtomsAre, AtomsOf}
+use Rattle.atoms.specs.Atoms.{indices}
 use Rattle.atoms.specs.Sum.{sumOf}
 use Rattle.template.specs.Request as request
-use Rattle.template.specs.Request.{nonempty, indicesOf}
+use Rattle.template.specs.Request.{nonempty, headCarbons, indicesOf}
 use Rattle.template.specs.Promise.{Each}
-use Rattle.placed.specs.declared.CxFragment.{CxFragment}
-use Rattle.placed.specs.declared.Slots.{Slots}
 use Rattle.placed.specs.declared.Placed.{Placed}
 
--- ---- a chain and its counts
+-- ---- a chain of the request
 
--- f is the chain x with its counts
-pub record FragmentOf (x : Drawn) (f : CxFragment) : Type 0 where
-  pub chain : f .chain ≡ x
-  pub atoms : AtomsOf x (f .atoms)
-  pub total : Says x (f .total) sumOf
-
--- x is the chain d where it stands as r, which has carbons, with its atoms counted
-pub record Carries (r : Role) (d : Chain) (x : CxFragment) : Type 0 where
+-- x is the chain d where it stands as r, which has carbons and is drawn as far as there is room
+pub record Carries (r : Role) (d : Chain) (x : Drawn) : Type 0 where
   pub some : 1 ≤ d .carbon
-  pub draws : Draws r d (x .chain)
+  pub draws : Draws r d x
   pub readable : Readable d
-  pub atoms : AtomsAre r d (x .atoms)
-  pub total : x .total ≡ sumOf r d
-  pub size : length (x .atoms .carbons) ≡ 256
-  pub room : x .atoms .count ≤ 256
-  pub few : x .atoms .end ≤ 65535
+  pub drawn : drawnCount r d ≤ 256
   pub bonds : d .unlocated ≤ 65535
   pub rings : length (d .rings) ≤ 8
 
 -- x is the chain that is drawn, or has no carbons where none is
-abbrev pub Stands : Role → Option Chain → CxFragment → Type 0
-Stands r none x = x .chain .carbon ≡ 0
+abbrev pub Stands : Role → Option Chain → Drawn → Type 0
+Stands r none x = x .carbon ≡ 0
 Stands r (some d) x = Carries r d x
 
--- ---- the chains of a request
+-- the chain with this sn, if there is one
+unfoldable pub drawnAt : ℕ → List Drawn → Option Drawn
+drawnAt sn [] = none
+drawnAt zero (x ∷ xs) = none
+drawnAt (suc zero) (x ∷ xs) = some x
+drawnAt (suc (suc sn)) (x ∷ xs) = drawnAt (suc sn) xs
 
--- the chains of the tokens, from an sn on, each in its role
-abbrev pub Stood : (ℕ → Role) → List Chain → ℕ → List CxFragment → Type 0
-Stood ρ ds sn [] = Unit {0}
-Stood ρ ds sn (x ∷ xs) = Stands (ρ sn) (nonempty sn ds) x × Stood ρ ds (suc sn) xs
+abbrev pub IsDrawn : Option Drawn → Drawn → Type 0
+IsDrawn none f = f .carbon ≡ 0
+IsDrawn (some x) f = f ≡ x
 
--- the chain of an sn
-abbrev pub fragmentAt : Slots → ℕ → CxFragment
-fragmentAt s sn = cond (eqb sn 1) (s .s1) (cond (eqb sn 2) (s .s2) (cond (eqb sn 3) (s .s3) (s .s4)))
+-- f is the chain of an sn, or has no carbons where there is none
+pub record ChainAt (x : Chains) (sn : ℕ) (f : Drawn) : Type 0 where
+  pub is : IsDrawn (drawnAt sn (drawnIn x)) f
+
+-- the chain of every sn stands in its role
+pub record Stood (ρ : ℕ → Role) (ds : List Chain) (x : Chains) : Type 0 where
+  pub stands : (sn : ℕ) (f : Drawn) → ChainAt x sn f → Stands (ρ sn) (nonempty sn ds) f
 
 -- ---- a chain in its place, by numbers alone
 
@@ -64,20 +64,30 @@ siteOr n none = n
 siteOr n (some i) = i
 
 unfoldable pub noted : request.Placed → Placed
-noted p = record { sn = p .sn; role = p .role; first = p .first; site = siteOr (p .first) (p .site); variable = p .variable }
+unfolding indicesOf
+noted p =
+    record { sn = p .sn; role = p .role; first = p .first; site = siteOr (p .first) (p .site); variable = p .variable; count = length (indicesOf p); acyl = isAcyl (p .role) (p .chain .prefix); unlocated = p .chain .unlocated; flexible = flexibleAtom (p .role) (p .chain) 0; floats = chainEnd 0 (carbons (p .role) (p .chain)); total = sumOf (p .role) (p .chain); «float_count» = length (floating (p .chain)) }
 
--- a count with room for a chain's
-abbrev pub inRoom : ℕ → ℕ
-inRoom n = min n 4294000000
+-- its indices, each at most the largest number that a `u16` holds
+unfoldable pub indexList : request.Placed → List ℕ
+indexList p = headCarbons (p .role) ++ indices (p .first) (carbonAtoms (p .role) (p .chain) 0)
+
+-- the rows of its floating groups
+unfoldable pub rowsOf : request.Placed → List ℕ
+rowsOf p = rowsIn (floating (p .chain))
 
 -- what is said of each, one after the other
-unfoldable pub gathered : {A : Type 0} → (Placed → List A) → List Placed → List A
+unfoldable pub gathered : {A B : Type 0} → (B → List A) → List B → List A
 gathered f [] = []
 gathered f (p ∷ ps) = f p ++ gathered f ps
 
--- the chain of a place is at hand, and its numbers leave room
-pub record Told (s : Slots) (p : request.Placed) : Type 0 where
-  pub carries : Carries (p .role) (p .chain) (fragmentAt s (p .sn))
+-- the numbers of each, added up
+unfoldable pub summed : {B : Type 0} → (B → ℕ) → List B → ℕ
+summed f [] = 0
+summed f (p ∷ ps) = f p + summed f ps
+
+-- the numbers of a place leave room
+pub record Told (p : request.Placed) : Type 0 where
   pub first : p .first ≤ 4294000000
   pub variable : p .variable ≤ 4294000000
   pub indices : Each (λ i. i ≤ 65535) (indicesOf p)

@@ -6,7 +6,7 @@ use native.Mathlib.Omega.{arith}
 use mathlib.Core.Path.{_≡_, refl, sym, ap, _∙_}
 use mathlib.Core.Bool.{Bool, true, false, cond}
 use mathlib.Core.List.{List}
-use lib.ListN.{length, take, drop, getD, set, length-set}
+use lib.ListN.{length, take, drop, getD}
 use lib.Dec.{eqb, ltb}
 use borrow.Author.Tests.{lt-ltb, le-ltb, eq-eqb, ne-eqb}
 use mir.Syntax.{w32}
@@ -20,14 +20,13 @@ use Rattle.form.specs.Parts.{partsAt, listParts}
 use Rattle.record.specs.declared.DbPos.{DbPos}
 use Rattle.record.specs.declared.Geometry.{Geometry}
 use Rattle.record.specs.declared.Geometry.the-variants.{Unstated, Cis, Trans}
-use Rattle.record.specs.declared.ParsedChain.{ParsedChain}
-use Rattle.record.specs.declared.Parsed.{Parsed}
-use Rattle.record.specs.Chain.{Chain, Outcome, Refused, unreadable, withBond, Gives, Takes}
-use Rattle.record.proofs.Laws.{bond-kept, bond-over, gives-read, gives-same}
+use Rattle.record.specs.Chain.{Chain, Outcome, Refused, unreadable, withBond}
+use Rattle.parsed.specs.declared.Pushed.{Pushed}
+use Rattle.parsed.specs.Parsed.{Counting, bondsAs, Grows, Fills, Pushes}
+use Rattle.parsed.proofs.Laws.{fills-11, fills-read, fills-same}
 use Rattle.positions.specs.declared.Position.{Position}
 use Rattle.positions.specs.declared.Position.the-variants.{At, Unreadable}
 use Rattle.positions.specs.Positions.{geometryOf, positioned, numbered, lettered, positionOf, withPosition, bondAt, bondList, inside, within, ringPosition, ringBondAt, ringBondList}
-use Rattle.positions.proofs.Refusals.{gives-11}
 use Rattle.positions.specs.Each.{each}
 use Rattle.positions.proofs.Each.{Onward, each-start, each-stop, each-last, each-more, each-same}
 
@@ -104,51 +103,31 @@ ring-bond start end s d = go (positionOf s)
         ∙ ap (λ (o : Outcome). cond (ltb (b .pos) start) (Refused unreadable) o) (cond-apart add (ltb (b .pos) end) (At b) Unreadable))
     go Unreadable = refl
 
--- q is c with a double bond more, and with an array of the same length
-pub record Longer (c q : ParsedChain) (b : DbPos) : Type 0 where
-  pub takes : Takes c q (withBond b)
-  pub room : length (q .bonds) ≡ 32
+-- the loop: what is left to do gives what was to be done
 
-module _ (c q : ParsedChain) (b : DbPos) (l : length (c .bonds) ≡ 32) where
-  -- the bond is stored
-  pub bond-stored : c .«bond_count» < 32 → q ≡ record { prefix = c .prefix; written = c .written; carbon = c .carbon; branched = c .branched; unlocated = c .unlocated; oxygens = c .oxygens; «bond_count» = c .«bond_count» + 1; bonds = set (c .bonds) (c .«bond_count») b; «group_count» = c .«group_count»; groups = c .groups; «ring_count» = c .«ring_count»; rings = c .rings } → Longer c q b
-  bond-stored h e = record { takes = rw e (bond-kept c b l h); room = rw e (length-set (c .bonds) (c .«bond_count») b ∙ l) }
-
-  -- the bond is only counted
-  pub bond-counted : 32 ≤ c .«bond_count» → q ≡ record { prefix = c .prefix; written = c .written; carbon = c .carbon; branched = c .branched; unlocated = c .unlocated; oxygens = c .oxygens; «bond_count» = 32 + 1; bonds = c .bonds; «group_count» = c .«group_count»; groups = c .groups; «ring_count» = c .«ring_count»; rings = c .rings } → Longer c q b
-  bond-counted h e = record { takes = rw e (bond-over c b l h); room = rw e l }
-
--- the invariant of the loop: what is left to do gives what was to be done, and the array has its length
-pub record Bonding (e c : ParsedChain) (start end : ℕ) (whole : Chain → Outcome) (t : List ℕ) : Type 0 where
-  pub onward : Onward e c whole (each (ringBondAt start end) (partsAt 44 t))
-  pub room : length (c .bonds) ≡ 32
-
-pub bonding-start : (start end : ℕ) (s : List ℕ) (c : ParsedChain) → (length s ≡ 0 → ⊥) → length (c .bonds) ≡ 32 → Bonding c c start end (ringBondList start end s) s
+pub bonding-start : (start end : ℕ) (s : List ℕ) (c : Counting) → (length s ≡ 0 → ⊥) → Onward bondsAs c c (ringBondList start end s) (each (ringBondAt start end) (partsAt 44 s))
 unfolding ringBondList
-bonding-start start end s c h l = record { onward = each-start (ringBondAt start end) s c h; room = l }
+bonding-start start end s c h = each-start (ringBondAt start end) s c h
 
-module _ (start end : ℕ) (e c : ParsedChain) (whole : Chain → Outcome) (t : List ℕ) (n : ℕ) (p : Position)
-    (k : Bonding e c start end whole t) (f : Place t (indexOf 44 t) n) (g : p ≡ ringPosition start end (take (n - 0) t)) where
+module _ (start end : ℕ) (e c : Counting) (whole : Chain → Outcome) (t : List ℕ) (n : ℕ) (p : Position)
+    (k : Onward bondsAs e c whole (each (ringBondAt start end) (partsAt 44 t))) (f : Place t (indexOf 44 t) n) (g : p ≡ ringPosition start end (take (n - 0) t)) where
   -- a part that cannot be read ends the loop
-  pub bond-unreadable : (r : Parsed) → p ≡ Unreadable → r .refusal ≡ 11 → Gives e r whole
-  bond-unreadable r h z =
-      each-stop (ringBondAt start end) 44 e c whole t n r (k .onward) f
-      (gives-11 c r (ringBondAt start end (take (n - 0) t)) z (λ d w. ring-bond start end (take (n - 0) t) d ∙ rw (sym g ∙ h))) (λ y. absurd (omega arith))
+  pub bond-unreadable : p ≡ Unreadable → Fills bondsAs e (record { refusal = 11; state = c }) whole
+  bond-unreadable h =
+      each-stop (ringBondAt start end) 44 e c whole t n (record { refusal = 11; state = c }) k f
+      (fills-11 c (record { refusal = 11; state = c }) (ringBondAt start end (take (n - 0) t)) refl (λ x d w. ring-bond start end (take (n - 0) t) d ∙ rw (sym g ∙ h))) (λ y. absurd (omega arith))
 
-  module _ (b : DbPos) (h : p ≡ At b) (q : ParsedChain) (w : Longer c q b) where
-    added : Gives c (record { refusal = 0; chain = q }) (ringBondAt start end (take (n - 0) t))
-    added = gives-same (gives-read (w .takes)) (λ d k. sym (ring-bond start end (take (n - 0) t) d ∙ rw (sym g ∙ h)))
+  module _ (b : DbPos) (h : p ≡ At b) (q : Counting) (w : Grows bondsAs c q (withBond b)) where
+    added : Fills bondsAs c (record { refusal = 0; state = q }) (ringBondAt start end (take (n - 0) t))
+    added = fills-same (fills-read w) (λ x d k. sym (ring-bond start end (take (n - 0) t) d ∙ rw (sym g ∙ h)))
 
     -- so does the last part
-    pub bond-last : n ≡ length t → Gives e (record { refusal = 0; chain = q }) whole
-    bond-last l = each-last (ringBondAt start end) 44 e c whole t n (record { refusal = 0; chain = q }) (k .onward) f added l
+    pub bond-last : n ≡ length t → Fills bondsAs e (record { refusal = 0; state = q }) whole
+    bond-last l = each-last (ringBondAt start end) 44 e c whole t n (record { refusal = 0; state = q }) k f added l
 
     -- a double bond more, and more to come
-    pub bond-more : (n ≡ length t → ⊥) → Bonding e q start end whole (take (length t - (n + 1)) (drop (n + 1) t))
-    bond-more l = record { onward = more l; room = w .room }
-      where
-        more : (n ≡ length t → ⊥) → Onward e q whole (each (ringBondAt start end) (partsAt 44 (take (length t - (n + 1)) (drop (n + 1) t))))
-        more l = each-more (ringBondAt start end) 44 e c whole t n (record { refusal = 0; chain = q }) (k .onward) f added l refl
+    pub bond-more : (n ≡ length t → ⊥) → Onward bondsAs e q whole (each (ringBondAt start end) (partsAt 44 (take (length t - (n + 1)) (drop (n + 1) t))))
+    bond-more l = each-more (ringBondAt start end) 44 e c q whole t n 0 k f added l refl
 
 -- ---- the list
 
@@ -186,6 +165,6 @@ any-bond s d = go (positionOf s) refl
     go (At b) e = rw (le-ltb (b .pos) 0 (omega arith), lt-ltb (b .pos) 4294967296 (position-below s (At b) b e refl))
     go Unreadable e = refl
 
-pub any-list : (s : List ℕ) (c : ParsedChain) (r : Parsed) → Gives c r (ringBondList 0 4294967296 s) → Gives c r (bondList s)
+pub any-list : (s xs ys : List ℕ) (n : ℕ) (r : Pushed) → Pushes bondsAs n xs r ys (ringBondList 0 4294967296 s) → Pushes bondsAs n xs r ys (bondList s)
 unfolding ringBondList bondList
-any-list s c r w = record { stands = λ d k. rw (each-same (ringBondAt 0 4294967296) bondAt any-bond (listParts s) d) at (w .stands d k) }
+any-list s xs ys n r w = fills-same w (λ x d k. each-same (ringBondAt 0 4294967296) bondAt any-bond (listParts s) d)

@@ -1,25 +1,16 @@
 // Lists of double bonds, `9Z,12E`: the `(..)` list after a chain's bond count, and the list of a ring. Every byte string has an answer; an
-// unreadable list is refused by 11, and how many bonds a chain may have is judged by its record afterwards. 01's sentences stand in
+// unreadable list is refused by 11, and how many bonds a chain may have is judged by their count afterwards. 01's sentences stand in
 // specs/Positions.antt.
+use parsed::Pushed;
 use record::DbPos;
 use record::Geometry;
-use record::MAX_BONDS;
-use record::Parsed;
-use record::ParsedChain;
 use scan::Number;
 ghost use mathlib.Core.Path.{_≡_};
-ghost use Rattle.record.specs.Chain.{Gives};
+ghost use Prim.Native.Nat.{_≤_};
+ghost use lib.ListN.{length};
+ghost use Rattle.record.specs.Chain.{maxBonds};
+ghost use Rattle.parsed.specs.Parsed.{Pushes, bondsAs};
 ghost use Rattle.positions.specs.Positions.{geometryOf, numbered, positionOf, bondList, ringPosition, ringBondList};
-
-// Refusal 11. The record beside it says nothing.
-pub fn unreadable(chain: ParsedChain) -> Parsed
-    ensures { λ r. ⌜ r .refusal ≡ 11 ⌝ }
-{
-    Parsed {
-        refusal: record::UNREADABLE,
-        chain,
-    }
-}
 
 // A position as it was read.
 pub enum Position {
@@ -93,31 +84,29 @@ fn read_ring_position(s: &[u8], start: u64, end: u64) -> Position
     Position::At(bond)
 }
 
-// The double bonds that the list of a ring from `start` to `end` gives. Each position is read before the chain is touched.
-pub fn parse_ring_bonds(s: &[u8], start: u64, end: u64, chain: ParsedChain) -> Parsed
-    ensures { λ r. ⌜ Gives chain r (ringBondList start end (now (s .entry))) ⌝ }
+// The double bonds that the list of a ring from `start` to `end` gives, after `count` others.
+pub fn parse_ring_bonds(s: &[u8], start: u64, end: u64, bonds: &mut [u64], count: usize) -> Pushed
+    requires { ⌜ maxBonds ≤ length (now bonds) ⌝ }
+    ensures { λ r. ⌜ Pushes bondsAs count (now (bonds .entry)) r (now (bonds .exit)) (ringBondList start end (now (s .entry))) ⌝ }
 {
     if s.len() == 0 {
-        return Parsed { refusal: 0, chain };
+        return Pushed { refusal: 0, count };
     }
     let mut t = s;
-    let mut c = chain;
+    let mut so_far = count;
     loop {
         let n = scan::find(t, b',');
         let Position::At(bond) = read_ring_position(&t[0..n], start, end) else {
-            return unreadable(c);
+            return Pushed {
+                refusal: record::UNREADABLE,
+                count: so_far,
+            };
         };
-        let at = c.bond_count;
-        if at < MAX_BONDS {
-            c.bonds[at] = bond;
-            c.bond_count = at + 1;
-        } else {
-            c.bond_count = MAX_BONDS + 1;
-        }
+        so_far = parsed::push_bond(bonds, so_far, bond);
         if n == t.len() {
-            return Parsed {
+            return Pushed {
                 refusal: 0,
-                chain: c,
+                count: so_far,
             };
         }
         t = &t[n + 1..];
@@ -125,8 +114,9 @@ pub fn parse_ring_bonds(s: &[u8], start: u64, end: u64, chain: ParsedChain) -> P
 }
 
 // The double bonds of the `(..)` list: every number that can be read is below 4,294,967,296, so none is out of range.
-pub fn parse_position_list(s: &[u8], chain: ParsedChain) -> Parsed
-    ensures { λ r. ⌜ Gives chain r (bondList (now (s .entry))) ⌝ }
+pub fn parse_position_list(s: &[u8], bonds: &mut [u64], count: usize) -> Pushed
+    requires { ⌜ maxBonds ≤ length (now bonds) ⌝ }
+    ensures { λ r. ⌜ Pushes bondsAs count (now (bonds .entry)) r (now (bonds .exit)) (bondList (now (s .entry))) ⌝ }
 {
-    parse_ring_bonds(s, 0, 4294967296, chain)
+    parse_ring_bonds(s, 0, 4294967296, bonds, count)
 }

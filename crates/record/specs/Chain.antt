@@ -1,17 +1,14 @@
--- What a token says of a chain, what may be added to it, and which chain a record of the code holds: what the contracts of `record` and of
--- the token reader above it cite. The lists here have no limit; 31 is a test of their lengths after each list or segment. Assumes nothing.
-use Prim.Native.Nat.{ℕ, _+_, _<_, _≤_, min}
-use mathlib.Core.Path.{_≡_}
+-- What a token says of a chain, and what may be added to it: what the contracts of the token reader cite. The lists here have no limit; 31 is
+-- a test of their lengths after each list or segment. Assumes nothing.
+use Prim.Native.Nat.{ℕ, _≤_}
 use mathlib.Core.List.{List, [], _∷_, _++_}
 use mathlib.Core.Bool.{Bool, true, false, cond}
-use lib.ListN.{length, take}
+use lib.ListN.{length}
 use lib.Dec.{ltb}
 use Rattle.record.specs.declared.ChainPrefix.{ChainPrefix}
 use Rattle.record.specs.declared.DbPos.{DbPos}
 use Rattle.record.specs.declared.Mod.{Mod}
 use Rattle.record.specs.declared.Ring.{Ring}
-use Rattle.record.specs.declared.ParsedChain.{ParsedChain}
-use Rattle.record.specs.declared.Parsed.{Parsed}
 
 -- 01, Accepted, or refused by whom, 31: "written carbons over 255, over 16 groups (a methyl counts), 8 rings or 32 written double bonds
 -- with a position"
@@ -93,39 +90,6 @@ countsOf d =
     cond (ltb maxBonds (length (d .bonds))) (Refused overLimit)
     (cond (ltb maxGroups (length (d .groups))) (Refused overLimit)
     (cond (ltb maxRings (length (d .rings))) (Refused overLimit) (Read d)))
-
--- ---- what a record of the code holds
-
--- an array keeps a list up to a limit: its count is the list's length, which it stops following one past the limit, and what it counts
--- within the limit is what the list starts with
-pub record Keeps {A : Type 0} (limit : ℕ) (array : List A) (count : ℕ) (l : List A) : Type 0 where
-  pub counted : count ≡ min (length l) (limit + 1)
-  pub kept : take (min count limit) array ≡ take limit l
-
--- the record c holds the chain d
-pub record Holds (c : ParsedChain) (d : Chain) : Type 0 where
-  pub prefix : c .prefix ≡ d .prefix
-  pub written : c .written ≡ d .written
-  pub carbon : c .carbon ≡ d .carbon
-  pub branched : c .branched ≡ d .branched
-  pub unlocated : c .unlocated ≡ d .unlocated
-  pub oxygens : c .oxygens ≡ d .oxygens
-  pub bonds : Keeps maxBonds (c .bonds) (c .«bond_count») (d .bonds)
-  pub groups : Keeps maxGroups (c .groups) (c .«group_count») (d .groups)
-  pub rings : Keeps maxRings (c .rings) (c .«ring_count») (d .rings)
-
--- the answer r stands for an outcome: 0 and a record that holds the chain, or the refusal's number
-abbrev pub Stands : Parsed → Outcome → Type 0
-Stands r (Read d) = (r .refusal ≡ 0) × Holds (r .chain) d
-Stands r (Refused n) = (r .refusal ≡ n) × (0 < n)
-
--- r holds f of what c holds
-pub record Takes (c r : ParsedChain) (f : Chain → Chain) : Type 0 where
-  pub holds : (d : Chain) → Holds c d → Holds r (f d)
-
--- r stands for f of what c holds
-pub record Gives (c : ParsedChain) (r : Parsed) (f : Chain → Outcome) : Type 0 where
-  pub stands : (d : Chain) → Holds c d → Stands r (f d)
 
 -- every count is within its limit
 pub record Within (d : Chain) : Type 0 where

@@ -10,12 +10,12 @@ use Rattle.chain.specs.Lists.{anyOf}
 use Rattle.chain.specs.Features.{remaining, drawnCount, siteSkip}
 use Rattle.chain.specs.Refusals.{groupOnCarbonyl, pinTooFar, tailTooShort, noSite, drawRefusal}
 use Rattle.drawable.specs.declared.Drawn.{Drawn}
-use Rattle.drawable.specs.Drawn.{groupsIn, groupAt, Length, Says}
+use Rattle.drawable.specs.Drawn.{groupsDrawn, floatsDrawn, groupAt, Length, Says}
 use Rattle.drawable.proofs.Lists.{some-empty, none-empty}
 
 -- ---- 12
 
-pub carbonyl-groups : (x : Drawn) (t : Bool) → x .acyl ≡ true → t ≡ anyOf (groupAt 1) (groupsIn (x .groups)) → Says x t groupOnCarbonyl
+pub carbonyl-groups : (x : Drawn) (t : Bool) → x .acyl ≡ true → t ≡ anyOf (groupAt 1) (groupsDrawn x) → Says x t groupOnCarbonyl
 unfolding groupOnCarbonyl
 carbonyl-groups x t h e = record { is = λ r d w. rw (← w .acyl, h, ← w .groups) e }
 
@@ -35,14 +35,14 @@ tail-some x m h s = record { is = λ r d w. rw (← w .unlocated, ne-eqb (x .unl
 
 -- ---- 15
 
-module _ (x : Drawn) (n : ℕ) (l : Length 18 (groupsIn (x .floats)) n) where
+module _ (x : Drawn) (room n : ℕ) (l : Length room (floatsDrawn x) n) where
   pub site-none : n ≡ 0 → Says x false noSite
   unfolding noSite
-  site-none h = record { is = λ r d w. rw (← w .floats, none-empty (groupsIn (x .floats)) (omega (arith, l .is))) }
+  site-none h = record { is = λ r d w. rw (← w .floats, none-empty (floatsDrawn x) (omega (arith, l .is))) }
 
   pub site-some : (k m : ℕ) → (n ≡ 0 → ⊥) → k ≡ cond (x .acyl) 1 0 → Says x m drawnCount → Says x (leb m k) noSite
   unfolding noSite siteSkip
-  site-some k m h e s = record { is = λ r d w. rw (← w .floats, some-empty (groupsIn (x .floats)) (omega (arith, l .is)), ← s .is r d w, ← w .acyl, ← e) }
+  site-some k m h e s = record { is = λ r d w. rw (← w .floats, some-empty (floatsDrawn x) (omega (arith, l .is)), ← s .is r d w, ← w .acyl, ← e) }
 
 -- ---- 12 to 15, in order
 

@@ -3,7 +3,7 @@
 // crates of their own. What each answer is, is said by the definitions of the crate `chain`.
 use chain::Role;
 use drawable::Drawn;
-use record::ParsedChain;
+use parsed::ParsedChain;
 ghost use mathlib.Core.Path.{_≡_};
 ghost use mathlib.Core.Bool.{cond};
 ghost use Rattle.chain.specs.Refusals.{wrongKind, placeRefusal, groupOnCarbonyl, tailTooShort, noSite, drawRefusal};
@@ -63,9 +63,8 @@ pub fn place_refusal(x: Drawn) -> u16
 fn group_on_carbonyl(x: Drawn) -> bool
     ensures { λ r. ⌜ Says x r groupOnCarbonyl ⌝ }
 {
-    let groups = x.groups;
     if x.acyl {
-        return drawable::group_at(groups, 1);
+        return drawable::group_at(&x.groups, x.group_count, 1);
     }
     false
 }
@@ -78,7 +77,7 @@ fn tail_too_short(x: Drawn) -> bool
     if unlocated == 0 {
         return false;
     }
-    let rest = drawable::draw::remaining(x) as u32;
+    let rest = reach::remaining(x) as u32;
     rest < 2 * unlocated + 2
 }
 
@@ -96,12 +95,11 @@ fn site_skip(acyl: bool) -> u32
 fn no_site(x: Drawn) -> bool
     ensures { λ r. ⌜ Says x r noSite ⌝ }
 {
-    let floats = x.floats;
-    if floats.len() == 0 {
+    if drawable::groups_len(&x.floats, x.float_count) == 0 {
         return false;
     }
     let skip = site_skip(x.acyl);
-    let count = drawable::draw::drawn_count(x);
+    let count = reach::drawn_count(x);
     count <= skip
 }
 

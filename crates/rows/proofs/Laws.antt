@@ -16,14 +16,10 @@ use Rattle.scan.proofs.Laws.{to-end}
 use Rattle.shown.specs.Chained.{listed}
 use Rattle.shown.proofs.Laws.{part-more}
 use Rattle.listing.specs.declared.Listed.{Listed}
-use Rattle.rows.specs.Text.{ended, tabbed, Carbons, chainText, chainsText, carbonsOf, headText, rowText}
+use Rattle.heads.specs.Text.{ended, tabbed, Carbons, chainText, chainsText, headText, rowText}
+use Rattle.rows.specs.Chains.{carbonsOf}
 
 -- ---- texts
-
-module _ {xs ys zs : List ℕ} {a p q : ℕ} (t : List ℕ) (b : ℕ) (g : length xs < 2 ^ 64) (w : Written xs a t ys p) (u : Written ys p (b ∷ []) zs q) where
-  pub ended-text : Written xs a (ended t b) zs q
-  unfolding ended
-  ended-text = written-append g w u
 
 pub chain-text : {xs ys zs ws : List ℕ} {a p q r : ℕ} (sn : ℕ) (js : List ℕ) → length xs < 2 ^ 64 → Written xs a (decimal sn) ys p
     → Written ys p (58 ∷ []) zs q → Written zs q (joined 46 (map decimal js)) ws r → Written xs a (chainText (record { sn = sn; indices = js })) ws r
@@ -105,11 +101,6 @@ chains-all items index i n count g e h k w =
     go (no m) = take-all i items (omega arith) ∙ sym (take-all count items (omega arith))
 
 -- ---- a row
-
-pub head-text : {xs ys zs : List ℕ} {a p q : ℕ} (answer token : ℕ) → length xs < 2 ^ 64 → Written xs a (ended (decimal answer) 9) ys p
-    → Written ys p (ended (decimal token) 9) zs q → Written xs a (headText answer token) zs q
-unfolding headText
-head-text answer token g w u = written-append g w u
 
 pub row-text : {xs ys zs ws vs : List ℕ} {a p q r s : ℕ} (answer token : ℕ) (line : List ℕ) (cs : List Carbons) → length xs < 2 ^ 64
     → Written xs a (headText answer token) ys p → Written ys p (ended line 9) zs q → Written zs q (chainsText cs) ws r → Written ws r (10 ∷ []) vs s

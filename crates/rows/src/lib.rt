@@ -1,5 +1,6 @@
-// A row of the output, written: its answer, the token's place, the line, and the chains with their indices. Each writer is of the kind of
-// `emit`: it stores nothing past the end and counts on. What is written is said by specs/Text.antt.
+// A row of the output, written: its answer and the token's place as `heads` has them, the line, and the chains with their indices. Each writer
+// is of the kind of `emit`: it stores nothing past the end and counts on. What is written is said by Text.antt of `heads`, and which chains
+// are by specs/Chains.antt.
 ghost use mathlib.Core.Path.{_≡_};
 ghost use mathlib.Core.List.{map};
 ghost use Prim.Native.Nat.{min};
@@ -7,22 +8,14 @@ ghost use lib.ListN.{length, take};
 ghost use Rattle.emit.specs.Text.{Written, decimal};
 ghost use Rattle.reading.specs.Parting.{joined};
 ghost use Rattle.shown.specs.Chained.{parting, listed};
-ghost use Rattle.rows.specs.Text.{ended, chainText, chainsText, carbonsOf, headText, rowText};
+ghost use Rattle.heads.specs.Text.{ended, chainText, chainsText, rowText};
+ghost use Rattle.rows.specs.Chains.{carbonsOf};
 use emit::put_byte;
 use emit::put_text;
+pub use heads::put_decimal;
+pub use heads::put_head;
+pub use heads::put_number_cell;
 use listing::Lists;
-
-// The decimal digits of n, most significant first, with no leading zero.
-pub fn put_decimal(out: &mut [u8], at: usize, n: u64) -> usize
-    ensures { λ r. ⌜ Written (now (out .entry)) at (decimal n) (now (out .exit)) r ⌝ }
-{
-    if n < 10 {
-        put_byte(out, at, (48 + n) as u8)
-    } else {
-        let p = put_decimal(out, at, n / 10);
-        put_byte(out, p, (48 + n % 10) as u8)
-    }
-}
 
 // The byte before each part of a list but the first.
 fn put_parting(out: &mut [u8], at: usize, more: bool, s: u8) -> usize
@@ -101,28 +94,12 @@ fn put_chains(out: &mut [u8], at: usize, lists: Lists, index: &[u16]) -> usize
     p
 }
 
-// A number and a tab.
-pub fn put_number_cell(out: &mut [u8], at: usize, n: u64) -> usize
-    ensures { λ r. ⌜ Written (now (out .entry)) at (ended (decimal n) 9) (now (out .exit)) r ⌝ }
-{
-    let p = put_decimal(out, at, n);
-    put_byte(out, p, b'\t')
-}
-
 // A text and a tab.
 fn put_text_cell(out: &mut [u8], at: usize, text: &[u8]) -> usize
     ensures { λ r. ⌜ Written (now (out .entry)) at (ended (now (text .entry)) 9) (now (out .exit)) r ⌝ }
 {
     let p = put_text(out, at, text);
     put_byte(out, p, b'\t')
-}
-
-// The answer and the token's place.
-pub fn put_head(out: &mut [u8], at: usize, answer: u16, token: usize) -> usize
-    ensures { λ r. ⌜ Written (now (out .entry)) at (headText answer token) (now (out .exit)) r ⌝ }
-{
-    let p = put_number_cell(out, at, answer as u64);
-    put_number_cell(out, p, token as u64)
 }
 
 // A row of the output.

@@ -9,20 +9,16 @@ use mir.Syntax.{w16}
 use mir.Val.{Fits}
 use mathlib.Core.Path.{_≡_, refl, sym, ap, _∙_}
 use mathlib.Core.Bool.{Bool, true, false, not, cond, true≢false}
-use mathlib.Core.List.{List, [], _∷_, _++_}
+use mathlib.Core.List.{List, [], _∷_, _++_, map, map-append}
 use lib.ListN.{length, getD, set, take, length-set, replicate}
 use lib.Seq.{getD-set-same, getD-set-other, set-out, take-suc, take-all}
 use lib.Dec.{eqb, ltb}
 use borrow.Author.Tests.{lt-ltb, le-ltb, eq-eqb, ne-eqb, ltb-true}
 use Rattle.record.specs.declared.DbPos.{DbPos}
-use Rattle.record.specs.declared.Geometry.the-variants.{Unstated}
+use Rattle.codes.specs.Codes.{bondIn}
 use Rattle.seats.specs.declared.Seat.{Seat}
 use Rattle.seats.specs.declared.Seat.the-variants.{At, Nothing}
 use Rattle.seats.specs.Seats.{among, also, free, firstFree, orElse, seatFrom, onSeat, seatsFrom, firstStart, seated, usedIn, positions, NoMarks, Marks, MarksAll, Seated}
-
--- what an index past the end reads
-abbrev noBond : DbPos
-noBond = record { pos = 0; geom = Unstated }
 
 -- ---- a free seat
 
@@ -132,36 +128,36 @@ positions-one [] b = refl
 positions-one (x ∷ bs) b = ap (λ (r : List ℕ). x .pos ∷ r) (positions-one bs b)
 
 -- nothing marked yet
-pub marks-none : (xs : List Bool) (bs : List DbPos) → MarksAll xs (positions (take 0 bs)) xs
+pub marks-none : (xs : List Bool) (bs : List ℕ) → MarksAll xs (positions (map bondIn (take 0 bs))) xs
 unfolding positions among
 marks-none xs bs = record { same-length = refl; marked = λ k h. refl }
 
 -- one listed bond more
-pub marks-one : (xs ys zs : List Bool) (bs : List DbPos) (i : ℕ) → length bs ≡ 32 → i < 32
-    → MarksAll xs (positions (take i bs)) ys → Marks ys (getD bs i noBond .pos) zs → MarksAll xs (positions (take (i + 1) bs)) zs
+pub marks-one : (xs ys zs : List Bool) (bs : List ℕ) (i : ℕ) (b : DbPos) → i < length bs → b ≡ bondIn (getD bs i 0)
+    → MarksAll xs (positions (map bondIn (take i bs))) ys → Marks ys (b .pos) zs → MarksAll xs (positions (map bondIn (take (i + 1) bs))) zs
 unfolding also
-marks-one xs ys zs bs i l h m n = record { same-length = ap length (n .marked) ∙ length-set ys _ true ∙ m .same-length; marked = each }
+marks-one xs ys zs bs i b h f m n = record { same-length = ap length (n .marked) ∙ length-set ys _ true ∙ m .same-length; marked = each }
   where
-    p : ℕ
-    p = getD bs i noBond .pos
+    listed : List ℕ
+    listed = positions (map bondIn (take i bs))
 
-    more : positions (take (i + 1) bs) ≡ positions (take i bs) ++ (p ∷ [])
-    more = rw (add-one i, take-suc bs i noBond (omega arith)) (positions-one (take i bs) (getD bs i noBond))
+    more : positions (map bondIn (take (i + 1) bs)) ≡ listed ++ (b .pos ∷ [])
+    more = rw (add-one i, take-suc bs i 0 h, map-append bondIn (take i bs) (getD bs i 0 ∷ []), ← f) (positions-one (map bondIn (take i bs)) b)
 
-    each : (k : ℕ) → k < length xs → usedIn zs k ≡ cond (among (positions (take (i + 1) bs)) k) true (usedIn xs k)
+    each : (k : ℕ) → k < length xs → usedIn zs k ≡ cond (among (positions (map bondIn (take (i + 1) bs))) k) true (usedIn xs k)
     each k g =
-        rw (more, among-one (positions (take i bs)) p k)
-        (ap (λ (z : List Bool). usedIn z k) (n .marked) ∙ sym (also-set ys p k (omega (arith, m .same-length))) ∙ rw (m .marked k g) (go (eqb p k) (among (positions (take i bs)) k)))
+        rw (more, among-one listed (b .pos) k)
+        (ap (λ (z : List Bool). usedIn z k) (n .marked) ∙ sym (also-set ys (b .pos) k (omega (arith, m .same-length))) ∙ rw (m .marked k g) (go (eqb (b .pos) k) (among listed k)))
       where
         go : (a b : Bool) → cond a true (cond b true (usedIn xs k)) ≡ cond (cond a true b) true (usedIn xs k)
         go true b = refl
         go false b = refl
 
-pub marks-all : (xs ys : List Bool) (bs : List DbPos) (i n : ℕ) → i ≤ n → n ≤ i → MarksAll xs (positions (take i bs)) ys → MarksAll xs (positions (take n bs)) ys
+pub marks-all : (xs ys : List Bool) (bs : List ℕ) (i n : ℕ) → i ≤ n → n ≤ i → MarksAll xs (positions (map bondIn (take i bs))) ys → MarksAll xs (positions (map bondIn (take n bs))) ys
 marks-all xs ys bs i n h k m = let e : i ≡ n = omega arith in rw e at m
 
-pub marks-whole : (xs ys : List Bool) (bs : List DbPos) (i n : ℕ) → length bs ≡ 32 → 32 ≤ i → i < n → MarksAll xs (positions (take i bs)) ys → MarksAll xs (positions (take n bs)) ys
-marks-whole xs ys bs i n l k h m = rw (take-all i bs (omega arith), ← take-all n bs (omega arith)) at m
+pub marks-whole : (xs ys : List Bool) (bs : List ℕ) (i n : ℕ) → length bs ≤ i → i < n → MarksAll xs (positions (map bondIn (take i bs))) ys → MarksAll xs (positions (map bondIn (take n bs))) ys
+marks-whole xs ys bs i n k h m = rw (take-all i bs (omega arith), ← take-all n bs (omega arith)) at m
 
 -- two ways to say what is used, up to the carbon c
 abbrev pub Agree : ℕ → (ℕ → Bool) → (ℕ → Bool) → Type 0

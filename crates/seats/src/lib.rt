@@ -1,12 +1,12 @@
 // Seats for the double bonds that a token declares without a position. Only whether each finds one matters: where they sit is not kept.
 // The search goes by an array of used positions, by carbon, so its work is bounded by the carbons and not by the number declared.
-use record::DbPos;
-use record::MAX_BONDS;
 use record::MAX_CARBONS;
 ghost use mathlib.Core.Path.{_≡_};
 ghost use Prim.Native.Nat.{_≤_, _<_, _+_, _-_};
+ghost use mathlib.Core.List.{map};
 ghost use lib.ListN.{take, length};
 ghost use Rattle.record.specs.Chain.{maxCarbons};
+ghost use Rattle.codes.specs.Codes.{bondIn};
 ghost use Rattle.seats.specs.Seats.{usedIn, free, firstFree, seatFrom, seatsFrom, firstStart, positions, NoMarks, Marks, MarksAll, Seated};
 
 // One place for each position from 0 to MAX_CARBONS.
@@ -99,15 +99,15 @@ fn take_seats(used: &mut [bool], carbon: u16, start: u16, missing: u64) -> bool
 }
 
 // Marks the positions of the first `listed` double bonds.
-fn mark_listed(used: &mut [bool], bonds: [DbPos; MAX_BONDS], listed: usize)
-    ensures { λ r. ⌜ MarksAll (now (used .entry)) (positions (take listed bonds)) (now (used .exit)) ⌝ }
+fn mark_listed(used: &mut [bool], bonds: &[u64], listed: usize)
+    ensures { λ r. ⌜ MarksAll (now (used .entry)) (positions (map bondIn (take listed (now (bonds .entry))))) (now (used .exit)) ⌝ }
 {
     let mut i = 0;
     while i < listed {
-        if MAX_BONDS <= i {
+        if bonds.len() <= i {
             return;
         }
-        let bond = bonds[i];
+        let bond = codes::bond_in(bonds[i]);
         mark(used, bond.pos);
         i += 1;
     }
@@ -126,14 +126,9 @@ fn first_start(carbon: u16) -> u16
     9
 }
 
-// Whether each of the missing bonds finds a seat beside the first `listed` double bonds.
-pub fn placeholder_positions(
-    carbon: u16,
-    bonds: [DbPos; MAX_BONDS],
-    listed: usize,
-    missing: u64,
-) -> bool
-    ensures { λ r. ⌜ Seated carbon (positions (take listed bonds)) missing r ⌝ }
+// Whether each of the missing bonds finds a seat beside the first `listed` double bonds, which are numbers of the crate `codes`.
+pub fn placeholder_positions(carbon: u16, bonds: &[u64], listed: usize, missing: u64) -> bool
+    ensures { λ r. ⌜ Seated carbon (positions (map bondIn (take listed (now (bonds .entry))))) missing r ⌝ }
 {
     if missing == 0 {
         return true;

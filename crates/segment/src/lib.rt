@@ -1,240 +1,309 @@
-// The segments of a token, `;[8-12cy5;11OH;9oxo];15OH`, read into a chain record. Every byte string and every record has an answer: the
-// record with what the segments add, 11 at the first piece that cannot be read, or 31 after the first segment that puts a count over its
-// limit. 01's sentences stand in specs/Segment.antt.
+// The segments of a token, `;[8-12cy5;11OH;9oxo];15OH`, read into lent arrays of double bonds, groups and rings. Every byte string has an
+// answer: the counts with what the segments add, 11 at the first piece that cannot be read, or 31 after the first segment that puts a count
+// over its limit. 01's sentences stand in specs/Segment.antt.
 use features::Feature;
 use features::Segment;
 use form::Form;
+use parsed::Counted;
+use parsed::Counts;
+use parsed::Pushed;
 use record::MAX_GROUPS;
 use record::Mod;
-use record::Parsed;
-use record::ParsedChain;
-ghost use Prim.Native.Nat.{_+_, _≤_};
-ghost use Rattle.record.specs.Chain.{Takes, Gives, maxGroups};
+ghost use Prim.Native.Nat.{_≤_};
+ghost use mathlib.Core.List.{[]};
+ghost use lib.ListN.{length};
+ghost use Rattle.record.specs.Chain.{maxBonds, maxGroups, maxRings};
+ghost use Rattle.parsed.specs.Parsed.{Grows, Pushes, Collects, first, gather, groupsAs, unbondedAs, allAs, on};
 ghost use Rattle.segment.specs.Segment.{copies, manyTimes, withSegment, listedAt, plainList, listedFeature, listedSegment, commaParts, modification, segmentAt, segments};
 
-// A group n times, where there is room for as many.
-fn push_copies(group: Mod, n: u32, chain: ParsedChain) -> ParsedChain
-    requires { ⌜ chain .«group_count» + n ≤ maxGroups ⌝ }
-    ensures { λ r. ⌜ Takes chain r (copies n group) ⌝ }
+// A group n times.
+fn push_copies(group: Mod, n: u32, groups: &mut [u64], count: usize) -> usize
+    requires { ⌜ maxGroups ≤ length (now groups) ⌝ }
+    ensures { λ r. ⌜ Grows groupsAs (first count (now (groups .entry))) (first r (now (groups .exit))) (copies n group) ⌝ }
 {
     let mut left = n;
-    let mut c = chain;
+    let mut so_far = count;
     while left > 0 {
-        let at = c.group_count;
-        c.groups[at] = group;
-        c.group_count = at + 1;
+        so_far = parsed::push_group(groups, so_far, group);
         left -= 1;
     }
-    c
+    so_far
 }
 
 // Groups without a position. The counts are compared before any copy is made.
-fn push_repeated(row: u8, times: u32, chain: ParsedChain) -> Parsed
-    ensures { λ r. ⌜ Gives chain r (manyTimes times (record { pos = 0; row = row })) ⌝ }
+fn push_repeated(row: u8, times: u32, groups: &mut [u64], count: usize) -> Pushed
+    requires { ⌜ maxGroups ≤ length (now groups) ⌝ }
+    ensures { λ r. ⌜ Pushes groupsAs count (now (groups .entry)) r (now (groups .exit)) (manyTimes times (record { pos = 0; row = row })) ⌝ }
 {
-    let so_far = chain.group_count;
-    if MAX_GROUPS < so_far {
-        return Parsed {
+    if MAX_GROUPS < count {
+        return Pushed {
             refusal: record::OVER_LIMIT,
-            chain,
+            count,
         };
     }
-    if MAX_GROUPS - so_far < (times as usize) {
-        return Parsed {
+    if MAX_GROUPS - count < (times as usize) {
+        return Pushed {
             refusal: record::OVER_LIMIT,
-            chain,
+            count,
         };
     }
-    let longer = push_copies(Mod { pos: 0, row }, times, chain);
-    Parsed {
+    let so_far = push_copies(Mod { pos: 0, row }, times, groups, count);
+    Pushed {
         refusal: 0,
-        chain: longer,
+        count: so_far,
     }
 }
 
 // What a piece of a segment adds.
-fn add_segment(segment: Segment, chain: ParsedChain) -> Parsed
-    ensures { λ r. ⌜ Gives chain r (withSegment segment) ⌝ }
+fn add_segment(segment: Segment, groups: &mut [u64], rings: &mut [u64], counts: Counts) -> Counted
+    requires { ⌜ maxGroups ≤ length (now groups) ⌝ }
+    requires { ⌜ maxRings ≤ length (now rings) ⌝ }
+    ensures { λ r. ⌜ Collects unbondedAs (gather counts [] (now (groups .entry)) (now (rings .entry))) r [] (now (groups .exit)) (now (rings .exit)) (withSegment segment) ⌝ }
 {
+    let mut more = counts;
     match segment {
         Segment::Cycle(ring) => {
-            let longer = chain.push_ring(ring);
-            Parsed {
+            more.rings = parsed::push_ring(rings, counts.rings, ring);
+            Counted {
                 refusal: 0,
-                chain: longer,
+                counts: more,
             }
         }
         Segment::Located(group) => {
-            let longer = chain.push_group(group);
-            Parsed {
+            more.groups = parsed::push_group(groups, counts.groups, group);
+            Counted {
                 refusal: 0,
-                chain: longer,
+                counts: more,
             }
         }
-        Segment::Repeated { row, times } => push_repeated(row, times, chain),
+        Segment::Repeated { row, times } => {
+            let pushed = push_repeated(row, times, groups, counts.groups);
+            more.groups = pushed.count;
+            Counted {
+                refusal: pushed.refusal,
+                counts: more,
+            }
+        }
         Segment::Oxygens(n) => {
-            let counted = chain.set_oxygens(n);
-            Parsed {
+            more.oxygens = n;
+            Counted {
                 refusal: 0,
-                chain: counted,
+                counts: more,
             }
         }
-        Segment::Unreadable => positions::unreadable(chain),
+        Segment::Unreadable => parsed::unreadable(counts),
     }
 }
 
 // A feature at one position of a list.
-fn parse_plain_position(s: &[u8], feature: Feature, chain: ParsedChain) -> Parsed
-    ensures { λ r. ⌜ Gives chain r (listedAt feature (now (s .entry))) ⌝ }
+fn parse_plain_position(
+    s: &[u8],
+    feature: Feature,
+    carbon: u16,
+    groups: &mut [u64],
+    rings: &mut [u64],
+    counts: Counts,
+) -> Counted
+    requires { ⌜ maxGroups ≤ length (now groups) ⌝ }
+    requires { ⌜ maxRings ≤ length (now rings) ⌝ }
+    ensures { λ r. ⌜ Collects (on carbon unbondedAs) (gather counts [] (now (groups .entry)) (now (rings .entry))) r [] (now (groups .exit)) (now (rings .exit)) (listedAt feature (now (s .entry))) ⌝ }
 {
-    let carbon = chain.carbon;
-    let segment = features::read_listed(s, feature, carbon);
-    add_segment(segment, chain)
+    let segment = items::read_listed(s, feature, carbon);
+    add_segment(segment, groups, rings, counts)
 }
 
 // A feature at each position of a list.
-fn parse_plain_position_list(s: &[u8], feature: Feature, chain: ParsedChain) -> Parsed
-    ensures { λ r. ⌜ Gives chain r (plainList feature (now (s .entry))) ⌝ }
+fn parse_plain_position_list(
+    s: &[u8],
+    feature: Feature,
+    carbon: u16,
+    groups: &mut [u64],
+    rings: &mut [u64],
+    counts: Counts,
+) -> Counted
+    requires { ⌜ maxGroups ≤ length (now groups) ⌝ }
+    requires { ⌜ maxRings ≤ length (now rings) ⌝ }
+    ensures { λ r. ⌜ Collects (on carbon unbondedAs) (gather counts [] (now (groups .entry)) (now (rings .entry))) r [] (now (groups .exit)) (now (rings .exit)) (plainList feature (now (s .entry))) ⌝ }
 {
     if s.len() == 0 {
-        return Parsed { refusal: 0, chain };
+        return Counted { refusal: 0, counts };
     }
     let mut t = s;
-    let mut c = chain;
+    let mut so_far = counts;
     loop {
         let n = scan::find(t, b',');
-        let parsed = parse_plain_position(&t[0..n], feature, c);
-        let refusal = parsed.refusal;
-        if refusal != 0 {
-            return parsed;
+        let read = parse_plain_position(&t[0..n], feature, carbon, groups, rings, so_far);
+        if read.refusal != 0 {
+            return read;
         }
         if n == t.len() {
-            return parsed;
+            return read;
         }
-        let next = parsed.chain;
-        c = next;
+        so_far = read.counts;
         t = &t[n + 1..];
     }
 }
 
 // A feature that was named, at each position of a list.
-fn parse_listed_feature(feature: Feature, list: &[u8], chain: ParsedChain) -> Parsed
-    ensures { λ r. ⌜ Gives chain r (listedFeature feature (now (list .entry))) ⌝ }
+fn parse_listed_feature(
+    feature: Feature,
+    list: &[u8],
+    carbon: u16,
+    groups: &mut [u64],
+    rings: &mut [u64],
+    counts: Counts,
+) -> Counted
+    requires { ⌜ maxGroups ≤ length (now groups) ⌝ }
+    requires { ⌜ maxRings ≤ length (now rings) ⌝ }
+    ensures { λ r. ⌜ Collects (on carbon unbondedAs) (gather counts [] (now (groups .entry)) (now (rings .entry))) r [] (now (groups .exit)) (now (rings .exit)) (listedFeature feature (now (list .entry))) ⌝ }
 {
     match feature {
-        Feature::Ring(_) => parse_plain_position_list(list, feature, chain),
-        Feature::Group(_) => parse_plain_position_list(list, feature, chain),
-        Feature::Other => positions::unreadable(chain),
+        Feature::Ring(_) => parse_plain_position_list(list, feature, carbon, groups, rings, counts),
+        Feature::Group(_) => parse_plain_position_list(
+            list,
+            feature,
+            carbon,
+            groups,
+            rings,
+            counts,
+        ),
+        Feature::Other => parsed::unreadable(counts),
     }
 }
 
 // An abbreviation, and what follows its `(`.
-fn parse_listed_segment(abbr: &[u8], s: &[u8], chain: ParsedChain) -> Parsed
-    ensures { λ r. ⌜ Gives chain r (listedSegment (now (abbr .entry)) (now (s .entry))) ⌝ }
+fn parse_listed_segment(
+    abbr: &[u8],
+    s: &[u8],
+    carbon: u16,
+    groups: &mut [u64],
+    rings: &mut [u64],
+    counts: Counts,
+) -> Counted
+    requires { ⌜ maxGroups ≤ length (now groups) ⌝ }
+    requires { ⌜ maxRings ≤ length (now rings) ⌝ }
+    ensures { λ r. ⌜ Collects (on carbon unbondedAs) (gather counts [] (now (groups .entry)) (now (rings .entry))) r [] (now (groups .exit)) (now (rings .exit)) (listedSegment (now (abbr .entry)) (now (s .entry))) ⌝ }
 {
     if !form::ends_in_parenthesis(s) {
-        return positions::unreadable(chain);
+        return parsed::unreadable(counts);
     }
-    let feature = features::feature_of(abbr);
-    parse_listed_feature(feature, &s[0..s.len() - 1], chain)
+    let feature = items::feature_of(abbr);
+    parse_listed_feature(feature, &s[0..s.len() - 1], carbon, groups, rings, counts)
 }
 
-// The parts between commas. A group, which is what most parts are, is stored where the record stands; any other piece goes the long way.
-fn parse_parts(s: &[u8], chain: ParsedChain) -> Parsed
-    ensures { λ r. ⌜ Gives chain r (commaParts (now (s .entry))) ⌝ }
+// The parts between commas.
+fn parse_parts(
+    s: &[u8],
+    carbon: u16,
+    groups: &mut [u64],
+    rings: &mut [u64],
+    counts: Counts,
+) -> Counted
+    requires { ⌜ maxGroups ≤ length (now groups) ⌝ }
+    requires { ⌜ maxRings ≤ length (now rings) ⌝ }
+    ensures { λ r. ⌜ Collects (on carbon unbondedAs) (gather counts [] (now (groups .entry)) (now (rings .entry))) r [] (now (groups .exit)) (now (rings .exit)) (commaParts (now (s .entry))) ⌝ }
 {
     let mut t = s;
-    let mut c = chain;
+    let mut so_far = counts;
     loop {
         let n = scan::find(t, b',');
-        let carbon = c.carbon;
-        let segment = features::read_part(&t[0..n], carbon);
-        let piece = segment;
-        if let Segment::Located(group) = piece {
-            let at = c.group_count;
-            if at < MAX_GROUPS {
-                c.groups[at] = group;
-                c.group_count = at + 1;
-                if n == t.len() {
-                    return Parsed {
-                        refusal: 0,
-                        chain: c,
-                    };
-                }
-                t = &t[n + 1..];
-                continue;
-            }
-        }
-        let parsed = add_segment(segment, c);
-        let refusal = parsed.refusal;
-        if refusal != 0 {
-            return parsed;
+        let segment = items::read_part(&t[0..n], carbon);
+        let read = add_segment(segment, groups, rings, so_far);
+        if read.refusal != 0 {
+            return read;
         }
         if n == t.len() {
-            return parsed;
+            return read;
         }
-        let next = parsed.chain;
-        c = next;
+        so_far = read.counts;
         t = &t[n + 1..];
     }
 }
 
 // A segment without its brackets, in the first of the four forms that it has.
-pub fn parse_modification_segment(s: &[u8], chain: ParsedChain) -> Parsed
-    ensures { λ r. ⌜ Gives chain r (modification (now (s .entry))) ⌝ }
+pub fn parse_modification_segment(
+    s: &[u8],
+    carbon: u16,
+    bonds: &mut [u64],
+    groups: &mut [u64],
+    rings: &mut [u64],
+    counts: Counts,
+) -> Counted
+    requires { ⌜ maxBonds ≤ length (now bonds) ⌝ }
+    requires { ⌜ maxGroups ≤ length (now groups) ⌝ }
+    requires { ⌜ maxRings ≤ length (now rings) ⌝ }
+    ensures { λ r. ⌜ Collects (on carbon allAs) (gather counts (now (bonds .entry)) (now (groups .entry)) (now (rings .entry))) r (now (bonds .exit)) (now (groups .exit)) (now (rings .exit)) (modification (now (s .entry))) ⌝ }
 {
     let form = form::form_of(s);
     match form {
-        Form::Ring { dash, cy } => ring::parse_ring_segment(s, dash, cy, chain),
+        Form::Ring { dash, cy } => {
+            ring::parse_ring_segment(s, dash, cy, carbon, bonds, rings, counts)
+        }
         Form::Repeated => {
-            let segment = features::read_repeated(form::after_place(s, 0));
-            add_segment(segment, chain)
+            let segment = items::read_repeated(form::after_place(s, 0));
+            add_segment(segment, groups, rings, counts)
         }
         Form::Listed { open } => {
             let rest = form::after_place(s, open);
-            parse_listed_segment(&s[0..open], rest, chain)
+            parse_listed_segment(&s[0..open], rest, carbon, groups, rings, counts)
         }
-        Form::Parts => parse_parts(s, chain),
+        Form::Parts => parse_parts(s, carbon, groups, rings, counts),
     }
 }
 
 // What stands between two semicolons; the counts are judged once it is read.
-fn parse_segment(s: &[u8], chain: ParsedChain) -> Parsed
-    ensures { λ r. ⌜ Gives chain r (segmentAt (now (s .entry))) ⌝ }
+fn parse_segment(
+    s: &[u8],
+    carbon: u16,
+    bonds: &mut [u64],
+    groups: &mut [u64],
+    rings: &mut [u64],
+    counts: Counts,
+) -> Counted
+    requires { ⌜ maxBonds ≤ length (now bonds) ⌝ }
+    requires { ⌜ maxGroups ≤ length (now groups) ⌝ }
+    requires { ⌜ maxRings ≤ length (now rings) ⌝ }
+    ensures { λ r. ⌜ Collects (on carbon allAs) (gather counts (now (bonds .entry)) (now (groups .entry)) (now (rings .entry))) r (now (bonds .exit)) (now (groups .exit)) (now (rings .exit)) (segmentAt (now (s .entry))) ⌝ }
 {
     let text = form::segment_text(s);
     if text.len() == 0 {
-        return Parsed { refusal: 0, chain };
+        return Counted { refusal: 0, counts };
     }
-    let parsed = parse_modification_segment(text, chain);
-    let refusal = parsed.refusal;
-    if refusal != 0 {
-        return parsed;
+    let read = parse_modification_segment(text, carbon, bonds, groups, rings, counts);
+    if read.refusal != 0 {
+        return read;
     }
-    let longer = parsed.chain;
-    longer.counted()
+    parsed::check_counts(read.counts)
 }
 
-// All segments: what follows a token's bond count and its `(..)` list.
-pub fn parse_segments(cursor: &[u8], chain: ParsedChain) -> Parsed
-    ensures { λ r. ⌜ Gives chain r (segments (now (cursor .entry))) ⌝ }
+// All segments of a chain of so many carbons: what follows a token's bond count and its `(..)` list.
+pub fn parse_segments(
+    cursor: &[u8],
+    carbon: u16,
+    bonds: &mut [u64],
+    groups: &mut [u64],
+    rings: &mut [u64],
+    counts: Counts,
+) -> Counted
+    requires { ⌜ maxBonds ≤ length (now bonds) ⌝ }
+    requires { ⌜ maxGroups ≤ length (now groups) ⌝ }
+    requires { ⌜ maxRings ≤ length (now rings) ⌝ }
+    ensures { λ r. ⌜ Collects (on carbon allAs) (gather counts (now (bonds .entry)) (now (groups .entry)) (now (rings .entry))) r (now (bonds .exit)) (now (groups .exit)) (now (rings .exit)) (segments (now (cursor .entry))) ⌝ }
 {
     let mut at = 0;
-    let mut c = chain;
+    let mut so_far = counts;
     loop {
         let segment = reader::next_segment(cursor, at);
         let from = segment.from;
         let to = segment.to;
-        let parsed = parse_segment(&cursor[from..to], c);
-        let refusal = parsed.refusal;
-        if refusal != 0 {
-            return parsed;
+        let read = parse_segment(&cursor[from..to], carbon, bonds, groups, rings, so_far);
+        if read.refusal != 0 {
+            return read;
         }
         if to == cursor.len() {
-            return parsed;
+            return read;
         }
-        let longer = parsed.chain;
-        c = longer;
+        so_far = read.counts;
         at = segment.next;
     }
 }

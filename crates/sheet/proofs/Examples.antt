@@ -6,7 +6,10 @@ use Prim.Native.Nat.{ℕ}
 use Rattle.scan.specs.Part.{sameBytes}
 use Rattle.form.specs.Parts.{partsAt}
 use Rattle.reading.specs.Ascii.{ascii}
-use Rattle.sheet.specs.Sheet.{columnOf, noPlan, planFrom, planOf, cellAt, swapOf, lastNonblank, Unreadable, Asks, requestOf}
+use Rattle.header.specs.Header.{columnOf, noPlan, planFrom, planOf}
+use Rattle.cellwords.specs.Words.{swapOf, lastNonblank}
+use Rattle.cells.specs.Cells.{cellAt}
+use Rattle.sheet.specs.Sheet.{Unreadable, Asks, requestOf}
 
 -- the header `class`, `sn1` and the row `FA`, `6:1` of 01
 header : List ℕ

@@ -14,8 +14,9 @@ use Rattle.scan.specs.Part.{sameBytes}
 use Rattle.scan.proofs.Laws.{same-equal}
 use Rattle.form.specs.Parts.{onto, partsAt}
 use Rattle.reading.specs.Ascii.{ascii}
-use Rattle.sheet.specs.declared.Plan.{Plan}
-use Rattle.sheet.specs.Sheet.{cellsOf, columnOf, noPlan, planFrom, planOf, Unreadable, requestOf}
+use Rattle.header.specs.declared.Plan.{Plan}
+use Rattle.header.specs.Header.{cellsOf, columnOf, noPlan, planFrom, planOf}
+use Rattle.sheet.specs.Sheet.{Unreadable, requestOf}
 
 -- ---- a known name is short
 

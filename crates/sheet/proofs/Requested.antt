@@ -8,12 +8,15 @@ use lib.ListN.{length, take}
 use lib.Seq.{length-take-le}
 use lib.Dec.{eqb, ltb}
 use borrow.Author.Tests.{not-false, not-true}
-use Rattle.sheet.specs.declared.Plan.{Plan}
+use Rattle.header.specs.declared.Plan.{Plan}
 use Rattle.sheet.specs.declared.Asked.{Asked}
-use Rattle.sheet.specs.declared.Swap.{Swap}
-use Rattle.sheet.specs.declared.Swap.the-variants.{No, Yes, Other}
-use Rattle.sheet.specs.Sheet.{cellsOf, cellOf, swapOf, lastNonblank, snCells, tokensIn, maxRow, Row, Unreadable, Asks, withSwap, requestOf, told}
-use Rattle.sheet.proofs.Laws.{last-within}
+use Rattle.cellwords.specs.declared.Swap.{Swap}
+use Rattle.cellwords.specs.declared.Swap.the-variants.{No, Yes, Other}
+use Rattle.header.specs.Header.{cellsOf}
+use Rattle.cellwords.specs.Words.{swapOf, lastNonblank}
+use Rattle.cells.specs.Cells.{cellOf, snCells, tokensIn}
+use Rattle.sheet.specs.Sheet.{maxRow, Row, Unreadable, Asks, withSwap, requestOf, told}
+use Rattle.cellwords.proofs.Laws.{last-within}
 
 -- a row is unreadable, or its cells are its request
 data Either (p : Plan) (row : List ℕ) : Row → Type 0 where

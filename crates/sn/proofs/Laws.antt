@@ -1,28 +1,29 @@
 -- Laws of the writers of the entries of labels: a law for each way out and each turn of a loop. Assumes nothing.
-use Prim.Native.Nat.{ℕ, zero, suc, _+_, _^_, _≤_, _<_, min, max}
+use Prim.Native.Nat.{ℕ, zero, suc, _+_, _-_, _^_, _≤_, _<_, min, max}
 use native.Mathlib.Nat.{add-zero, zero-add, add-suc, suc-add}
 use native.Mathlib.Numerals.{add-one}
+use native.Mathlib.Decide.{decLe}
 use native.Mathlib.Omega.{arith}
 use mathlib.Core.Path.{_≡_, refl, sym, ap, _∙_}
-use mathlib.Core.Bool.{Bool, cond}
+use mathlib.Core.Bool.{Bool, true, false, cond}
 use mathlib.Core.Option.{none, some}
-use mathlib.Core.List.{List, [], _∷_, _++_, map, map-append, append-assoc}
-use lib.ListN.{length, take, drop, getD, length-map, drop-of-length-le}
+use mathlib.Core.List.{List, [], _∷_, _++_, map, map-append, append-assoc, append-nil}
+use lib.ListN.{length, take, drop, getD, set, replicate, length-map, drop-of-length-le}
 use lib.Seq.{drop-cons, getD-take, length-take-le}
-use lib.Dec.{ltb, eqb}
-use borrow.Author.Tests.{eq-eqb, ne-eqb}
+use lib.Dec.{eqb}
+use borrow.Author.Tests.{lt-ltb, le-ltb, eq-eqb, ne-eqb}
 use Rattle.emit.specs.Text.{Written}
-use Rattle.emit.proofs.Laws.{written-append}
+use Rattle.emit.proofs.Laws.{written-append, written-nil, written-length}
 use Rattle.reading.specs.Ascii.{ascii}
-use Rattle.reading.specs.Parting.{joined}
+use Rattle.reading.specs.Parting.{led, joined}
 use Rattle.reading.specs.Molecule.{At, at, look}
 use Rattle.reading.specs.Show.{showLabel, showEntry, entries, upToLast, labelBlock, labelBlocks}
 use Rattle.reading.proofs.BlockLaws.{entries-length}
 use Rattle.shown.specs.declared.Site.{Site}
-use Rattle.shown.specs.Chained.{blockLead, shownBlocks, listed}
+use Rattle.shown.specs.Chained.{blockLead, shownBlocks}
 use Rattle.shown.specs.Notes.{labelsOf}
 use Rattle.shown.proofs.Chained.{one-shown, none-shown}
-use Rattle.shown.proofs.Laws.{part-more}
+use Rattle.sn.specs.Gaps.{Gap, nearest}
 use Rattle.sn.proofs.Sites.{labels-snoc, take-counted, counted-none, counted-some}
 
 pub label-text : {xs ys zs : List ℕ} {a p q : ℕ} (sn : ℕ) → length xs < 2 ^ 64 → Written xs a (ascii "sn") ys p → Written ys p ((48 + sn) ∷ []) zs q
@@ -89,15 +90,163 @@ unfolding entries
 entries-snoc zero i ls = rw add-zero
 entries-snoc (suc n) i ls = rw (entries-snoc n (suc i) ls, add-suc, suc-add)
 
-pub entries-more : {xs ys zs : List ℕ} {a p q : ℕ} (ls : List (At ℕ)) (i : ℕ) → length xs < 2 ^ 64 → Written xs a (joined 59 (map showEntry (entries i 0 ls))) ys p
-    → Written ys p (listed (ltb 0 i) 59 (showEntry (look i ls))) zs q → Written xs a (joined 59 (map showEntry (entries (i + 1) 0 ls))) zs q
-entries-more ls i g w u =
-    rw (add-one, entries-snoc i 0 ls, zero-add, map-append showEntry (entries i 0 ls) (look i ls ∷ []))
-    (part-more 59 (map showEntry (entries i 0 ls)) (showEntry (look i ls)) i (length-map (entries i 0 ls) showEntry ∙ entries-length i 0 ls) g w u)
+led-snoc : (s : ℕ) (ps : List (List ℕ)) (t : List ℕ) → led s (ps ++ (t ∷ [])) ≡ led s ps ++ s ∷ t
+unfolding led
+led-snoc s [] t = rw append-nil
+led-snoc s (p ∷ ps) t = rw (led-snoc s ps t, append-assoc)
 
-pub entries-all : {xs ys : List ℕ} {a p : ℕ} (ls : List (At ℕ)) (i n : ℕ) → i ≤ n → n ≤ i → Written xs a (joined 59 (map showEntry (entries i 0 ls))) ys p
+later-snoc : (s n : ℕ) (ps : List (List ℕ)) (t : List ℕ) → length ps ≡ suc n → joined s (ps ++ (t ∷ [])) ≡ joined s ps ++ s ∷ t
+unfolding joined
+later-snoc s n [] t e = absurd (omega arith)
+later-snoc s n (p ∷ ps) t e = rw (led-snoc s ps t, append-assoc)
+
+-- the entries of the atoms below n, a `;` after each
+unfoldable pub closed : ℕ → List (At ℕ) → List ℕ
+closed zero ls = []
+closed (suc n) ls = closed n ls ++ (showEntry (look n ls) ++ (59 ∷ []))
+
+first-entry : (ls : List (At ℕ)) → joined 59 (map showEntry (entries 1 0 ls)) ≡ showEntry (look 0 ls)
+unfolding joined led entries
+first-entry ls = rw append-nil
+
+entries-closed : (n : ℕ) (ls : List (At ℕ)) → joined 59 (map showEntry (entries (suc n) 0 ls)) ≡ closed n ls ++ showEntry (look n ls)
+unfolding closed
+entries-closed zero ls = first-entry ls
+entries-closed (suc n) ls =
+    rw (
+      entries-snoc (suc n) 0 ls,
+      zero-add,
+      map-append showEntry (entries (suc n) 0 ls) (look (suc n) ls ∷ []),
+      later-snoc
+          59
+          n
+          (map showEntry (entries (suc n) 0 ls))
+          (showEntry (look (suc n) ls))
+          (length-map (entries (suc n) 0 ls) showEntry ∙ entries-length (suc n) 0 ls),
+      entries-closed n ls,
+    )
+    (simp append-assoc)
+
+pub entries-none : (xs : List ℕ) (a n : ℕ) (ls : List (At ℕ)) → n ≡ 0 → a < 2 ^ 64 → Written xs a (joined 59 (map showEntry (entries n 0 ls))) xs a
+unfolding joined entries
+entries-none xs a n ls e h = rw e (written-nil xs a h)
+
+pub entries-some : {xs ys : List ℕ} {a p : ℕ} (n : ℕ) (ls : List (At ℕ)) → (n ≡ 0 → ⊥) → Written xs a (joined 59 (map showEntry (entries (n - 1 + 1) 0 ls))) ys p
     → Written xs a (joined 59 (map showEntry (entries n 0 ls))) ys p
-entries-all ls i n h k w = let e : i ≡ n = omega arith in rw e at w
+entries-some n ls h w = let e : n - 1 + 1 ≡ n = omega arith in rw e at w
+
+-- ---- atoms without a label: a `;` each
+
+shift : (n x : ℕ) → replicate n x ++ (x ∷ []) ≡ x ∷ replicate n x
+shift zero x = refl
+shift (suc n) x = ap (λ (l : List ℕ). x ∷ l) (shift n x)
+
+pub gap-more : {xs ys zs : List ℕ} {a p q : ℕ} (i : ℕ) → length xs < 2 ^ 64 → Written xs a (replicate i 59) ys p → Written ys p (59 ∷ []) zs q
+    → Written xs a (replicate (i + 1) 59) zs q
+gap-more i g w u = rw (add-one, ← shift i 59) (written-append g w u)
+
+pub gap-all : {xs ys : List ℕ} {a p : ℕ} (i n : ℕ) → i ≤ n → n ≤ i → Written xs a (replicate i 59) ys p → Written xs a (replicate n 59) ys p
+gap-all i n h k w = let e : i ≡ n = omega arith in rw e at w
+
+-- where there is room for all of them
+pub fill-none : (xs : List ℕ) (a : ℕ) → a < 2 ^ 64 → Written xs a (replicate (a - a) 59) xs a
+fill-none xs a h = let z : a - a ≡ 0 = omega arith in rw z (written-nil xs a h)
+
+pub fill-room : {xs ys t : List ℕ} {a p : ℕ} (end : ℕ) → p < end → end ≤ length xs → Written xs a t ys p → p < length ys
+fill-room end h k w = omega (arith, written-length w)
+
+pub fill-more : {xs ys : List ℕ} {a : ℕ} (p end : ℕ) → a ≤ p → p < end → end ≤ length xs → length xs < 2 ^ 64 → Written xs a (replicate (p - a) 59) ys p
+    → Written xs a (replicate (p + 1 - a) 59) (set ys p 59) (p + 1)
+fill-more {xs} {ys} {a} p end h k m g w =
+    let u : Written ys p (59 ∷ []) (set ys p 59) (p + 1) = record { elements = refl; next = omega arith } in
+    let z : p + 1 - a ≡ p - a + 1 = omega arith in
+    rw z (gap-more (p - a) g w u)
+
+pub fill-all : {xs ys : List ℕ} {a : ℕ} (p end n : ℕ) → a ≤ p → p ≤ end → end ≤ p → end ≡ a + n → Written xs a (replicate (p - a) 59) ys p
+    → Written xs a (replicate n 59) ys end
+fill-all {a = a} p end n h k m e w =
+    let z : p - a ≡ n = omega arith in
+    let y : p ≡ end = omega arith in
+    rw (z, y) at w
+
+closed-gap : (a d : ℕ) (ls : List (At ℕ)) → ((j : ℕ) → a < j → j < suc (a + d) → look j ls ≡ none)
+    → closed (suc (a + d)) ls ≡ closed a ls ++ (showEntry (look a ls) ++ (59 ∷ replicate d 59))
+unfolding closed showEntry
+closed-gap a zero ls h = rw add-zero
+closed-gap a (suc d) ls h =
+    rw (add-suc a d, closed-gap a d ls (λ j l m. h j l (omega arith)), h (suc (a + d)) (omega arith) (omega arith)) (simp (append-assoc, shift d 59))
+
+pub through-gap : {xs ys zs ws : List ℕ} {a p q r : ℕ} (ls : List (At ℕ)) (atom last next : ℕ) → Gap atom last ls next → length xs < 2 ^ 64
+    → Written xs a (closed atom ls) ys p → Written ys p (showEntry (look atom ls)) zs q → Written zs q (replicate (next - atom) 59) ws r → Written xs a (closed next ls) ws r
+through-gap {xs} {ys} {zs} {ws} {a} {p} {q} {r} ls atom last next g h w u v = go (next - atom - 1) (omega (arith, g .past))
+  where
+    go : (d : ℕ) → next ≡ suc (atom + d) → Written xs a (closed next ls) ws r
+    go d e =
+        let z : next - atom ≡ suc d = omega arith in
+        let t : Written zs q (replicate (suc d) 59) ws r = rw z at v in
+        rw (e, closed-gap atom d ls (λ j l m. g .bare j l (omega arith))) (written-append h w (written-append (rw (written-length w) h) u t))
+
+pub through-all : {xs ys zs : List ℕ} {a p q : ℕ} (ls : List (At ℕ)) (atom last : ℕ) → atom ≤ last → last ≤ atom → length xs < 2 ^ 64
+    → Written xs a (closed atom ls) ys p → Written ys p (showEntry (look atom ls)) zs q → Written xs a (joined 59 (map showEntry (entries (last + 1) 0 ls))) zs q
+through-all ls atom last h k g w u = let e : last ≡ atom = omega arith in rw (e, add-one, entries-closed atom ls) (written-append g w u)
+
+-- ---- the next atom with a label
+
+module _ (a j n : ℕ) where
+  pub near-here : a < j → j < n → j ≡ nearest a j n
+  unfolding nearest
+  near-here h k = rw (lt-ltb a j h) (omega arith)
+
+  pub near-far : a < j → n ≤ j → n ≡ nearest a j n
+  unfolding nearest
+  near-far h k = rw (lt-ltb a j h) (omega arith)
+
+  pub near-low : j ≤ a → n ≡ nearest a j n
+  unfolding nearest
+  near-low h = rw (le-ltb a j h)
+
+-- what `nearest` is, for arithmetic
+data Near (a j n : ℕ) : Type 0 where
+  low : j ≤ a → nearest a j n ≡ n → Near a j n
+  high : a < j → nearest a j n ≡ min j n → Near a j n
+
+near : (a j n : ℕ) → Near a j n
+unfolding nearest
+near a j n = go (decLe j a)
+  where
+    go : Dec (j ≤ a) → Near a j n
+    go (yes h) = low h (rw (le-ltb a j h))
+    go (no h) = high (omega arith) (rw (lt-ltb a j (omega arith)))
+
+look-snoc : (j : ℕ) (ls : List (At ℕ)) (a sn : ℕ) → look j ls ≡ none → (j ≡ a → ⊥) → look j (ls ++ (at a sn ∷ [])) ≡ none
+unfolding look
+look-snoc j [] a sn e h = rw (ne-eqb j a h)
+look-snoc j (at b s ∷ ls) a sn e h = go (eqb j b) e (λ z. look-snoc j ls a sn z h)
+  where
+    go : (t : Bool) → cond t (some s) (look j ls) ≡ none → (look j ls ≡ none → look j (ls ++ (at a sn ∷ [])) ≡ none)
+        → cond t (some s) (look j (ls ++ (at a sn ∷ []))) ≡ none
+    go true z f = z
+    go false z f = f z
+
+gap-snoc : (a last n j sn r : ℕ) (ls : List (At ℕ)) → Gap a last ls n → r ≡ nearest a j n → Near a j n → Gap a last (ls ++ (at j sn ∷ [])) r
+gap-snoc a last n j sn r ls g e (low h f) =
+    record { past = omega arith; within = omega arith; bare = λ m l u. look-snoc m ls j sn (g .bare m l (omega arith)) (λ z. omega arith) }
+gap-snoc a last n j sn r ls g e (high h f) =
+    record { past = omega arith; within = omega arith; bare = λ m l u. look-snoc m ls j sn (g .bare m l (omega arith)) (λ z. omega arith) }
+
+pub next-none : (a last : ℕ) → a < last → (ls : List Site) → Gap a last (labelsOf (take 0 ls)) last
+unfolding labelsOf look
+next-none a last h ls = record { past = h; within = omega arith; bare = λ j l m. refl }
+
+module _ (l : List Site) (k : length l ≡ 4) (count i a last : ℕ) (b : count ≤ 4) where
+  pub next-more : (d : Site) (n r : ℕ) → i < count → Gap a last (labelsOf (take i l)) n → r ≡ nearest a (getD l i d .atom) n
+      → Gap a last (labelsOf (take (i + 1) l)) r
+  next-more d n r h g e =
+      rw (labels-snoc l i d (omega arith))
+      (gap-snoc a last n (getD l i d .atom) (getD l i d .sn) r (labelsOf (take i l)) g e (near a (getD l i d .atom) n))
+
+  pub next-all : (n : ℕ) → i ≤ count → count ≤ i → Gap a last (labelsOf (take i l)) n → Gap a last (labelsOf (take count l)) n
+  next-all n h j g = let z : i ≡ count = omega arith in rw z at g
 
 pub block-text : {xs ys zs ws : List ℕ} {a p q r : ℕ} (ls : List (At ℕ)) (n : ℕ) → n ≡ upToLast ls → length xs < 2 ^ 64 → Written xs a (ascii "$") ys p
     → Written ys p (joined 59 (map showEntry (entries n 0 ls))) zs q → Written zs q (ascii "$") ws r → Written xs a (labelBlock ls) ws r

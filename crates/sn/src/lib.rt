@@ -2,20 +2,19 @@
 ghost use mathlib.Core.Path.{_≡_};
 ghost use mathlib.Core.List.{map};
 ghost use Prim.Native.Nat.{_+_, _<_, _≤_, min, max};
-ghost use lib.Dec.{ltb};
-ghost use lib.ListN.{take};
+ghost use lib.ListN.{length, take, replicate};
 ghost use Rattle.emit.specs.Text.{Written};
 ghost use Rattle.reading.specs.Parting.{joined};
 ghost use Rattle.reading.specs.Molecule.{look};
 ghost use Rattle.reading.specs.Show.{showLabel, showEntry, entries, upToLast, labelBlock, labelBlocks};
-ghost use Rattle.shown.specs.Chained.{shownBlocks, listed};
+ghost use Rattle.shown.specs.Chained.{shownBlocks};
 ghost use Rattle.shown.specs.Notes.{maxSites, labelsOf, Digits};
+ghost use Rattle.sn.specs.Gaps.{Gap, nearest};
 use emit::put_byte;
 use emit::put_text;
 use shown::MAX_SITES;
 use shown::Site;
 use shown::put_block_lead;
-use shown::put_parting;
 
 // A label, `sn` and its digit.
 pub fn put_label(out: &mut [u8], at: usize, sn: u8) -> usize
@@ -44,6 +43,19 @@ fn larger(a: usize, b: usize) -> usize
     ensures { λ r. ⌜ r ≡ max a b ⌝ }
 {
     if a < b { b } else { a }
+}
+
+// An atom where it lies past a and before `next`, else `next`.
+fn nearer(a: usize, atom: usize, next: usize) -> usize
+    ensures { λ r. ⌜ r ≡ nearest a atom next ⌝ }
+{
+    if a < atom {
+        if atom < next {
+            return atom;
+        }
+        return next;
+    }
+    next
 }
 
 // How many atoms there are up to the last with a label.
@@ -84,19 +96,82 @@ fn put_entry(
     at
 }
 
-// An entry of the list of labels.
-fn put_next_entry(
+// The next atom with a label, past an atom; `last` where there is none before it.
+fn next_atom(sites: [Site; MAX_SITES], count: usize, atom: usize, last: usize) -> usize
+    requires { ⌜ count ≤ maxSites ⌝ }
+    requires { ⌜ atom < last ⌝ }
+    ensures { λ r. ⌜ Gap atom last (labelsOf (take count sites)) r ⌝ }
+{
+    let mut next = last;
+    let mut i = 0;
+    while i < count {
+        let site = sites[i];
+        next = nearer(atom, site.atom as usize, next);
+        i += 1;
+    }
+    next
+}
+
+// So many `;`s where there is room for them.
+fn fill(out: &mut [u8], at: usize, n: usize) -> usize
+    requires { ⌜ at + n ≤ length (now out) ⌝ }
+    ensures { λ r. ⌜ Written (now (out .entry)) at (replicate n 59) (now (out .exit)) r ⌝ }
+{
+    let end = at + n;
+    let mut p = at;
+    while p < end {
+        out[p] = b';';
+        p += 1;
+    }
+    end
+}
+
+// So many `;`s, one by one, where some may fall past the end.
+fn put_each(out: &mut [u8], at: usize, n: usize) -> usize
+    ensures { λ r. ⌜ Written (now (out .entry)) at (replicate n 59) (now (out .exit)) r ⌝ }
+{
+    let mut p = at;
+    let mut i = 0;
+    while i < n {
+        p = put_byte(out, p, b';');
+        i += 1;
+    }
+    p
+}
+
+// A `;` for each of n atoms.
+fn put_gap(out: &mut [u8], at: usize, n: usize) -> usize
+    ensures { λ r. ⌜ Written (now (out .entry)) at (replicate n 59) (now (out .exit)) r ⌝ }
+{
+    if at < out.len() {
+        if n <= out.len() - at {
+            return fill(out, at, n);
+        }
+        return put_each(out, at, n);
+    }
+    put_each(out, at, n)
+}
+
+// The entries of the atoms up to the last: the label of an atom, then the `;`s up to the next atom with a label.
+fn put_through(
     out: &mut [u8],
     at: usize,
     sites: [Site; MAX_SITES],
     count: usize,
-    atom: usize,
+    last: usize,
 ) -> usize
     requires { ⌜ count ≤ maxSites ⌝ }
     requires { ⌜ Digits (take count sites) ⌝ }
-    ensures { λ r. ⌜ Written (now (out .entry)) at (listed (ltb 0 atom) 59 (showEntry (look atom (labelsOf (take count sites))))) (now (out .exit)) r ⌝ }
+    ensures { λ r. ⌜ Written (now (out .entry)) at (joined 59 (map showEntry (entries (last + 1) 0 (labelsOf (take count sites))))) (now (out .exit)) r ⌝ }
 {
-    let p = put_parting(out, at, 0 < atom, b';');
+    let mut p = at;
+    let mut atom = 0;
+    while atom < last {
+        let next = next_atom(sites, count, atom, last);
+        let q = put_entry(out, p, sites, count, atom);
+        p = put_gap(out, q, next - atom);
+        atom = next;
+    }
     put_entry(out, p, sites, count, atom)
 }
 
@@ -106,13 +181,10 @@ fn put_entries(out: &mut [u8], at: usize, sites: [Site; MAX_SITES], count: usize
     requires { ⌜ Digits (take count sites) ⌝ }
     ensures { λ r. ⌜ Written (now (out .entry)) at (joined 59 (map showEntry (entries n 0 (labelsOf (take count sites))))) (now (out .exit)) r ⌝ }
 {
-    let mut p = at;
-    let mut atom = 0;
-    while atom < n {
-        p = put_next_entry(out, p, sites, count, atom);
-        atom += 1;
+    if n == 0 {
+        return at;
     }
-    p
+    put_through(out, at, sites, count, n - 1)
 }
 
 fn put_label_text(out: &mut [u8], at: usize, sites: [Site; MAX_SITES], count: usize) -> usize
@@ -126,7 +198,7 @@ fn put_label_text(out: &mut [u8], at: usize, sites: [Site; MAX_SITES], count: us
     put_byte(out, q, b'$')
 }
 
-// The labels of the first `count` sites at their atoms, where there are some. One pass over the atoms up to the last with a label.
+// The labels of the first `count` sites at their atoms, where there are some. One pass over the gaps between them.
 pub fn put_label_block(
     out: &mut [u8],
     at: usize,

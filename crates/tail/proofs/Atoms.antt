@@ -10,7 +10,7 @@ use borrow.Author.Tests.{eqb-true, not-false}
 use Rattle.reading.specs.Piece.{show}
 use Rattle.reading.specs.Part.{Part, partOf}
 use Rattle.reading.proofs.Part.{part-from}
-use Rattle.tail.specs.Grammar.{tailAtoms, isTail}
+use Rattle.ringdigits.specs.Grammar.{tailAtoms, isTail}
 use Rattle.tail.proofs.Alone.{Alone, part-is, tail-reads, tail-some}
 
 -- what is no tail counts as 0; a tail as 1 or more: `tail-some`

@@ -5,7 +5,7 @@ use mathlib.Core.Path.{_≡_, refl}
 use mathlib.Core.Bool.{Bool, true, false}
 use mathlib.Core.List.{List, [], _∷_, map}
 use Rattle.reading.specs.Ascii.{ascii}
-use Rattle.tail.specs.Grammar.{tailAtoms, isTail}
+use Rattle.ringdigits.specs.Grammar.{tailAtoms, isTail}
 
 pub data Example : Type 0 where
   tail : String → Example

@@ -1,5 +1,3 @@
-pub mod Bytes
-pub mod Digits
 pub mod Scan
 pub mod Alone
 pub mod Exactly

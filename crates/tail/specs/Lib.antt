@@ -1,2 +1,2 @@
-pub mod Grammar
+pub use Rattle.ringdigits.specs.Grammar
 pub mod Contract

@@ -12,7 +12,7 @@ use Rattle.emit.specs.Text.{Written, after, decimal}
 use Rattle.emit.proofs.Laws.{written-append, written-nil}
 use Rattle.reading.specs.Ascii.{ascii}
 use Rattle.reading.specs.Parting.{joined, led}
-use Rattle.rows.specs.Text.{ended, tabbed}
+use Rattle.heads.specs.Text.{ended, tabbed}
 use Rattle.tally.specs.declared.Counts.{Counts}
 use Rattle.tally.specs.Counts.{counting, withAnswer, countLine, countLinesFrom, countLines}
 

@@ -9,8 +9,8 @@ use Rattle.emit.specs.Text.{decimal}
 use Rattle.reading.specs.Ascii.{ascii}
 use Rattle.reading.specs.Parting.{joined, led}
 use Rattle.reading.proofs.PartingLaws.{All}
-use Rattle.rows.specs.Text.{ended, tabbed}
-use Rattle.rows.proofs.Room.{digits-few}
+use Rattle.heads.specs.Text.{ended, tabbed}
+use Rattle.heads.proofs.Room.{digits-few}
 use Rattle.tally.specs.Counts.{answers, countLine, countLinesFrom}
 
 line-room : (n t : ℕ) → n < answers → t < 2 ^ 64 → length (countLine n t) ≤ 26

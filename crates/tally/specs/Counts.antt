@@ -8,7 +8,7 @@ use lib.Dec.{eqb}
 use Rattle.emit.specs.Text.{decimal, after}
 use Rattle.reading.specs.Ascii.{ascii}
 use Rattle.tally.specs.declared.Counts.{Counts}
-use Rattle.rows.specs.Text.{tabbed}
+use Rattle.heads.specs.Text.{tabbed}
 
 -- the answers, with the largest
 abbrev pub answers : ℕ

@@ -5,8 +5,8 @@ ghost use Rattle.emit.specs.Text.{Written, after};
 ghost use Rattle.tally.specs.Counts.{counting, noTimes, withAnswer, countLine, countLines};
 use emit::put_byte;
 use emit::put_text;
-use rows::put_decimal;
-use rows::put_number_cell;
+use heads::put_decimal;
+use heads::put_number_cell;
 
 // The answers, which are numbers from 0 to 42.
 pub const ANSWERS: usize = 43;

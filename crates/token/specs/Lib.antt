@@ -1,2 +1,3 @@
 pub mod Token
 pub mod Request
+pub mod Lent

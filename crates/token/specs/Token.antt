@@ -1,6 +1,5 @@
 -- 01, Token reader: what a token says, from its untrimmed bytes to a chain, 31 or 11. Bytes: `(` 40, `)` 41, `:` 58. Assumes nothing.
-use Prim.Native.Nat.{ℕ, _+_, _-_, _≤_}
-use mathlib.Core.Path.{_≡_}
+use Prim.Native.Nat.{ℕ, _+_, _-_}
 use mathlib.Core.List.{List, [], _∷_}
 use mathlib.Core.Bool.{Bool, true, false, cond}
 use lib.ListN.{length, take, drop}
@@ -12,9 +11,7 @@ use Rattle.scan.specs.declared.Number.the-variants.{Value, Unreadable}
 use Rattle.record.specs.declared.ChainPrefix.{ChainPrefix}
 use Rattle.record.specs.declared.ChainPrefix.the-variants.{Acyl}
 use Rattle.record.specs.declared.DbPos.{DbPos}
-use Rattle.record.specs.declared.ParsedChain.{ParsedChain}
-use Rattle.record.specs.declared.Parsed.{Parsed}
-use Rattle.record.specs.Chain.{Chain, Outcome, Read, Refused, andThen, unreadable, overLimit, maxCarbons, maxBonds, noFeatures, withUnlocated, countsOf, Holds, Stands}
+use Rattle.record.specs.Chain.{Chain, Outcome, Read, Refused, andThen, unreadable, overLimit, noFeatures, withUnlocated, countsOf}
 use Rattle.seats.specs.Seats.{seated, positions}
 use Rattle.positions.specs.Positions.{bondList}
 use Rattle.opening.specs.declared.Branch.{Branch}
@@ -108,22 +105,3 @@ unfoldable pub tokenOf : List ℕ → Outcome
 tokenOf s =
     cond (ltb maxBytes (length s)) (Refused overLimit)
     (cond (allPrintable s) (trimmedOf (trimmed s)) (Refused overLimit))
-
--- ---- what the readers answer
-
--- r is what is missing beside the bonds of a record, within the limits
-pub record MissingIs (carbon : ℕ) (listed : ParsedChain) (declared : ℕ) (r : Missing) : Type 0 where
-  pub is : (d : Chain) → Holds listed d → carbon ≤ maxCarbons → length (d .bonds) ≤ maxBonds → r ≡ missingOf carbon (d .bonds) declared
-
--- r is whether a record's oxygen count stands alone
-pub record Bare (c : ParsedChain) (r : Bool) : Type 0 where
-  pub is : (d : Chain) → Holds c d → r ≡ bareOxygens d
-
--- a chain before its bond count is read: its carbons are within the limit, and it has no double bond yet
-pub record Begun (d : Chain) : Type 0 where
-  pub few : d .carbon ≤ maxCarbons
-  pub bare : d .bonds ≡ []
-
--- r stands for f of what c holds, where that is a chain before its bond count is read
-pub record Begins (c : ParsedChain) (r : Parsed) (f : Chain → Outcome) : Type 0 where
-  pub stands : (d : Chain) → Holds c d → Begun d → Stands r (f d)

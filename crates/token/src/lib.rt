@@ -1,14 +1,25 @@
-// The token reader: one chain token, as lent bytes, to a chain record, to 31 or to 11. Every byte string of every length has an answer, and
-// it is the one that specs/Token.antt defines; a record that is read holds the chain.
+// The token reader: one chain token, as lent bytes, to a chain, to 31 or to 11. Its double bonds, groups and rings are written to lent arrays,
+// and what is counted of them goes by value. Every byte string of every length has an answer, and it is the one that specs/Token.antt defines;
+// what is read holds the chain.
 use opening::Branch;
+use parsed::Counted;
+use parsed::Counts;
+use parsed::Parsed;
+use parsed::ParsedChain;
 use record::ChainPrefix;
-use record::Parsed;
-use record::ParsedChain;
+use record::GROUP_ROOM;
+use record::MAX_BONDS;
+use record::MAX_GROUPS;
+use record::MAX_RINGS;
 use scan::Number;
 ghost use mathlib.Core.Path.{_≡_};
-ghost use Prim.Native.Nat.{_<_};
-ghost use Rattle.record.specs.Chain.{Stands, Gives};
-ghost use Rattle.token.specs.Token.{printable, allPrintable, MissingIs, Bare, finished, restOf, countedList, Begins, listedOf, afterCount, bondsOf, namedChain, trimmedOf, tokenOf};
+ghost use mathlib.Core.List.{[]};
+ghost use Prim.Native.Nat.{_≤_};
+ghost use lib.ListN.{length};
+ghost use Rattle.record.specs.Chain.{maxBonds, maxGroups, maxRings};
+ghost use Rattle.parsed.specs.Parsed.{Stands, Collects, gather};
+ghost use Rattle.token.specs.Token.{printable, allPrintable, finished, restOf, countedList, listedOf, afterCount, bondsOf, namedChain, trimmedOf, tokenOf};
+ghost use Rattle.token.specs.Lent.{MissingIs, Bare, Finishes, listedAs, Ends, EndsBegun, Tells, noToken, tokenIn};
 
 // The longest token.
 const MAX_BYTES: usize = 255;
@@ -41,16 +52,14 @@ pub enum Missing {
     Unseated,
 }
 
-// The bonds missing beside those of the `(..)` list.
-fn missing_bonds(carbon: u16, listed: ParsedChain, declared: u64) -> Missing
-    ensures { λ r. ⌜ MissingIs carbon listed declared r ⌝ }
+// The bonds missing beside the first n, which are those of the `(..)` list.
+fn missing_bonds(carbon: u16, bonds: &[u64], n: usize, declared: u64) -> Missing
+    ensures { λ r. ⌜ MissingIs carbon (now (bonds .entry)) n declared r ⌝ }
 {
-    let n = listed.bond_count;
     let given = n as u64;
     if declared < given {
         return Missing::Unseated;
     }
-    let bonds = listed.bonds;
     if !seats::placeholder_positions(carbon, bonds, n, declared - given) {
         return Missing::Unseated;
     }
@@ -58,176 +67,332 @@ fn missing_bonds(carbon: u16, listed: ParsedChain, declared: u64) -> Missing
 }
 
 // Whether an oxygen count stands alone: it says how many there are and not on what.
-fn bare_oxygens(chain: ParsedChain) -> bool
-    ensures { λ r. ⌜ Bare chain r ⌝ }
+fn bare_oxygens(counts: Counts) -> bool
+    ensures { λ r. ⌜ Bare counts r ⌝ }
 {
-    if chain.oxygens == 0 {
+    if counts.oxygens == 0 {
         return false;
     }
-    if chain.group_count != 0 {
+    if counts.groups != 0 {
         return false;
     }
-    chain.ring_count == 0
+    counts.rings == 0
+}
+
+// What is known from the bond count on: the number of double bonds without a position, and the counts; or a refusal by its number (0: none).
+pub struct Ended {
+    pub refusal: u16,
+    pub unlocated: u16,
+    pub counts: Counts,
 }
 
 // What is judged after the segments.
-fn finish(missing: Missing, chain: ParsedChain) -> Parsed
-    ensures { λ r. ⌜ Gives chain r (finished missing) ⌝ }
+fn finish(missing: Missing, counts: Counts) -> Ended
+    ensures { λ r. ⌜ Finishes counts r (finished missing) ⌝ }
 {
     let Missing::Seated(n) = missing else {
-        return Parsed {
+        return Ended {
             refusal: record::UNREADABLE,
-            chain,
+            unlocated: 0,
+            counts,
         };
     };
-    if bare_oxygens(chain) {
-        return Parsed {
+    if bare_oxygens(counts) {
+        return Ended {
             refusal: record::UNREADABLE,
-            chain,
+            unlocated: 0,
+            counts,
         };
     }
-    let whole = chain.set_unlocated(n);
-    Parsed {
+    Ended {
         refusal: 0,
-        chain: whole,
+        unlocated: n,
+        counts,
     }
 }
 
 // The segments, if there are any, and what is judged after them.
-fn parse_rest(missing: Missing, s: &[u8], chain: ParsedChain) -> Parsed
-    ensures { λ r. ⌜ Gives chain r (restOf missing (now (s .entry))) ⌝ }
+fn parse_rest(
+    missing: Missing,
+    s: &[u8],
+    carbon: u16,
+    bonds: &mut [u64],
+    groups: &mut [u64],
+    rings: &mut [u64],
+    counts: Counts,
+) -> Ended
+    requires { ⌜ maxBonds ≤ length (now bonds) ⌝ }
+    requires { ⌜ maxGroups ≤ length (now groups) ⌝ }
+    requires { ⌜ maxRings ≤ length (now rings) ⌝ }
+    ensures { λ r. ⌜ Ends carbon counts (now (bonds .entry)) (now (groups .entry)) (now (rings .entry)) r (now (bonds .exit)) (now (groups .exit)) (now (rings .exit)) (restOf missing (now (s .entry))) ⌝ }
 {
     if s.len() == 0 {
-        return finish(missing, chain);
+        return finish(missing, counts);
     }
-    let parsed = segment::parse_segments(s, chain);
-    let refusal = parsed.refusal;
-    if refusal != 0 {
-        return parsed;
+    let read = segment::parse_segments(s, carbon, bonds, groups, rings, counts);
+    let more = read.counts;
+    if read.refusal != 0 {
+        return Ended {
+            refusal: read.refusal,
+            unlocated: 0,
+            counts: more,
+        };
     }
-    let next = parsed.chain;
-    finish(missing, next)
+    finish(missing, more)
 }
 
 // The `(..)` list, and its count.
-fn parse_list(s: &[u8], chain: ParsedChain) -> Parsed
-    ensures { λ r. ⌜ Gives chain r (countedList (now (s .entry))) ⌝ }
+fn parse_list(s: &[u8], bonds: &mut [u64], counts: Counts) -> Counted
+    requires { ⌜ maxBonds ≤ length (now bonds) ⌝ }
+    ensures { λ r. ⌜ Collects listedAs (gather counts (now (bonds .entry)) [] []) r (now (bonds .exit)) [] [] (countedList (now (s .entry))) ⌝ }
 {
-    let parsed = positions::parse_position_list(s, chain);
-    let refusal = parsed.refusal;
-    if refusal != 0 {
-        return parsed;
+    let listed = positions::parse_position_list(s, bonds, counts.bonds);
+    let mut more = counts;
+    more.bonds = listed.count;
+    if listed.refusal != 0 {
+        return Counted {
+            refusal: listed.refusal,
+            counts: more,
+        };
     }
-    let next = parsed.chain;
-    next.counted()
+    parsed::check_counts(more)
 }
 
 // What follows the `(` of the position list.
-fn parse_listed(declared: u64, s: &[u8], chain: ParsedChain) -> Parsed
-    ensures { λ r. ⌜ Begins chain r (listedOf declared (now (s .entry))) ⌝ }
+fn parse_listed(
+    declared: u64,
+    s: &[u8],
+    carbon: u16,
+    bonds: &mut [u64],
+    groups: &mut [u64],
+    rings: &mut [u64],
+    counts: Counts,
+) -> Ended
+    requires { ⌜ maxBonds ≤ length (now bonds) ⌝ }
+    requires { ⌜ maxGroups ≤ length (now groups) ⌝ }
+    requires { ⌜ maxRings ≤ length (now rings) ⌝ }
+    ensures { λ r. ⌜ EndsBegun carbon counts (now (bonds .entry)) (now (groups .entry)) (now (rings .entry)) r (now (bonds .exit)) (now (groups .exit)) (now (rings .exit)) (listedOf declared (now (s .entry))) ⌝ }
 {
     let n = scan::find(s, b')');
     if n == s.len() {
-        return Parsed {
+        return Ended {
             refusal: record::UNREADABLE,
-            chain,
+            unlocated: 0,
+            counts,
         };
     }
-    let parsed = parse_list(&s[0..n], chain);
-    let refusal = parsed.refusal;
-    if refusal != 0 {
-        return parsed;
+    let listed = parse_list(&s[0..n], bonds, counts);
+    let more = listed.counts;
+    if listed.refusal != 0 {
+        return Ended {
+            refusal: listed.refusal,
+            unlocated: 0,
+            counts: more,
+        };
     }
-    let listed = parsed.chain;
-    let missing = missing_bonds(chain.carbon, listed, declared);
-    parse_rest(missing, &s[n + 1..], listed)
+    let missing = missing_bonds(carbon, bonds, more.bonds, declared);
+    parse_rest(missing, &s[n + 1..], carbon, bonds, groups, rings, more)
 }
 
 // What follows the bond count: a position list straight after, or none.
-fn parse_after_count(declared: u64, s: &[u8], chain: ParsedChain) -> Parsed
-    ensures { λ r. ⌜ Begins chain r (afterCount declared (now (s .entry))) ⌝ }
+fn parse_after_count(
+    declared: u64,
+    s: &[u8],
+    carbon: u16,
+    bonds: &mut [u64],
+    groups: &mut [u64],
+    rings: &mut [u64],
+    counts: Counts,
+) -> Ended
+    requires { ⌜ maxBonds ≤ length (now bonds) ⌝ }
+    requires { ⌜ maxGroups ≤ length (now groups) ⌝ }
+    requires { ⌜ maxRings ≤ length (now rings) ⌝ }
+    ensures { λ r. ⌜ EndsBegun carbon counts (now (bonds .entry)) (now (groups .entry)) (now (rings .entry)) r (now (bonds .exit)) (now (groups .exit)) (now (rings .exit)) (afterCount declared (now (s .entry))) ⌝ }
 {
     if scan::starts_with(s, b"(") {
-        return parse_listed(declared, &s[1..], chain);
+        return parse_listed(declared, &s[1..], carbon, bonds, groups, rings, counts);
     }
-    let missing = missing_bonds(chain.carbon, chain, declared);
-    parse_rest(missing, s, chain)
+    let missing = missing_bonds(carbon, bonds, counts.bonds, declared);
+    parse_rest(missing, s, carbon, bonds, groups, rings, counts)
 }
 
 // What follows the colon.
-fn parse_bonds(s: &[u8], chain: ParsedChain) -> Parsed
-    ensures { λ r. ⌜ Begins chain r (bondsOf (now (s .entry))) ⌝ }
+fn parse_bonds(
+    s: &[u8],
+    carbon: u16,
+    bonds: &mut [u64],
+    groups: &mut [u64],
+    rings: &mut [u64],
+    counts: Counts,
+) -> Ended
+    requires { ⌜ maxBonds ≤ length (now bonds) ⌝ }
+    requires { ⌜ maxGroups ≤ length (now groups) ⌝ }
+    requires { ⌜ maxRings ≤ length (now rings) ⌝ }
+    ensures { λ r. ⌜ EndsBegun carbon counts (now (bonds .entry)) (now (groups .entry)) (now (rings .entry)) r (now (bonds .exit)) (now (groups .exit)) (now (rings .exit)) (bondsOf (now (s .entry))) ⌝ }
 {
     let n = scan::digit_run(s);
     let Number::Value(declared) = scan::read_digits(&s[0..n], 4294967295) else {
-        return Parsed {
+        return Ended {
             refusal: record::UNREADABLE,
-            chain,
+            unlocated: 0,
+            counts,
         };
     };
-    parse_after_count(declared, &s[n..], chain)
+    parse_after_count(declared, &s[n..], carbon, bonds, groups, rings, counts)
 }
 
-// A chain without branch word and prefix. It is made in the room of a chain at hand, which a refusal carries back.
-fn parse_named(prefix: ChainPrefix, branch: Branch, s: &[u8], room: ParsedChain) -> Parsed
-    ensures { λ r. ⌜ Stands r (namedChain prefix branch (now (s .entry))) ⌝ }
+// A token that was read, but for the arrays; or a refusal by its number (0: read), and then the rest says nothing.
+pub struct ReadToken {
+    pub refusal: u16,
+    pub prefix: ChainPrefix,
+    pub written: u16,
+    pub carbon: u16,
+    pub branched: bool,
+    pub unlocated: u16,
+    pub counts: Counts,
+}
+
+impl ReadToken {
+    // An empty chain, or a refusal.
+    fn empty(refusal: u16) -> ReadToken
+        ensures { λ r. ⌜ r ≡ noToken refusal ⌝ }
+    {
+        ReadToken {
+            refusal,
+            prefix: ChainPrefix::Acyl,
+            written: 0,
+            carbon: 0,
+            branched: false,
+            unlocated: 0,
+            counts: Counts {
+                bonds: 0,
+                groups: 0,
+                rings: 0,
+                oxygens: 0,
+            },
+        }
+    }
+}
+
+// A chain without branch word and prefix.
+fn parse_named(
+    prefix: ChainPrefix,
+    branch: Branch,
+    s: &[u8],
+    bonds: &mut [u64],
+    groups: &mut [u64],
+    rings: &mut [u64],
+) -> ReadToken
+    requires { ⌜ maxBonds ≤ length (now bonds) ⌝ }
+    requires { ⌜ maxGroups ≤ length (now groups) ⌝ }
+    requires { ⌜ maxRings ≤ length (now rings) ⌝ }
+    ensures { λ r. ⌜ Tells r (now (bonds .exit)) (now (groups .exit)) (now (rings .exit)) (namedChain prefix branch (now (s .entry))) ⌝ }
 {
     let n = scan::find(s, b':');
     if n == s.len() {
-        return Parsed {
-            refusal: record::UNREADABLE,
-            chain: room,
-        };
+        return ReadToken::empty(record::UNREADABLE);
     }
-    let parsed = opening::parse_carbons(&s[0..n], prefix, branch, room);
-    let refusal = parsed.refusal;
-    if refusal != 0 {
-        return parsed;
+    let started = opening::parse_carbons(&s[0..n], prefix, branch, groups);
+    if started.refusal != 0 {
+        return ReadToken::empty(started.refusal);
     }
-    let chain = parsed.chain;
-    parse_bonds(&s[n + 1..], chain)
+    let counts = Counts {
+        bonds: 0,
+        groups: started.groups,
+        rings: 0,
+        oxygens: 0,
+    };
+    let ended = parse_bonds(&s[n + 1..], started.carbon, bonds, groups, rings, counts);
+    let kept = started.prefix;
+    let more = ended.counts;
+    ReadToken {
+        refusal: ended.refusal,
+        prefix: kept,
+        written: started.written,
+        carbon: started.carbon,
+        branched: started.branched,
+        unlocated: ended.unlocated,
+        counts: more,
+    }
 }
 
 // A trimmed token.
-fn parse_trimmed(t: &[u8], room: ParsedChain) -> Parsed
-    ensures { λ r. ⌜ Stands r (trimmedOf (now (t .entry))) ⌝ }
+fn parse_trimmed(t: &[u8], bonds: &mut [u64], groups: &mut [u64], rings: &mut [u64]) -> ReadToken
+    requires { ⌜ maxBonds ≤ length (now bonds) ⌝ }
+    requires { ⌜ maxGroups ≤ length (now groups) ⌝ }
+    requires { ⌜ maxRings ≤ length (now rings) ⌝ }
+    ensures { λ r. ⌜ Tells r (now (bonds .exit)) (now (groups .exit)) (now (rings .exit)) (trimmedOf (now (t .entry))) ⌝ }
 {
     if scan::same(t, b"0:0") {
-        let chain = room.emptied(ChainPrefix::Acyl, 0, 0, false);
-        return Parsed { refusal: 0, chain };
+        return ReadToken::empty(0);
     }
     let opening = opening::read_opening(t);
     let prefix = opening.prefix;
     let branch = opening.branch;
     let n = opening.carbons;
-    parse_named(prefix, branch, &t[n..], room)
+    parse_named(prefix, branch, &t[n..], bonds, groups, rings)
 }
 
-// The chain that a token says, made in the room of a record at hand: whoever reads several tokens fills a new one only once.
-pub fn parse_token(s: &[u8], room: ParsedChain) -> Parsed
-    ensures { λ r. ⌜ Stands r (tokenOf (now (s .entry))) ⌝ }
+// A token, into arrays with room for all that it may say.
+fn read_token(s: &[u8], bonds: &mut [u64], groups: &mut [u64], rings: &mut [u64]) -> ReadToken
+    requires { ⌜ maxBonds ≤ length (now bonds) ⌝ }
+    requires { ⌜ maxGroups ≤ length (now groups) ⌝ }
+    requires { ⌜ maxRings ≤ length (now rings) ⌝ }
+    ensures { λ r. ⌜ Tells r (now (bonds .exit)) (now (groups .exit)) (now (rings .exit)) (tokenOf (now (s .entry))) ⌝ }
 {
     if MAX_BYTES < s.len() {
-        return Parsed {
-            refusal: record::OVER_LIMIT,
-            chain: room,
-        };
+        return ReadToken::empty(record::OVER_LIMIT);
     }
     if !all_printable(s) {
-        return Parsed {
-            refusal: record::OVER_LIMIT,
-            chain: room,
-        };
+        return ReadToken::empty(record::OVER_LIMIT);
     }
-    parse_trimmed(scan::trim(s), room)
+    parse_trimmed(scan::trim(s), bonds, groups, rings)
+}
+
+// The chain that a token says, its double bonds, groups and rings in lent arrays. Arrays with less room than the limits ask are refused by 31.
+pub fn parse_token(s: &[u8], bonds: &mut [u64], groups: &mut [u64], rings: &mut [u64]) -> ReadToken
+    ensures { λ r. ⌜ Tells r (now (bonds .exit)) (now (groups .exit)) (now (rings .exit)) (tokenIn (length (now (bonds .entry))) (length (now (groups .entry))) (length (now (rings .entry))) (now (s .entry))) ⌝ }
+{
+    if bonds.len() < MAX_BONDS {
+        return ReadToken::empty(record::OVER_LIMIT);
+    }
+    if groups.len() < MAX_GROUPS {
+        return ReadToken::empty(record::OVER_LIMIT);
+    }
+    if rings.len() < MAX_RINGS {
+        return ReadToken::empty(record::OVER_LIMIT);
+    }
+    read_token(s, bonds, groups, rings)
 }
 
 // The chain that one token says, by itself.
 pub fn parse_chain_token(s: &[u8]) -> Parsed
     ensures { λ r. ⌜ Stands r (tokenOf (now (s .entry))) ⌝ }
 {
-    let room = ParsedChain::new(ChainPrefix::Acyl, 0, 0, false);
-    parse_token(s, room)
+    let mut bonds = [0u64; MAX_BONDS];
+    let mut groups = [0u64; GROUP_ROOM];
+    let mut rings = [0u64; MAX_RINGS];
+    let read = read_token(s, &mut bonds, &mut groups, &mut rings);
+    let prefix = read.prefix;
+    let counts = read.counts;
+    let chain = ParsedChain {
+        prefix,
+        written: read.written,
+        carbon: read.carbon,
+        branched: read.branched,
+        unlocated: read.unlocated,
+        oxygens: counts.oxygens,
+        bond_count: counts.bonds,
+        bonds,
+        group_count: counts.groups,
+        groups,
+        ring_count: counts.rings,
+        rings,
+    };
+    Parsed {
+        refusal: read.refusal,
+        chain,
+    }
 }
 
 // The most tokens of a request.

@@ -2,12 +2,12 @@
 // `prefix c n bonds groups rings`, or the number of its refusal. It is run on stored vectors and held to the stored answers.
 use libc::STDIN_FILENO;
 use libc::STDOUT_FILENO;
+use parsed::ParsedChain;
 use record::Bridge;
 use record::ChainPrefix;
 use record::DbPos;
 use record::Geometry;
 use record::Mod;
-use record::ParsedChain;
 use record::Ring;
 
 // One byte past the longest token: a longer line answers as its first 256 bytes do.
@@ -58,7 +58,7 @@ fn put_bonds(out: &mut [u8], at: usize, chain: ParsedChain) -> usize {
             return p;
         }
         p = emit::put_byte(out, p, separator(i));
-        p = put_bond(out, p, bonds[i]);
+        p = put_bond(out, p, codes::bond_in(bonds[i]));
         i += 1;
     }
     p
@@ -87,7 +87,7 @@ fn put_groups(out: &mut [u8], at: usize, chain: ParsedChain) -> usize {
             return p;
         }
         p = emit::put_byte(out, p, separator(i));
-        p = put_group(out, p, groups[i]);
+        p = put_group(out, p, codes::group_in(groups[i]));
         i += 1;
     }
     p
@@ -114,7 +114,7 @@ fn put_rings(out: &mut [u8], at: usize, chain: ParsedChain) -> usize {
             return p;
         }
         p = emit::put_byte(out, p, separator(i));
-        p = put_ring(out, p, rings[i]);
+        p = put_ring(out, p, codes::ring_in(rings[i]));
         i += 1;
     }
     p

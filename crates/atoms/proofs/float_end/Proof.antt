@@ -1,25 +1,26 @@
 use borrow.Author.Needs.{needs}
 use Prim.Native.Nat.{_≤_, _-_}
 use native.Mathlib.Omega.{arith}
-use Rattle.drawable.specs.Drawn.{Length, groupRoom, groupsIn}
+use lib.ListN.{length}
+use Rattle.drawable.specs.Drawn.{Length, groupsIn}
 use Rattle.atoms.proofs.NumberLaws.{FloatSum, floats-start, float-counted, floats-counted}
 use Rattle.atoms.proofs.float_end.Statement.{statement}
 use Rattle.atoms.proofs.float_end.Tie as tie
 
 abbrev Inv-loop : tie.InvT-loop
-Inv-loop floats first n end₀ i₀ end i = Length groupRoom (groupsIn floats) n × (i ≤ n) × FloatSum (groupsIn floats) first end i
+Inv-loop floats count first n end₀ i₀ end i = Length (length floats) (groupsIn count floats) n × (i ≤ n) × FloatSum (groupsIn count floats) first end i
 
 abbrev μ-loop : tie.MeasureT-loop
-μ-loop floats first n end₀ i₀ end i = n - i
+μ-loop floats count first n end₀ i₀ end i = n - i
 
-len-requires : tie.Need-len-requires Inv-loop μ-loop
-len-requires c κs = search needs
+groups-len-requires : tie.Need-groups-len-requires Inv-loop μ-loop
+groups-len-requires c κs = search needs
 
 loop-holds : tie.Need-loop-holds Inv-loop μ-loop
 loop-holds c = (search needs, omega arith, search floats-start)
 
-at-requires : tie.Need-at-requires Inv-loop μ-loop
-at-requires c κs = search needs
+nth-group-requires : tie.Need-nth-group-requires Inv-loop μ-loop
+nth-group-requires c κs = search needs
 
 branch-atoms-requires : tie.Need-branch-atoms-requires Inv-loop μ-loop
 branch-atoms-requires c κs = search needs
@@ -48,9 +49,9 @@ float-end-spec =
     (tie.spec
     Inv-loop
     μ-loop
-    len-requires
+    groups-len-requires
     loop-holds
-    at-requires
+    nth-group-requires
     branch-atoms-requires
     add-end
     add-end-2

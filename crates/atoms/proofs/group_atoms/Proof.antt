@@ -1,25 +1,26 @@
 use borrow.Author.Needs.{needs}
 use Prim.Native.Nat.{_≤_, _-_}
 use native.Mathlib.Omega.{arith}
-use Rattle.drawable.specs.Drawn.{Length, groupRoom, groupsIn}
+use lib.ListN.{length}
+use Rattle.drawable.specs.Drawn.{Length, groupsIn}
 use Rattle.atoms.proofs.AtomLaws.{Sums, sums-none, sums-here, sums-past, sums-end}
 use Rattle.atoms.proofs.group_atoms.Statement.{statement}
 use Rattle.atoms.proofs.group_atoms.Tie as tie
 
 abbrev Inv-loop : tie.InvT-loop
-Inv-loop groups k n sum₀ i₀ sum i = Length groupRoom (groupsIn groups) n × (i ≤ n) × Sums (groupsIn groups) k sum i
+Inv-loop groups count k n sum₀ i₀ sum i = Length (length groups) (groupsIn count groups) n × (i ≤ n) × Sums (groupsIn count groups) k sum i
 
 abbrev μ-loop : tie.MeasureT-loop
-μ-loop groups k n sum₀ i₀ sum i = n - i
+μ-loop groups count k n sum₀ i₀ sum i = n - i
 
-len-requires : tie.Need-len-requires Inv-loop μ-loop
-len-requires c κs = search needs
+groups-len-requires : tie.Need-groups-len-requires Inv-loop μ-loop
+groups-len-requires c κs = search needs
 
 loop-holds : tie.Need-loop-holds Inv-loop μ-loop
 loop-holds c = (search needs, omega arith, search sums-none)
 
-at-requires : tie.Need-at-requires Inv-loop μ-loop
-at-requires c κs = search needs
+nth-group-requires : tie.Need-nth-group-requires Inv-loop μ-loop
+nth-group-requires c κs = search needs
 
 branch-atoms-requires : tie.Need-branch-atoms-requires Inv-loop μ-loop
 branch-atoms-requires c κs = search needs
@@ -54,9 +55,9 @@ group-atoms-spec =
     (tie.spec
     Inv-loop
     μ-loop
-    len-requires
+    groups-len-requires
     loop-holds
-    at-requires
+    nth-group-requires
     branch-atoms-requires
     add-sum
     add-i

@@ -1,5 +1,4 @@
 use borrow.Author.Needs.{needs}
-use native.Mathlib.Omega.{arith}
 use Rattle.atoms.proofs.NumberLaws.{chain-numbered}
 use Rattle.atoms.proofs.number_chain.Statement.{statement}
 use Rattle.atoms.proofs.number_chain.Tie as tie
@@ -8,14 +7,27 @@ number-range-requires : tie.Need-number-range-requires
 number-range-requires c κs = search needs
 
 number-tail-requires : tie.Need-number-tail-requires
-number-tail-requires c κs = (omega arith, omega arith)
+number-tail-requires c κs = search needs
 
 float-end-requires : tie.Need-float-end-requires
-float-end-requires c κs = omega arith
+float-end-requires c κs = search needs
+
+cast-t19 : tie.Need-cast-t19
+cast-t19 c = search needs
+
+same-length : tie.Need-same-length
+same-length c = search needs
 
 returns : tie.Need-returns
 returns c = search chain-numbered
 
 pub number-chain-spec : {M : Type 1} → statement M
 number-chain-spec =
-    tie.close (tie.spec number-range-requires number-tail-requires float-end-requires returns)
+    tie.close
+    (tie.spec
+    number-range-requires
+    number-tail-requires
+    float-end-requires
+    cast-t19
+    same-length
+    returns)

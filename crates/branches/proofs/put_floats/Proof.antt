@@ -1,8 +1,8 @@
 use borrow.Author.Needs.{needs}
 use Prim.Native.Nat.{_-_}
 use native.Mathlib.Omega.{arith}
-use lib.ListN.{drop}
-use Rattle.drawable.specs.Drawn.{Length, groupRoom, groupsIn}
+use lib.ListN.{length, drop}
+use Rattle.drawable.specs.Drawn.{Length, groupsIn}
 use Rattle.branches.specs.Text.{floatsText}
 use Rattle.carbons.proofs.Left.{Left, left-all, left-length}
 use Rattle.branches.proofs.Laws.{float-next, floats-end}
@@ -10,19 +10,19 @@ use Rattle.branches.proofs.put_floats.Statement.{statement}
 use Rattle.branches.proofs.put_floats.Tie as tie
 
 abbrev Inv-loop : tie.InvT-loop
-Inv-loop out₀ at floats n p₀ i₀ out p i = Length groupRoom (groupsIn floats) n × Left out₀ at (floatsText (groupsIn floats)) out p (floatsText (drop i (groupsIn floats)))
+Inv-loop out₀ at floats count n p₀ i₀ out p i = Length (length floats) (groupsIn count floats) n × Left out₀ at (floatsText (groupsIn count floats)) out p (floatsText (drop i (groupsIn count floats)))
 
 abbrev μ-loop : tie.MeasureT-loop
-μ-loop out₀ at floats n p₀ i₀ out p i = n - i
+μ-loop out₀ at floats count n p₀ i₀ out p i = n - i
 
-len-requires : tie.Need-len-requires Inv-loop μ-loop
-len-requires c κs = search needs
+groups-len-requires : tie.Need-groups-len-requires Inv-loop μ-loop
+groups-len-requires c κs = search needs
 
 loop-holds : tie.Need-loop-holds Inv-loop μ-loop
 loop-holds c = (search needs, left-all _ _ _ (omega arith))
 
-at-requires : tie.Need-at-requires Inv-loop μ-loop
-at-requires c κs = search needs
+nth-group-requires : tie.Need-nth-group-requires Inv-loop μ-loop
+nth-group-requires c κs = search needs
 
 put-float-requires : tie.Need-put-float-requires Inv-loop μ-loop
 put-float-requires c κs = search needs
@@ -48,9 +48,9 @@ put-floats-spec =
     (tie.spec
     Inv-loop
     μ-loop
-    len-requires
+    groups-len-requires
     loop-holds
-    at-requires
+    nth-group-requires
     put-float-requires
     add-i
     loop-less

@@ -2,8 +2,8 @@ use borrow.Author.Needs.{needs}
 use Prim.Native.Nat.{_+_, _-_}
 use mathlib.Core.Path.{_≡_}
 use native.Mathlib.Omega.{arith}
-use lib.ListN.{drop}
-use Rattle.drawable.specs.Drawn.{Length, groupRoom, groupsIn}
+use lib.ListN.{length, drop}
+use Rattle.drawable.specs.Drawn.{Length, groupsIn}
 use Rattle.branches.specs.Text.{sitting, groupsText}
 use Rattle.carbons.proofs.Left.{Left, left-all, left-length}
 use Rattle.branches.proofs.Laws.{group-here, group-past, groups-end}
@@ -11,19 +11,19 @@ use Rattle.branches.proofs.put_groups.Statement.{statement}
 use Rattle.branches.proofs.put_groups.Tie as tie
 
 abbrev Inv-loop : tie.InvT-loop
-Inv-loop out₀ at groups k n p₀ i₀ out p i = Length groupRoom (groupsIn groups) n × Left out₀ at (groupsText (sitting k (groupsIn groups))) out p (groupsText (sitting k (drop i (groupsIn groups))))
+Inv-loop out₀ at groups count k n p₀ i₀ out p i = Length (length groups) (groupsIn count groups) n × Left out₀ at (groupsText (sitting k (groupsIn count groups))) out p (groupsText (sitting k (drop i (groupsIn count groups))))
 
 abbrev μ-loop : tie.MeasureT-loop
-μ-loop out₀ at groups k n p₀ i₀ out p i = n - i
+μ-loop out₀ at groups count k n p₀ i₀ out p i = n - i
 
-len-requires : tie.Need-len-requires Inv-loop μ-loop
-len-requires c κs = search needs
+groups-len-requires : tie.Need-groups-len-requires Inv-loop μ-loop
+groups-len-requires c κs = search needs
 
 loop-holds : tie.Need-loop-holds Inv-loop μ-loop
 loop-holds c = (search needs, left-all _ _ _ (omega arith))
 
-at-requires : tie.Need-at-requires Inv-loop μ-loop
-at-requires c κs = search needs
+nth-group-requires : tie.Need-nth-group-requires Inv-loop μ-loop
+nth-group-requires c κs = search needs
 
 put-group-requires : tie.Need-put-group-requires Inv-loop μ-loop
 put-group-requires c κs = search needs
@@ -58,9 +58,9 @@ put-groups-spec =
     (tie.spec
     Inv-loop
     μ-loop
-    len-requires
+    groups-len-requires
     loop-holds
-    at-requires
+    nth-group-requires
     put-group-requires
     add-i
     loop-less

@@ -1,21 +1,21 @@
 use borrow.Author.Needs.{needs}
 use Prim.Native.Nat.{_≤_}
 use native.Mathlib.Omega.{arith}
-use lib.ListN.{drop}
-use Rattle.drawable.specs.Drawn.{Length, ringRoom, ringsIn}
+use lib.ListN.{length, drop}
+use Rattle.drawable.specs.Drawn.{Length, ringsIn}
 use Rattle.carbons.specs.ByCarbon.{SetWhere, bridgeAt}
 use Rattle.carbons.proofs.BondLaws.{bridges-none, bridge-set, bridge-not, bridges-all, where-length}
 use Rattle.carbons.proofs.set_bridges.Statement.{statement}
 use Rattle.carbons.proofs.set_bridges.Tie as tie
 
 abbrev Inv-loop : tie.InvT-loop
-Inv-loop bonds₀ rings i₀ bonds i = (i ≤ i₀) × Length ringRoom (ringsIn rings) i₀ × SetWhere (bridgeAt (drop i (ringsIn rings))) 79 bonds₀ bonds
+Inv-loop bonds₀ rings count i₀ bonds i = (i ≤ i₀) × Length (length rings) (ringsIn count rings) i₀ × SetWhere (bridgeAt (drop i (ringsIn count rings))) 79 bonds₀ bonds
 
 abbrev μ-loop : tie.MeasureT-loop
-μ-loop bonds₀ rings i₀ bonds i = i
+μ-loop bonds₀ rings count i₀ bonds i = i
 
-len-requires : tie.Need-len-requires Inv-loop μ-loop
-len-requires c κs = search needs
+rings-len-requires : tie.Need-rings-len-requires Inv-loop μ-loop
+rings-len-requires c κs = search needs
 
 loop-holds : tie.Need-loop-holds Inv-loop μ-loop
 loop-holds c = (omega arith, search needs, search bridges-none)
@@ -23,8 +23,8 @@ loop-holds c = (omega arith, search needs, search bridges-none)
 sub-i : tie.Need-sub-i Inv-loop μ-loop
 sub-i c = search needs
 
-at-requires : tie.Need-at-requires Inv-loop μ-loop
-at-requires c κs = search needs
+nth-ring-requires : tie.Need-nth-ring-requires Inv-loop μ-loop
+nth-ring-requires c κs = search needs
 
 enum-told : tie.Need-enum-told Inv-loop μ-loop
 enum-told c = search needs
@@ -62,10 +62,10 @@ set-bridges-spec =
     (tie.spec
     Inv-loop
     μ-loop
-    len-requires
+    rings-len-requires
     loop-holds
     sub-i
-    at-requires
+    nth-ring-requires
     enum-told
     cast-set-at
     set-at-requires

@@ -1,21 +1,21 @@
 use borrow.Author.Needs.{needs}
 use Prim.Native.Nat.{_≤_}
 use native.Mathlib.Omega.{arith}
-use lib.ListN.{drop}
-use Rattle.drawable.specs.Drawn.{Length, bondRoom, bondsIn}
+use lib.ListN.{length, drop}
+use Rattle.drawable.specs.Drawn.{Length, bondsIn}
 use Rattle.carbons.specs.ByCarbon.{SetWhere, doubleAt}
 use Rattle.carbons.proofs.BondLaws.{doubles-none, double-set, doubles-all, where-length}
 use Rattle.carbons.proofs.set_doubles.Statement.{statement}
 use Rattle.carbons.proofs.set_doubles.Tie as tie
 
 abbrev Inv-loop : tie.InvT-loop
-Inv-loop bonds₀ doubles i₀ bonds i = (i ≤ i₀) × Length bondRoom (bondsIn doubles) i₀ × SetWhere (doubleAt (drop i (bondsIn doubles))) 61 bonds₀ bonds
+Inv-loop bonds₀ doubles count i₀ bonds i = (i ≤ i₀) × Length (length doubles) (bondsIn count doubles) i₀ × SetWhere (doubleAt (drop i (bondsIn count doubles))) 61 bonds₀ bonds
 
 abbrev μ-loop : tie.MeasureT-loop
-μ-loop bonds₀ doubles i₀ bonds i = i
+μ-loop bonds₀ doubles count i₀ bonds i = i
 
-len-requires : tie.Need-len-requires Inv-loop μ-loop
-len-requires c κs = search needs
+bonds-len-requires : tie.Need-bonds-len-requires Inv-loop μ-loop
+bonds-len-requires c κs = search needs
 
 loop-holds : tie.Need-loop-holds Inv-loop μ-loop
 loop-holds c = (omega arith, search needs, search doubles-none)
@@ -23,8 +23,8 @@ loop-holds c = (omega arith, search needs, search doubles-none)
 sub-i : tie.Need-sub-i Inv-loop μ-loop
 sub-i c = search needs
 
-at-requires : tie.Need-at-requires Inv-loop μ-loop
-at-requires c κs = search needs
+nth-bond-requires : tie.Need-nth-bond-requires Inv-loop μ-loop
+nth-bond-requires c κs = search needs
 
 cast-set-at : tie.Need-cast-set-at Inv-loop μ-loop
 cast-set-at c = search needs
@@ -50,10 +50,10 @@ set-doubles-spec =
     (tie.spec
     Inv-loop
     μ-loop
-    len-requires
+    bonds-len-requires
     loop-holds
     sub-i
-    at-requires
+    nth-bond-requires
     cast-set-at
     set-at-requires
     loop-less

@@ -1,21 +1,21 @@
 use borrow.Author.Needs.{needs}
 use Prim.Native.Nat.{_≤_}
 use native.Mathlib.Omega.{arith}
-use lib.ListN.{drop}
-use Rattle.drawable.specs.Drawn.{Length, groupRoom, groupsIn}
+use lib.ListN.{length, drop}
+use Rattle.drawable.specs.Drawn.{Length, groupsIn}
 use Rattle.carbons.specs.ByCarbon.{SetWhere, groupOn}
 use Rattle.carbons.proofs.BondLaws.{groups-none, group-set, groups-all, where-length}
 use Rattle.carbons.proofs.set_groups.Statement.{statement}
 use Rattle.carbons.proofs.set_groups.Tie as tie
 
 abbrev Inv-loop : tie.InvT-loop
-Inv-loop busy₀ groups i₀ busy i = (i ≤ i₀) × Length groupRoom (groupsIn groups) i₀ × SetWhere (groupOn (drop i (groupsIn groups))) 1 busy₀ busy
+Inv-loop busy₀ groups count i₀ busy i = (i ≤ i₀) × Length (length groups) (groupsIn count groups) i₀ × SetWhere (groupOn (drop i (groupsIn count groups))) 1 busy₀ busy
 
 abbrev μ-loop : tie.MeasureT-loop
-μ-loop busy₀ groups i₀ busy i = i
+μ-loop busy₀ groups count i₀ busy i = i
 
-len-requires : tie.Need-len-requires Inv-loop μ-loop
-len-requires c κs = search needs
+groups-len-requires : tie.Need-groups-len-requires Inv-loop μ-loop
+groups-len-requires c κs = search needs
 
 loop-holds : tie.Need-loop-holds Inv-loop μ-loop
 loop-holds c = (omega arith, search needs, search groups-none)
@@ -23,8 +23,8 @@ loop-holds c = (omega arith, search needs, search groups-none)
 sub-i : tie.Need-sub-i Inv-loop μ-loop
 sub-i c = search needs
 
-at-requires : tie.Need-at-requires Inv-loop μ-loop
-at-requires c κs = search needs
+nth-group-requires : tie.Need-nth-group-requires Inv-loop μ-loop
+nth-group-requires c κs = search needs
 
 cast-set-at : tie.Need-cast-set-at Inv-loop μ-loop
 cast-set-at c = search needs
@@ -50,10 +50,10 @@ set-groups-spec =
     (tie.spec
     Inv-loop
     μ-loop
-    len-requires
+    groups-len-requires
     loop-holds
     sub-i
-    at-requires
+    nth-group-requires
     cast-set-at
     set-at-requires
     loop-less

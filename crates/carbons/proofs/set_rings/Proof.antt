@@ -1,21 +1,21 @@
 use borrow.Author.Needs.{needs}
 use Prim.Native.Nat.{_≤_}
 use native.Mathlib.Omega.{arith}
-use lib.ListN.{drop}
-use Rattle.drawable.specs.Drawn.{Length, ringRoom, ringsIn}
+use lib.ListN.{length, drop}
+use Rattle.drawable.specs.Drawn.{Length, ringsIn}
 use Rattle.carbons.specs.ByCarbon.{SetWhere, ringOn}
 use Rattle.carbons.proofs.BondLaws.{rings-none, ring-set, rings-all, where-length}
 use Rattle.carbons.proofs.set_rings.Statement.{statement}
 use Rattle.carbons.proofs.set_rings.Tie as tie
 
 abbrev Inv-loop : tie.InvT-loop
-Inv-loop busy₀ rings i₀ busy i = (i ≤ i₀) × Length ringRoom (ringsIn rings) i₀ × SetWhere (ringOn (drop i (ringsIn rings))) 1 busy₀ busy
+Inv-loop busy₀ rings count i₀ busy i = (i ≤ i₀) × Length (length rings) (ringsIn count rings) i₀ × SetWhere (ringOn (drop i (ringsIn count rings))) 1 busy₀ busy
 
 abbrev μ-loop : tie.MeasureT-loop
-μ-loop busy₀ rings i₀ busy i = i
+μ-loop busy₀ rings count i₀ busy i = i
 
-len-requires : tie.Need-len-requires Inv-loop μ-loop
-len-requires c κs = search needs
+rings-len-requires : tie.Need-rings-len-requires Inv-loop μ-loop
+rings-len-requires c κs = search needs
 
 loop-holds : tie.Need-loop-holds Inv-loop μ-loop
 loop-holds c = (omega arith, search needs, search rings-none)
@@ -23,8 +23,8 @@ loop-holds c = (omega arith, search needs, search rings-none)
 sub-i : tie.Need-sub-i Inv-loop μ-loop
 sub-i c = search needs
 
-at-requires : tie.Need-at-requires Inv-loop μ-loop
-at-requires c κs = search needs
+nth-ring-requires : tie.Need-nth-ring-requires Inv-loop μ-loop
+nth-ring-requires c κs = search needs
 
 cast-set-at : tie.Need-cast-set-at Inv-loop μ-loop
 cast-set-at c = search needs
@@ -56,10 +56,10 @@ set-rings-spec =
     (tie.spec
     Inv-loop
     μ-loop
-    len-requires
+    rings-len-requires
     loop-holds
     sub-i
-    at-requires
+    nth-ring-requires
     cast-set-at
     set-at-requires
     cast-set-at-2

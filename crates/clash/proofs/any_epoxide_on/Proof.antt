@@ -10,19 +10,19 @@ use Rattle.clash.proofs.any_epoxide_on.Statement.{statement}
 use Rattle.clash.proofs.any_epoxide_on.Tie as tie
 
 abbrev Inv-loop : tie.InvT-loop
-Inv-loop rings bonds n i₀ i = anyOf (epoxideOn (bondsIn bonds)) (ringsIn rings) ≡ anyOf (epoxideOn (bondsIn bonds)) (drop i (ringsIn rings))
+Inv-loop rings «ring_count» bonds «bond_count» n i₀ i = anyOf (epoxideOn (bondsIn «bond_count» bonds)) (ringsIn «ring_count» rings) ≡ anyOf (epoxideOn (bondsIn «bond_count» bonds)) (drop i (ringsIn «ring_count» rings))
 
 abbrev μ-loop : tie.MeasureT-loop
-μ-loop rings bonds n i₀ i = n - i
+μ-loop rings «ring_count» bonds «bond_count» n i₀ i = n - i
 
-len-requires : tie.Need-len-requires Inv-loop μ-loop
-len-requires c κs = search needs
+rings-len-requires : tie.Need-rings-len-requires Inv-loop μ-loop
+rings-len-requires c κs = search needs
 
 loop-holds : tie.Need-loop-holds Inv-loop μ-loop
 loop-holds c = refl
 
-at-requires : tie.Need-at-requires Inv-loop μ-loop
-at-requires c κs = search needs
+nth-ring-requires : tie.Need-nth-ring-requires Inv-loop μ-loop
+nth-ring-requires c κs = search needs
 
 epoxide-on-requires : tie.Need-epoxide-on-requires Inv-loop μ-loop
 epoxide-on-requires c κs = search needs
@@ -48,9 +48,9 @@ any-epoxide-on-spec =
     (tie.spec
     Inv-loop
     μ-loop
-    len-requires
+    rings-len-requires
     loop-holds
-    at-requires
+    nth-ring-requires
     epoxide-on-requires
     returns
     add-i

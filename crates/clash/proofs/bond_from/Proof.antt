@@ -10,19 +10,19 @@ use Rattle.clash.proofs.bond_from.Statement.{statement}
 use Rattle.clash.proofs.bond_from.Tie as tie
 
 abbrev Inv-loop : tie.InvT-loop
-Inv-loop bonds from p n i₀ i = anyOf (bondAt p) (drop from (bondsIn bonds)) ≡ anyOf (bondAt p) (drop i (bondsIn bonds))
+Inv-loop bonds count from p n i₀ i = anyOf (bondAt p) (drop from (bondsIn count bonds)) ≡ anyOf (bondAt p) (drop i (bondsIn count bonds))
 
 abbrev μ-loop : tie.MeasureT-loop
-μ-loop bonds from p n i₀ i = n - i
+μ-loop bonds count from p n i₀ i = n - i
 
-len-requires : tie.Need-len-requires Inv-loop μ-loop
-len-requires c κs = search needs
+bonds-len-requires : tie.Need-bonds-len-requires Inv-loop μ-loop
+bonds-len-requires c κs = search needs
 
 loop-holds : tie.Need-loop-holds Inv-loop μ-loop
 loop-holds c = refl
 
-at-requires : tie.Need-at-requires Inv-loop μ-loop
-at-requires c κs = search needs
+nth-bond-requires : tie.Need-nth-bond-requires Inv-loop μ-loop
+nth-bond-requires c κs = search needs
 
 starts-at-requires : tie.Need-starts-at-requires Inv-loop μ-loop
 starts-at-requires c κs = search needs
@@ -48,9 +48,9 @@ bond-from-spec =
     (tie.spec
     Inv-loop
     μ-loop
-    len-requires
+    bonds-len-requires
     loop-holds
-    at-requires
+    nth-bond-requires
     starts-at-requires
     returns
     add-i

@@ -11,19 +11,19 @@ use Rattle.clash.proofs.repeated_anywhere.Statement.{statement}
 use Rattle.clash.proofs.repeated_anywhere.Tie as tie
 
 abbrev Inv-loop : tie.InvT-loop
-Inv-loop bonds n i₀ i = anyTwo sameBond (bondsIn bonds) ≡ anyTwo sameBond (drop i (bondsIn bonds))
+Inv-loop bonds count n i₀ i = anyTwo sameBond (bondsIn count bonds) ≡ anyTwo sameBond (drop i (bondsIn count bonds))
 
 abbrev μ-loop : tie.MeasureT-loop
-μ-loop bonds n i₀ i = n - i
+μ-loop bonds count n i₀ i = n - i
 
-len-requires : tie.Need-len-requires Inv-loop μ-loop
-len-requires c κs = search needs
+bonds-len-requires : tie.Need-bonds-len-requires Inv-loop μ-loop
+bonds-len-requires c κs = search needs
 
 loop-holds : tie.Need-loop-holds Inv-loop μ-loop
 loop-holds c = refl
 
-at-requires : tie.Need-at-requires Inv-loop μ-loop
-at-requires c κs = search needs
+nth-bond-requires : tie.Need-nth-bond-requires Inv-loop μ-loop
+nth-bond-requires c κs = search needs
 
 add-i : tie.Need-add-i Inv-loop μ-loop
 add-i c = search needs
@@ -49,9 +49,9 @@ repeated-anywhere-spec =
     (tie.spec
     Inv-loop
     μ-loop
-    len-requires
+    bonds-len-requires
     loop-holds
-    at-requires
+    nth-bond-requires
     add-i
     bond-from-requires
     returns

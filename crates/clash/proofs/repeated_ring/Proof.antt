@@ -10,19 +10,19 @@ use Rattle.clash.proofs.repeated_ring.Statement.{statement}
 use Rattle.clash.proofs.repeated_ring.Tie as tie
 
 abbrev Inv-loop : tie.InvT-loop
-Inv-loop rings n i₀ i = anyTwo sameRing (ringsIn rings) ≡ anyTwo sameRing (drop i (ringsIn rings))
+Inv-loop rings count n i₀ i = anyTwo sameRing (ringsIn count rings) ≡ anyTwo sameRing (drop i (ringsIn count rings))
 
 abbrev μ-loop : tie.MeasureT-loop
-μ-loop rings n i₀ i = n - i
+μ-loop rings count n i₀ i = n - i
 
-len-requires : tie.Need-len-requires Inv-loop μ-loop
-len-requires c κs = search needs
+rings-len-requires : tie.Need-rings-len-requires Inv-loop μ-loop
+rings-len-requires c κs = search needs
 
 loop-holds : tie.Need-loop-holds Inv-loop μ-loop
 loop-holds c = refl
 
-at-requires : tie.Need-at-requires Inv-loop μ-loop
-at-requires c κs = search needs
+nth-ring-requires : tie.Need-nth-ring-requires Inv-loop μ-loop
+nth-ring-requires c κs = search needs
 
 add-i : tie.Need-add-i Inv-loop μ-loop
 add-i c = search needs
@@ -48,9 +48,9 @@ repeated-ring-spec =
     (tie.spec
     Inv-loop
     μ-loop
-    len-requires
+    rings-len-requires
     loop-holds
-    at-requires
+    nth-ring-requires
     add-i
     ring-from-requires
     returns

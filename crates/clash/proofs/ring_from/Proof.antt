@@ -10,19 +10,19 @@ use Rattle.clash.proofs.ring_from.Statement.{statement}
 use Rattle.clash.proofs.ring_from.Tie as tie
 
 abbrev Inv-loop : tie.InvT-loop
-Inv-loop rings from ring n i₀ i = anyOf (sameRing ring) (drop from (ringsIn rings)) ≡ anyOf (sameRing ring) (drop i (ringsIn rings))
+Inv-loop rings count from ring n i₀ i = anyOf (sameRing ring) (drop from (ringsIn count rings)) ≡ anyOf (sameRing ring) (drop i (ringsIn count rings))
 
 abbrev μ-loop : tie.MeasureT-loop
-μ-loop rings from ring n i₀ i = n - i
+μ-loop rings count from ring n i₀ i = n - i
 
-len-requires : tie.Need-len-requires Inv-loop μ-loop
-len-requires c κs = search needs
+rings-len-requires : tie.Need-rings-len-requires Inv-loop μ-loop
+rings-len-requires c κs = search needs
 
 loop-holds : tie.Need-loop-holds Inv-loop μ-loop
 loop-holds c = refl
 
-at-requires : tie.Need-at-requires Inv-loop μ-loop
-at-requires c κs = search needs
+nth-ring-requires : tie.Need-nth-ring-requires Inv-loop μ-loop
+nth-ring-requires c κs = search needs
 
 same-ring-requires : tie.Need-same-ring-requires Inv-loop μ-loop
 same-ring-requires c κs = search needs
@@ -48,9 +48,9 @@ ring-from-spec =
     (tie.spec
     Inv-loop
     μ-loop
-    len-requires
+    rings-len-requires
     loop-holds
-    at-requires
+    nth-ring-requires
     same-ring-requires
     returns
     add-i

@@ -1,37 +1,31 @@
 use borrow.Author.Needs.{needs}
-use Prim.Native.Nat.{_≤_, _-_}
-use native.Mathlib.Omega.{arith}
+use borrow.Author.Needs.{needs}
+use Prim.Native.Nat.{_-_}
 use mathlib.Core.Path.{_≡_, refl}
-use lib.ListN.{length, take, drop}
-use Rattle.record.proofs.Laws.{length-mapped}
+use lib.ListN.{drop}
+use Rattle.drawable.specs.Drawn.{bondsIn}
 use Rattle.clash.specs.Places.{rising}
-use Rattle.clash.proofs.Clashes.{rising-none, rising-not, rising-next, rising-all}
+use Rattle.clash.proofs.Clashes.{rising-not, rising-next, rising-all}
 use Rattle.clash.proofs.rising_bonds.Statement.{statement}
 use Rattle.clash.proofs.rising_bonds.Tie as tie
 
 abbrev Inv-loop : tie.InvT-loop
-Inv-loop n items last₀ i₀ last i = (rising 0 (take n items) ≡ rising last (drop i (take n items))) × (n ≤ 33) × (length items ≡ 33)
+Inv-loop bonds count n last₀ i₀ last i = rising 0 (bondsIn count bonds) ≡ rising last (drop i (bondsIn count bonds))
 
 abbrev μ-loop : tie.MeasureT-loop
-μ-loop n items last₀ i₀ last i = n - i
+μ-loop bonds count n last₀ i₀ last i = n - i
 
-len-requires : tie.Need-len-requires Inv-loop μ-loop
-len-requires c κs = search needs
-
-returns : tie.Need-returns Inv-loop μ-loop
-returns c = search rising-none
+bonds-len-requires : tie.Need-bonds-len-requires Inv-loop μ-loop
+bonds-len-requires c κs = search needs
 
 loop-holds : tie.Need-loop-holds Inv-loop μ-loop
-loop-holds c = (refl, omega arith, search length-mapped)
+loop-holds c = refl
 
-mul-bond : tie.Need-mul-bond Inv-loop μ-loop
-mul-bond c = search needs
+nth-bond-requires : tie.Need-nth-bond-requires Inv-loop μ-loop
+nth-bond-requires c κs = search needs
 
-array-copy-out-bond : tie.Need-array-copy-out-bond Inv-loop μ-loop
-array-copy-out-bond c = search needs
-
-returns-2 : tie.Need-returns-2 Inv-loop μ-loop
-returns-2 c = search rising-not
+returns : tie.Need-returns Inv-loop μ-loop
+returns c = search rising-not
 
 add-i : tie.Need-add-i Inv-loop μ-loop
 add-i c = search needs
@@ -40,10 +34,10 @@ loop-less : tie.Need-loop-less Inv-loop μ-loop
 loop-less c = search needs
 
 loop-again : tie.Need-loop-again Inv-loop μ-loop
-loop-again c = (search rising-next, search needs, search needs)
+loop-again c = search rising-next
 
-returns-3 : tie.Need-returns-3 Inv-loop μ-loop
-returns-3 c = search rising-all
+returns-2 : tie.Need-returns-2 Inv-loop μ-loop
+returns-2 c = search rising-all
 
 pub rising-bonds-spec : {M : Type 1} → statement M
 rising-bonds-spec =
@@ -51,13 +45,11 @@ rising-bonds-spec =
     (tie.spec
     Inv-loop
     μ-loop
-    len-requires
-    returns
+    bonds-len-requires
     loop-holds
-    mul-bond
-    array-copy-out-bond
-    returns-2
+    nth-bond-requires
+    returns
     add-i
     loop-less
     loop-again
-    returns-3)
+    returns-2)

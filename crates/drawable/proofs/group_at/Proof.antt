@@ -9,19 +9,19 @@ use Rattle.drawable.proofs.group_at.Statement.{statement}
 use Rattle.drawable.proofs.group_at.Tie as tie
 
 abbrev Inv-loop : tie.InvT-loop
-Inv-loop groups p n i₀ i = anyOf (groupAt p) (groupsIn groups) ≡ anyOf (groupAt p) (drop i (groupsIn groups))
+Inv-loop groups count p n i₀ i = anyOf (groupAt p) (groupsIn count groups) ≡ anyOf (groupAt p) (drop i (groupsIn count groups))
 
 abbrev μ-loop : tie.MeasureT-loop
-μ-loop groups p n i₀ i = n - i
+μ-loop groups count p n i₀ i = n - i
 
-len-requires : tie.Need-len-requires Inv-loop μ-loop
-len-requires c κs = search needs
+groups-len-requires : tie.Need-groups-len-requires Inv-loop μ-loop
+groups-len-requires c κs = search needs
 
 loop-holds : tie.Need-loop-holds Inv-loop μ-loop
 loop-holds c = refl
 
-at-requires : tie.Need-at-requires Inv-loop μ-loop
-at-requires c κs = search needs
+nth-group-requires : tie.Need-nth-group-requires Inv-loop μ-loop
+nth-group-requires c κs = search needs
 
 sits-at-requires : tie.Need-sits-at-requires Inv-loop μ-loop
 sits-at-requires c κs = search needs
@@ -47,9 +47,9 @@ group-at-spec =
     (tie.spec
     Inv-loop
     μ-loop
-    len-requires
+    groups-len-requires
     loop-holds
-    at-requires
+    nth-group-requires
     sits-at-requires
     returns
     add-i

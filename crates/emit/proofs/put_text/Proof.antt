@@ -1,8 +1,8 @@
 use Prim.Native.Nat.{_≤_, _-_}
 use native.Mathlib.Omega.{arith}
 use lib.ListN.{length, take}
-use Rattle.emit.specs.Text.{Written}
-use Rattle.emit.proofs.Laws.{written-nil, written-byte, written-whole, written-length}
+use Rattle.store.specs.Text.{Written}
+use Rattle.store.proofs.Laws.{written-nil, written-byte, written-whole, written-length}
 use Rattle.emit.proofs.put_text.Statement.{statement}
 use Rattle.emit.proofs.put_text.Tie as tie
 

@@ -11,27 +11,24 @@ use Rattle.judge.proofs.judge_tokens.Statement.{statement}
 use Rattle.judge.proofs.judge_tokens.Tie as tie
 
 abbrev Inv-loop : tie.InvT-loop
-Inv-loop class tail count sn1 sn2 sn3 sn4 room faults₀ items₀ i₀ faults items i = Met class faults (take i items) (tokensOf (take i (sn1 ∷ sn2 ∷ sn3 ∷ sn4 ∷ []))) × (i ≤ count) × (count ≤ 4) × (length items ≡ 4)
+Inv-loop class tail count sn1 sn2 sn3 sn4 faults₀ items₀ i₀ faults items i = Met class faults (take i items) (tokensOf (take i (sn1 ∷ sn2 ∷ sn3 ∷ sn4 ∷ []))) × (i ≤ count) × (count ≤ 4) × (length items ≡ 4)
 
 abbrev μ-loop : tie.MeasureT-loop
-μ-loop class tail count sn1 sn2 sn3 sn4 room faults₀ items₀ i₀ faults items i = count - i
-
-new-requires : tie.Need-new-requires Inv-loop μ-loop
-new-requires c κs = search needs
+μ-loop class tail count sn1 sn2 sn3 sn4 faults₀ items₀ i₀ faults items i = count - i
 
 look-requires : tie.Need-look-requires Inv-loop μ-loop
 look-requires c κs = search needs
 
-new-requires-2 : tie.Need-new-requires-2 Inv-loop μ-loop
-new-requires-2 c κs = search needs
+new-requires : tie.Need-new-requires Inv-loop μ-loop
+new-requires c κs = search needs
 
 join-requires : tie.Need-join-requires Inv-loop μ-loop
 join-requires c κs = search needs
 
 loop-holds : tie.Need-loop-holds Inv-loop μ-loop
 loop-holds c =
-    let c10 = c .before .before .before .before .before .before .before .before .before .before in
-    (search met-first, omega (arith, c10 .pre .0), c10 .pre .1, search needs)
+    let c9 = c .before .before .before .before .before .before .before .before .before in
+    (search met-first, omega (arith, c9 .pre .0), c9 .pre .1, search needs)
 
 look-requires-2 : tie.Need-look-requires-2 Inv-loop μ-loop
 look-requires-2 c κs = search needs
@@ -73,9 +70,8 @@ judge-tokens-spec =
     (tie.spec
     Inv-loop
     μ-loop
-    new-requires
     look-requires
-    new-requires-2
+    new-requires
     join-requires
     loop-holds
     look-requires-2

@@ -12,8 +12,8 @@ role-of-requires c κs = search needs
 token-at-requires : tie.Need-token-at-requires
 token-at-requires c κs = search needs
 
-parse-token-requires : tie.Need-parse-token-requires
-parse-token-requires c κs = search needs
+parse-chain-token-requires : tie.Need-parse-chain-token-requires
+parse-chain-token-requires c κs = search needs
 
 drawn-as-requires : tie.Need-drawn-as-requires
 drawn-as-requires c κs = search needs
@@ -37,7 +37,7 @@ look-spec =
     add-role-of
     role-of-requires
     token-at-requires
-    parse-token-requires
+    parse-chain-token-requires
     drawn-as-requires
     kind-refusal-requires
     place-refusal-requires

@@ -2,9 +2,9 @@ use borrow.Author.Needs.{needs}
 use Prim.Native.Nat.{_+_, _-_}
 use mathlib.Core.Path.{_≡_}
 use native.Mathlib.Omega.{arith}
-use lib.ListN.{drop}
+use lib.ListN.{length, drop}
 use Rattle.chain.specs.Drawing.{ringPairs}
-use Rattle.drawable.specs.Drawn.{Length, ringRoom, ringsIn}
+use Rattle.drawable.specs.Drawn.{Length, ringsIn}
 use Rattle.labels.specs.Text.{labelsText}
 use Rattle.carbons.proofs.Left.{Left, left-all, left-length}
 use Rattle.labels.proofs.Laws.{label-next, labels-end}
@@ -12,19 +12,19 @@ use Rattle.labels.proofs.put_labels.Statement.{statement}
 use Rattle.labels.proofs.put_labels.Tie as tie
 
 abbrev Inv-loop : tie.InvT-loop
-Inv-loop out₀ at rings k label n p₀ l₀ i₀ out p l i = Length ringRoom (ringsIn rings) n × (l ≡ label + i) × Left out₀ at (labelsText k label (ringPairs (ringsIn rings))) out p (labelsText k l (ringPairs (drop i (ringsIn rings))))
+Inv-loop out₀ at rings count k label n p₀ l₀ i₀ out p l i = Length (length rings) (ringsIn count rings) n × (l ≡ label + i) × Left out₀ at (labelsText k label (ringPairs (ringsIn count rings))) out p (labelsText k l (ringPairs (drop i (ringsIn count rings))))
 
 abbrev μ-loop : tie.MeasureT-loop
-μ-loop out₀ at rings k label n p₀ l₀ i₀ out p l i = n - i
+μ-loop out₀ at rings count k label n p₀ l₀ i₀ out p l i = n - i
 
-len-requires : tie.Need-len-requires Inv-loop μ-loop
-len-requires c κs = search needs
+rings-len-requires : tie.Need-rings-len-requires Inv-loop μ-loop
+rings-len-requires c κs = search needs
 
 loop-holds : tie.Need-loop-holds Inv-loop μ-loop
 loop-holds c = (search needs, omega arith, left-all _ _ _ (omega arith))
 
-at-requires : tie.Need-at-requires Inv-loop μ-loop
-at-requires c κs = search needs
+nth-ring-requires : tie.Need-nth-ring-requires Inv-loop μ-loop
+nth-ring-requires c κs = search needs
 
 put-end-requires : tie.Need-put-end-requires Inv-loop μ-loop
 put-end-requires c κs = search needs
@@ -53,9 +53,9 @@ put-labels-spec =
     (tie.spec
     Inv-loop
     μ-loop
-    len-requires
+    rings-len-requires
     loop-holds
-    at-requires
+    nth-ring-requires
     put-end-requires
     add-l
     add-i

@@ -1,41 +1,43 @@
-use borrow.Author.Needs.{needs}
 use native.Mathlib.Omega.{arith}
-use Prim.Native.Nat.{_≤_, _-_}
+use Prim.Native.Nat.{_≤_, _-_, min}
 use mathlib.Core.Path.{_≡_}
-use mathlib.Core.List.{map}
 use lib.ListN.{length, take}
 use Rattle.record.proofs.Laws.{length-mapped}
-use Rattle.listing.specs.Lists.{ListsHeld}
-use Rattle.listing.proofs.ListsLaws.{listAt, lists-more, lists-are}
+use Rattle.placed.specs.Fragment.{gathered}
+use Rattle.rising.specs.Order.{picked}
+use Rattle.listing.specs.Lists.{listsAt, ListsHeld}
+use Rattle.listing.proofs.ListsLaws.{lists-more, lists-past, lists-all}
+use borrow.Author.Needs.{needs}
 use Rattle.listing.proofs.lists_by_sn.Statement.{statement}
 use Rattle.listing.proofs.lists_by_sn.Tie as tie
 
 abbrev Inv-loop : tie.InvT-loop
-Inv-loop s count n items lists₀ i₀ lists i = (i ≤ n) × (n ≤ 4) × (length items ≡ 4) × ListsHeld (map (listAt s) (take i items)) lists
+Inv-loop placed n items lists₀ i₀ lists i = (i ≤ n) × (n ≤ 4) × (length items ≡ 4) × (length placed ≡ 4) × ListsHeld (listsAt placed (take i items)) lists
 
 abbrev μ-loop : tie.MeasureT-loop
-μ-loop s count n items lists₀ i₀ lists i = n - i
+μ-loop placed n items lists₀ i₀ lists i = n - i
 
-by-sn-requires : tie.Need-by-sn-requires Inv-loop μ-loop
-by-sn-requires c κs = search needs
+in-places-requires : tie.Need-in-places-requires Inv-loop μ-loop
+in-places-requires c κs = search needs
 
 new-requires : tie.Need-new-requires Inv-loop μ-loop
 new-requires c κs = search needs
 
 loop-holds : tie.Need-loop-holds Inv-loop μ-loop
-loop-holds c = (omega arith, search needs, search length-mapped, search needs)
+unfolding gathered picked listsAt
+loop-holds c = (omega arith, omega arith, search needs, search length-mapped, search needs)
+
+mul-k : tie.Need-mul-k Inv-loop μ-loop
+mul-k c = search needs
+
+array-read-k : tie.Need-array-read-k Inv-loop μ-loop
+array-read-k c = search needs
 
 mul-p : tie.Need-mul-p Inv-loop μ-loop
 mul-p c = search needs
 
 array-copy-out-p : tie.Need-array-copy-out-p Inv-loop μ-loop
 array-copy-out-p c = search needs
-
-at-requires : tie.Need-at-requires Inv-loop μ-loop
-at-requires c κs = search needs
-
-list-of-requires : tie.Need-list-of-requires Inv-loop μ-loop
-list-of-requires c κs = search needs
 
 push-requires : tie.Need-push-requires Inv-loop μ-loop
 push-requires c κs = search needs
@@ -47,10 +49,26 @@ loop-less : tie.Need-loop-less Inv-loop μ-loop
 loop-less c = search needs
 
 loop-again : tie.Need-loop-again Inv-loop μ-loop
-loop-again c = (omega arith, omega arith, search needs, search lists-more)
+loop-again c =
+    let v = c .before .before .before .before .loop in (
+      omega arith,
+      omega arith,
+      search needs,
+      search needs,
+      lists-more _ _ _ _ _ _ _ (v .inv .3) (v .inv .2) (v .inv .1) (c .before .before .before .loop-test .taken) (c .before .before .if1 .taken) (v .inv .4) (c .push .ensures),
+    )
+
+add-i-2 : tie.Need-add-i-2 Inv-loop μ-loop
+add-i-2 c = search needs
+
+loop-less-2 : tie.Need-loop-less-2 Inv-loop μ-loop
+loop-less-2 c = search needs
+
+loop-again-2 : tie.Need-loop-again-2 Inv-loop μ-loop
+loop-again-2 c = (omega arith, omega arith, search needs, search needs, search lists-past)
 
 returns : tie.Need-returns Inv-loop μ-loop
-returns c = search lists-are
+returns c = search lists-all
 
 pub lists-by-sn-spec : {M : Type 1} → statement M
 lists-by-sn-spec =
@@ -58,15 +76,18 @@ lists-by-sn-spec =
     (tie.spec
     Inv-loop
     μ-loop
-    by-sn-requires
+    in-places-requires
     new-requires
     loop-holds
+    mul-k
+    array-read-k
     mul-p
     array-copy-out-p
-    at-requires
-    list-of-requires
     push-requires
     add-i
     loop-less
     loop-again
+    add-i-2
+    loop-less-2
+    loop-again-2
     returns)

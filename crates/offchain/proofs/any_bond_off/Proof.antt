@@ -1,41 +1,34 @@
 use borrow.Author.Needs.{needs}
-use Prim.Native.Nat.{_≤_, _-_}
-use native.Mathlib.Omega.{arith}
+use Prim.Native.Nat.{_-_}
 use mathlib.Core.Path.{_≡_, refl}
-use lib.ListN.{length, take, drop}
-use Rattle.record.proofs.Laws.{length-mapped}
+use lib.ListN.{drop}
 use Rattle.chain.specs.Lists.{anyOf}
 use Rattle.chain.specs.Refusals.{doubleOff}
-use Rattle.offchain.proofs.Off.{bonds-empty, bonds-here, bonds-next, bonds-none}
+use Rattle.drawable.specs.Drawn.{bondsIn}
+use Rattle.drawable.proofs.Through.{any-here, any-next, any-none}
 use Rattle.offchain.proofs.any_bond_off.Statement.{statement}
 use Rattle.offchain.proofs.any_bond_off.Tie as tie
 
 abbrev Inv-loop : tie.InvT-loop
-Inv-loop first carbon n items i₀ i = (anyOf (doubleOff first carbon) (take n items) ≡ anyOf (doubleOff first carbon) (drop i (take n items))) × (n ≤ 33) × (length items ≡ 33)
+Inv-loop bonds count first carbon n i₀ i = anyOf (doubleOff first carbon) (bondsIn count bonds) ≡ anyOf (doubleOff first carbon) (drop i (bondsIn count bonds))
 
 abbrev μ-loop : tie.MeasureT-loop
-μ-loop first carbon n items i₀ i = n - i
+μ-loop bonds count first carbon n i₀ i = n - i
 
-len-requires : tie.Need-len-requires Inv-loop μ-loop
-len-requires c κs = search needs
-
-returns : tie.Need-returns Inv-loop μ-loop
-returns c = search bonds-empty
+bonds-len-requires : tie.Need-bonds-len-requires Inv-loop μ-loop
+bonds-len-requires c κs = search needs
 
 loop-holds : tie.Need-loop-holds Inv-loop μ-loop
-loop-holds c = (refl, omega arith, search length-mapped)
+loop-holds c = refl
 
-mul-bond : tie.Need-mul-bond Inv-loop μ-loop
-mul-bond c = search needs
-
-array-copy-out-bond : tie.Need-array-copy-out-bond Inv-loop μ-loop
-array-copy-out-bond c = search needs
+nth-bond-requires : tie.Need-nth-bond-requires Inv-loop μ-loop
+nth-bond-requires c κs = search needs
 
 bond-off-requires : tie.Need-bond-off-requires Inv-loop μ-loop
 bond-off-requires c κs = search needs
 
-returns-2 : tie.Need-returns-2 Inv-loop μ-loop
-returns-2 c = search bonds-here
+returns : tie.Need-returns Inv-loop μ-loop
+returns c = search any-here
 
 add-i : tie.Need-add-i Inv-loop μ-loop
 add-i c = search needs
@@ -44,10 +37,10 @@ loop-less : tie.Need-loop-less Inv-loop μ-loop
 loop-less c = search needs
 
 loop-again : tie.Need-loop-again Inv-loop μ-loop
-loop-again c = (search bonds-next, search needs, search needs)
+loop-again c = search any-next
 
-returns-3 : tie.Need-returns-3 Inv-loop μ-loop
-returns-3 c = search bonds-none
+returns-2 : tie.Need-returns-2 Inv-loop μ-loop
+returns-2 c = search any-none
 
 pub any-bond-off-spec : {M : Type 1} → statement M
 any-bond-off-spec =
@@ -55,14 +48,12 @@ any-bond-off-spec =
     (tie.spec
     Inv-loop
     μ-loop
-    len-requires
-    returns
+    bonds-len-requires
     loop-holds
-    mul-bond
-    array-copy-out-bond
+    nth-bond-requires
     bond-off-requires
-    returns-2
+    returns
     add-i
     loop-less
     loop-again
-    returns-3)
+    returns-2)

@@ -10,19 +10,19 @@ use Rattle.offchain.proofs.any_group_off.Statement.{statement}
 use Rattle.offchain.proofs.any_group_off.Tie as tie
 
 abbrev Inv-loop : tie.InvT-loop
-Inv-loop groups first carbon n i₀ i = anyOf (groupOff first carbon) (groupsIn groups) ≡ anyOf (groupOff first carbon) (drop i (groupsIn groups))
+Inv-loop groups count first carbon n i₀ i = anyOf (groupOff first carbon) (groupsIn count groups) ≡ anyOf (groupOff first carbon) (drop i (groupsIn count groups))
 
 abbrev μ-loop : tie.MeasureT-loop
-μ-loop groups first carbon n i₀ i = n - i
+μ-loop groups count first carbon n i₀ i = n - i
 
-len-requires : tie.Need-len-requires Inv-loop μ-loop
-len-requires c κs = search needs
+groups-len-requires : tie.Need-groups-len-requires Inv-loop μ-loop
+groups-len-requires c κs = search needs
 
 loop-holds : tie.Need-loop-holds Inv-loop μ-loop
 loop-holds c = refl
 
-at-requires : tie.Need-at-requires Inv-loop μ-loop
-at-requires c κs = search needs
+nth-group-requires : tie.Need-nth-group-requires Inv-loop μ-loop
+nth-group-requires c κs = search needs
 
 group-off-requires : tie.Need-group-off-requires Inv-loop μ-loop
 group-off-requires c κs = search needs
@@ -48,9 +48,9 @@ any-group-off-spec =
     (tie.spec
     Inv-loop
     μ-loop
-    len-requires
+    groups-len-requires
     loop-holds
-    at-requires
+    nth-group-requires
     group-off-requires
     returns
     add-i

@@ -10,19 +10,19 @@ use Rattle.offchain.proofs.any_ring_off.Statement.{statement}
 use Rattle.offchain.proofs.any_ring_off.Tie as tie
 
 abbrev Inv-loop : tie.InvT-loop
-Inv-loop rings first acyl n i₀ i = anyOf (ringOff first acyl) (ringsIn rings) ≡ anyOf (ringOff first acyl) (drop i (ringsIn rings))
+Inv-loop rings count first acyl n i₀ i = anyOf (ringOff first acyl) (ringsIn count rings) ≡ anyOf (ringOff first acyl) (drop i (ringsIn count rings))
 
 abbrev μ-loop : tie.MeasureT-loop
-μ-loop rings first acyl n i₀ i = n - i
+μ-loop rings count first acyl n i₀ i = n - i
 
-len-requires : tie.Need-len-requires Inv-loop μ-loop
-len-requires c κs = search needs
+rings-len-requires : tie.Need-rings-len-requires Inv-loop μ-loop
+rings-len-requires c κs = search needs
 
 loop-holds : tie.Need-loop-holds Inv-loop μ-loop
 loop-holds c = refl
 
-at-requires : tie.Need-at-requires Inv-loop μ-loop
-at-requires c κs = search needs
+nth-ring-requires : tie.Need-nth-ring-requires Inv-loop μ-loop
+nth-ring-requires c κs = search needs
 
 ring-off-requires : tie.Need-ring-off-requires Inv-loop μ-loop
 ring-off-requires c κs = search needs
@@ -48,9 +48,9 @@ any-ring-off-spec =
     (tie.spec
     Inv-loop
     μ-loop
-    len-requires
+    rings-len-requires
     loop-holds
-    at-requires
+    nth-ring-requires
     ring-off-requires
     returns
     add-i

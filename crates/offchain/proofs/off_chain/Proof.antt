@@ -27,8 +27,8 @@ returns-4 c = search off-ether
 returns-5 : tie.Need-returns-5
 returns-5 c = search on-carbons
 
-len-requires : tie.Need-len-requires
-len-requires c κs = search needs
+groups-len-requires : tie.Need-groups-len-requires
+groups-len-requires c κs = search needs
 
 returns-6 : tie.Need-returns-6
 returns-6 c = search on-nothing
@@ -48,6 +48,6 @@ off-chain-spec =
     returns-3
     returns-4
     returns-5
-    len-requires
+    groups-len-requires
     returns-6
     returns-7)

@@ -6,23 +6,26 @@ use Rattle.opening.proofs.branched_chain.Tie as tie
 add-if1 : tie.Need-add-if1
 add-if1 c = search needs
 
+refused-requires : tie.Need-refused-requires
+refused-requires c κs = search needs
+
 returns : tie.Need-returns
 returns c = search too-few
 
 sub-carbon : tie.Need-sub-carbon
 sub-carbon c = search needs
 
-emptied-requires : tie.Need-emptied-requires
-emptied-requires c κs = search needs
+sub-t8 : tie.Need-sub-t8
+sub-t8 c = search needs
 
-sub-t9 : tie.Need-sub-t9
-sub-t9 c = search needs
-
-cast-t11 : tie.Need-cast-t11
-cast-t11 c = search needs
+cast-t10 : tie.Need-cast-t10
+cast-t10 c = search needs
 
 push-group-requires : tie.Need-push-group-requires
 push-group-requires c κs = search needs
+
+same-length : tie.Need-same-length
+same-length c = search needs
 
 returns-2 : tie.Need-returns-2
 returns-2 c = search methyl-on
@@ -32,10 +35,11 @@ branched-chain-spec =
     tie.close
     (tie.spec
     add-if1
+    refused-requires
     returns
     sub-carbon
-    emptied-requires
-    sub-t9
-    cast-t11
+    sub-t8
+    cast-t10
     push-group-requires
+    same-length
     returns-2)

@@ -9,9 +9,6 @@ branch-offset-requires c κs = search needs
 enum-told : tie.Need-enum-told
 enum-told c = search needs
 
-emptied-requires : tie.Need-emptied-requires
-emptied-requires c κs = search needs
-
 enum-told-2 : tie.Need-enum-told-2
 enum-told-2 c = search needs
 
@@ -27,8 +24,14 @@ branched-chain-requires-2 c κs = search needs
 returns : tie.Need-returns
 returns c = search start-straight
 
+same-length : tie.Need-same-length
+same-length c = search needs
+
 returns-2 : tie.Need-returns-2
 returns-2 c = search start-iso
+
+same-length-2 : tie.Need-same-length-2
+same-length-2 c = search needs
 
 returns-3 : tie.Need-returns-3
 returns-3 c = search start-anteiso
@@ -39,11 +42,12 @@ start-chain-spec =
     (tie.spec
     branch-offset-requires
     enum-told
-    emptied-requires
     enum-told-2
     branched-chain-requires
     enum-told-3
     branched-chain-requires-2
     returns
+    same-length
     returns-2
+    same-length-2
     returns-3)

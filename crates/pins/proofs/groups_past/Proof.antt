@@ -11,19 +11,19 @@ use Rattle.pins.proofs.groups_past.Statement.{statement}
 use Rattle.pins.proofs.groups_past.Tie as tie
 
 abbrev Inv-loop : tie.InvT-loop
-Inv-loop groups bound n i₀ i = allOf (ltb bound) (map groupPin (groupsIn groups)) ≡ allOf (ltb bound) (map groupPin (drop i (groupsIn groups)))
+Inv-loop groups count bound n i₀ i = allOf (ltb bound) (map groupPin (groupsIn count groups)) ≡ allOf (ltb bound) (map groupPin (drop i (groupsIn count groups)))
 
 abbrev μ-loop : tie.MeasureT-loop
-μ-loop groups bound n i₀ i = n - i
+μ-loop groups count bound n i₀ i = n - i
 
-len-requires : tie.Need-len-requires Inv-loop μ-loop
-len-requires c κs = search needs
+groups-len-requires : tie.Need-groups-len-requires Inv-loop μ-loop
+groups-len-requires c κs = search needs
 
 loop-holds : tie.Need-loop-holds Inv-loop μ-loop
 loop-holds c = refl
 
-at-requires : tie.Need-at-requires Inv-loop μ-loop
-at-requires c κs = search needs
+nth-group-requires : tie.Need-nth-group-requires Inv-loop μ-loop
+nth-group-requires c κs = search needs
 
 returns : tie.Need-returns Inv-loop μ-loop
 returns c = search past-not
@@ -46,9 +46,9 @@ groups-past-spec =
     (tie.spec
     Inv-loop
     μ-loop
-    len-requires
+    groups-len-requires
     loop-holds
-    at-requires
+    nth-group-requires
     returns
     add-i
     loop-less

@@ -3,14 +3,14 @@ use borrow.Author.Needs.{needs}
 use Rattle.pins.proofs.no_pins.Statement.{statement}
 use Rattle.pins.proofs.no_pins.Tie as tie
 
-len-requires : tie.Need-len-requires
-len-requires c κs = search needs
+groups-len-requires : tie.Need-groups-len-requires
+groups-len-requires c κs = search needs
 
 returns : tie.Need-returns
 returns c = search pins-group
 
-len-requires-2 : tie.Need-len-requires-2
-len-requires-2 c κs = search needs
+rings-len-requires : tie.Need-rings-len-requires
+rings-len-requires c κs = search needs
 
 returns-2 : tie.Need-returns-2
 returns-2 c = search pins-ring
@@ -19,4 +19,4 @@ returns-3 : tie.Need-returns-3
 returns-3 c = search pins-none
 
 pub no-pins-spec : {M : Type 1} → statement M
-no-pins-spec = tie.close (tie.spec len-requires returns len-requires-2 returns-2 returns-3)
+no-pins-spec = tie.close (tie.spec groups-len-requires returns rings-len-requires returns-2 returns-3)

@@ -12,19 +12,19 @@ use Rattle.pins.proofs.rings_past.Statement.{statement}
 use Rattle.pins.proofs.rings_past.Tie as tie
 
 abbrev Inv-loop : tie.InvT-loop
-Inv-loop rings bound n i₀ i = allOf (ltb bound) (map ringPin (ringsIn rings)) ≡ allOf (ltb bound) (map ringPin (drop i (ringsIn rings)))
+Inv-loop rings count bound n i₀ i = allOf (ltb bound) (map ringPin (ringsIn count rings)) ≡ allOf (ltb bound) (map ringPin (drop i (ringsIn count rings)))
 
 abbrev μ-loop : tie.MeasureT-loop
-μ-loop rings bound n i₀ i = n - i
+μ-loop rings count bound n i₀ i = n - i
 
-len-requires : tie.Need-len-requires Inv-loop μ-loop
-len-requires c κs = search needs
+rings-len-requires : tie.Need-rings-len-requires Inv-loop μ-loop
+rings-len-requires c κs = search needs
 
 loop-holds : tie.Need-loop-holds Inv-loop μ-loop
 loop-holds c = refl
 
-at-requires : tie.Need-at-requires Inv-loop μ-loop
-at-requires c κs = search needs
+nth-ring-requires : tie.Need-nth-ring-requires Inv-loop μ-loop
+nth-ring-requires c κs = search needs
 
 cast-if1 : tie.Need-cast-if1 Inv-loop μ-loop
 cast-if1 c = search needs
@@ -50,9 +50,9 @@ rings-past-spec =
     (tie.spec
     Inv-loop
     μ-loop
-    len-requires
+    rings-len-requires
     loop-holds
-    at-requires
+    nth-ring-requires
     cast-if1
     returns
     add-i

@@ -6,8 +6,11 @@ use Rattle.positions.proofs.parse_position_list.Tie as tie
 parse-ring-bonds-requires : tie.Need-parse-ring-bonds-requires
 parse-ring-bonds-requires c κs = search needs
 
+same-length : tie.Need-same-length
+same-length c = search needs
+
 returns : tie.Need-returns
 returns c = search any-list
 
 pub parse-position-list-spec : {M : Type 1} → statement M
-parse-position-list-spec = tie.close (tie.spec parse-ring-bonds-requires returns)
+parse-position-list-spec = tie.close (tie.spec parse-ring-bonds-requires same-length returns)

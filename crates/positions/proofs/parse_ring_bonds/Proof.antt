@@ -1,28 +1,29 @@
-use borrow.Author.Needs.{needs}
 use Prim.Native.Nat.{_≤_}
 use native.Mathlib.Omega.{arith}
-use mathlib.Core.Logic.{⊎-elim}
+use mathlib.Core.Path.{_≡_, refl}
 use lib.ListN.{length}
-use Rattle.record.specs.declared.DbPos.{DbPos}
-use Rattle.record.proofs.Laws.{length-mapped}
-use Rattle.positions.specs.Positions.{ringBondList}
-use Rattle.positions.proofs.Each.{each-none}
-use Rattle.positions.proofs.Laws.{Longer, Bonding, bonding-start, bond-unreadable, bond-stored, bond-counted, bond-last, bond-more}
+use Rattle.form.specs.Parts.{partsAt}
+use Rattle.parsed.specs.Parsed.{first, bondsAs}
+use Rattle.positions.specs.Each.{each}
+use Rattle.positions.specs.Positions.{ringBondAt, ringBondList}
+use Rattle.positions.proofs.Each.{Onward, each-none}
+use Rattle.positions.proofs.Laws.{bonding-start, bond-unreadable, bond-last, bond-more}
+use borrow.Author.Needs.{needs}
 use Rattle.positions.proofs.parse_ring_bonds.Statement.{statement}
 use Rattle.positions.proofs.parse_ring_bonds.Tie as tie
 
 abbrev Inv-loop : tie.InvT-loop
-Inv-loop s start end t₀ c₀ t c = Bonding c₀ c start end (ringBondList start end s) t × (length t ≤ length s)
+Inv-loop s start end bonds₀ count t₀ so-far₀ bonds t so-far = Onward bondsAs (first so-far₀ bonds₀) (first so-far bonds) (ringBondList start end s) (each (ringBondAt start end) (partsAt 44 t)) × (length t ≤ length s) × (length bonds ≡ length bonds₀)
 
 abbrev μ-loop : tie.MeasureT-loop
-μ-loop s start end t₀ c₀ t c = length t
+μ-loop s start end bonds₀ count t₀ so-far₀ bonds t so-far = length t
 
 returns : tie.Need-returns Inv-loop μ-loop
 unfolding ringBondList
 returns c = search each-none
 
 loop-holds : tie.Need-loop-holds Inv-loop μ-loop
-loop-holds c = (search (bonding-start, length-mapped), omega arith)
+loop-holds c = (search bonding-start, omega arith, refl)
 
 find-requires : tie.Need-find-requires Inv-loop μ-loop
 find-requires c κs = search needs
@@ -45,30 +46,20 @@ enum-known-bond c = search needs
 enum-told : tie.Need-enum-told Inv-loop μ-loop
 enum-told c = search needs
 
-unreadable-requires : tie.Need-unreadable-requires Inv-loop μ-loop
-unreadable-requires c κs = search needs
+same-length : tie.Need-same-length Inv-loop μ-loop
+same-length c = search needs
 
 returns-2 : tie.Need-returns-2 Inv-loop μ-loop
 returns-2 c = search bond-unreadable
 
-mul-bond : tie.Need-mul-bond Inv-loop μ-loop
-mul-bond c = search needs
+push-bond-requires : tie.Need-push-bond-requires Inv-loop μ-loop
+push-bond-requires c κs = search needs
 
-element-set-from-bond : tie.Need-element-set-from-bond Inv-loop μ-loop
-element-set-from-bond c = search needs
-
-add-c : tie.Need-add-c Inv-loop μ-loop
-add-c c = search needs
-
-add-c-2 : tie.Need-add-c-2 Inv-loop μ-loop
-add-c-2 c = search needs
+same-length-2 : tie.Need-same-length-2 Inv-loop μ-loop
+same-length-2 c = search needs
 
 returns-3 : tie.Need-returns-3 Inv-loop μ-loop
-returns-3 c =
-    ⊎-elim
-    (λ w. let u : Longer (c .before .before .before .before .before .before .before .before .loop .c) (c .before .if2 .c) _ = bond-stored _ _ _ (c .before .before .before .before .before .before .before .before .loop .inv .0 .room) (w .0 .taken) (w .1) in search bond-last)
-    (λ w. let u : (b : DbPos) → Longer (c .before .before .before .before .before .before .before .before .loop .c) (c .before .if2 .c) b = λ b. bond-counted _ _ b (c .before .before .before .before .before .before .before .before .loop .inv .0 .room) (w .0 .left) (w .1) in search bond-last)
-    (c .before .if2 .came)
+returns-3 c = search bond-last
 
 add-t : tie.Need-add-t Inv-loop μ-loop
 add-t c = search needs
@@ -86,13 +77,7 @@ loop-less : tie.Need-loop-less Inv-loop μ-loop
 loop-less c = search needs
 
 loop-again : tie.Need-loop-again Inv-loop μ-loop
-loop-again c = (
-  ⊎-elim
-      (λ w. let u : Longer (c .before .before .before .before .before .before .before .before .before .loop .c) (c .before .before .if2 .c) _ = bond-stored _ _ _ (c .before .before .before .before .before .before .before .before .before .loop .inv .0 .room) (w .0 .taken) (w .1) in search bond-more)
-      (λ w. let u : (b : DbPos) → Longer (c .before .before .before .before .before .before .before .before .before .loop .c) (c .before .before .if2 .c) b = λ b. bond-counted _ _ b (c .before .before .before .before .before .before .before .before .before .loop .inv .0 .room) (w .0 .left) (w .1) in search bond-more)
-      (c .before .before .if2 .came),
-  search needs,
-)
+loop-again c = (search bond-more, search needs, search needs)
 
 pub parse-ring-bonds-spec : {M : Type 1} → statement M
 parse-ring-bonds-spec =
@@ -109,12 +94,10 @@ parse-ring-bonds-spec =
     read-ring-position-requires
     enum-known-bond
     enum-told
-    unreadable-requires
+    same-length
     returns-2
-    mul-bond
-    element-set-from-bond
-    add-c
-    add-c-2
+    push-bond-requires
+    same-length-2
     returns-3
     add-t
     sub-t

@@ -3,8 +3,8 @@ use borrow.Author.Needs.{needs}
 use Rattle.refusals.proofs.no_site.Statement.{statement}
 use Rattle.refusals.proofs.no_site.Tie as tie
 
-len-requires : tie.Need-len-requires
-len-requires c κs = search needs
+groups-len-requires : tie.Need-groups-len-requires
+groups-len-requires c κs = search needs
 
 returns : tie.Need-returns
 returns c = search site-none
@@ -20,4 +20,4 @@ returns-2 c = search site-some
 
 pub no-site-spec : {M : Type 1} → statement M
 no-site-spec =
-    tie.close (tie.spec len-requires returns site-skip-requires drawn-count-requires returns-2)
+    tie.close (tie.spec groups-len-requires returns site-skip-requires drawn-count-requires returns-2)

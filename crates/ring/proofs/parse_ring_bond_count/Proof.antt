@@ -33,6 +33,9 @@ returns c = search bonds-unreadable
 push-ring-requires : tie.Need-push-ring-requires
 push-ring-requires c κs = search needs
 
+same-length : tie.Need-same-length
+same-length c = search needs
+
 returns-2 : tie.Need-returns-2
 returns-2 c = search bonds-unlisted
 
@@ -51,6 +54,12 @@ part-parse-ring-listed-end c = search needs
 parse-ring-listed-requires : tie.Need-parse-ring-listed-requires
 parse-ring-listed-requires c κs = search needs
 
+same-length-2 : tie.Need-same-length-2
+same-length-2 c = search needs
+
+same-length-3 : tie.Need-same-length-3
+same-length-3 c = search needs
+
 returns-3 : tie.Need-returns-3
 returns-3 c = search bonds-listed
 
@@ -68,10 +77,13 @@ parse-ring-bond-count-spec =
     unreadable-requires
     returns
     push-ring-requires
+    same-length
     returns-2
     add-parse-ring-listed
     sub-parse-ring-listed
     part-parse-ring-listed-start
     part-parse-ring-listed-end
     parse-ring-listed-requires
+    same-length-2
+    same-length-3
     returns-3)

@@ -21,11 +21,20 @@ cast-parse-ring-bonds-2 c = search needs
 parse-ring-bonds-requires : tie.Need-parse-ring-bonds-requires
 parse-ring-bonds-requires c κs = search needs
 
+same-length : tie.Need-same-length
+same-length c = search needs
+
 returns-2 : tie.Need-returns-2
 returns-2 c = search list-refused
 
 push-ring-requires : tie.Need-push-ring-requires
 push-ring-requires c κs = search needs
+
+same-length-2 : tie.Need-same-length-2
+same-length-2 c = search needs
+
+same-length-3 : tie.Need-same-length-3
+same-length-3 c = search needs
 
 returns-3 : tie.Need-returns-3
 returns-3 c = search list-read
@@ -40,6 +49,9 @@ parse-ring-list-spec =
     cast-parse-ring-bonds
     cast-parse-ring-bonds-2
     parse-ring-bonds-requires
+    same-length
     returns-2
     push-ring-requires
+    same-length-2
+    same-length-3
     returns-3)

@@ -28,6 +28,12 @@ part-parse-ring-list-end c = search needs
 parse-ring-list-requires : tie.Need-parse-ring-list-requires
 parse-ring-list-requires c κs = search needs
 
+same-length : tie.Need-same-length
+same-length c = search needs
+
+same-length-2 : tie.Need-same-length-2
+same-length-2 c = search needs
+
 returns-2 : tie.Need-returns-2
 returns-2 c = search ring-closed
 
@@ -43,4 +49,6 @@ parse-ring-listed-spec =
     part-parse-ring-list-start
     part-parse-ring-list-end
     parse-ring-list-requires
+    same-length
+    same-length-2
     returns-2)

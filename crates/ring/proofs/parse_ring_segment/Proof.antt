@@ -69,6 +69,12 @@ part-parse-ring-size-end c = search needs
 parse-ring-size-requires : tie.Need-parse-ring-size-requires
 parse-ring-size-requires c κs = search needs
 
+same-length : tie.Need-same-length
+same-length c = search needs
+
+same-length-2 : tie.Need-same-length-2
+same-length-2 c = search needs
+
 returns-3 : tie.Need-returns-3
 returns-3 c = search ring-segment-is
 
@@ -98,4 +104,6 @@ parse-ring-segment-spec =
     part-parse-ring-size-start
     part-parse-ring-size-end
     parse-ring-size-requires
+    same-length
+    same-length-2
     returns-3)

@@ -48,6 +48,12 @@ after-place-requires c κs = search needs
 parse-ring-bond-count-requires : tie.Need-parse-ring-bond-count-requires
 parse-ring-bond-count-requires c κs = search needs
 
+same-length : tie.Need-same-length
+same-length c = search needs
+
+same-length-2 : tie.Need-same-length-2
+same-length-2 c = search needs
+
 returns-3 : tie.Need-returns-3
 returns-3 c = search size-sized
 
@@ -70,4 +76,6 @@ parse-ring-size-spec =
     returns-2
     after-place-requires
     parse-ring-bond-count-requires
+    same-length
+    same-length-2
     returns-3)

@@ -7,7 +7,8 @@ use mathlib.Core.Path.{_≡_}
 use lib.ListN.{length, take}
 use Rattle.emit.specs.Text.{Written}
 use Rattle.emit.proofs.Laws.{written-length}
-use Rattle.rows.specs.Text.{chainsText, carbonsOf}
+use Rattle.heads.specs.Text.{chainsText}
+use Rattle.rows.specs.Chains.{carbonsOf}
 use Rattle.rows.proofs.put_chains.Statement.{statement}
 use Rattle.rows.proofs.put_chains.Tie as tie
 

@@ -1,4 +1,4 @@
-use Rattle.rows.proofs.Laws.{ended-text}
+use Rattle.heads.proofs.Laws.{ended-text}
 use native.Mathlib.Omega.{arith}
 use borrow.Author.Needs.{needs}
 use Rattle.rows.proofs.put_text_cell.Statement.{statement}

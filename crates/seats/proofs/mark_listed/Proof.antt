@@ -1,17 +1,19 @@
-use borrow.Author.Needs.{needs}
 use Prim.Native.Nat.{_≤_, _-_}
-use lib.ListN.{take}
 use native.Mathlib.Omega.{arith}
+use mathlib.Core.List.{map}
+use lib.ListN.{take}
+use Rattle.codes.specs.Codes.{bondIn}
 use Rattle.seats.specs.Seats.{MarksAll, positions}
 use Rattle.seats.proofs.Laws.{marks-none, marks-one, marks-all, marks-whole}
+use borrow.Author.Needs.{needs}
 use Rattle.seats.proofs.mark_listed.Statement.{statement}
 use Rattle.seats.proofs.mark_listed.Tie as tie
 
 abbrev Inv-loop : tie.InvT-loop
-Inv-loop used₀ listed bonds i₀ used i = MarksAll used₀ (positions (take i bonds)) used × (i ≤ listed)
+Inv-loop used₀ bonds listed i₀ used i = MarksAll used₀ (positions (map bondIn (take i bonds))) used × (i ≤ listed)
 
 abbrev μ-loop : tie.MeasureT-loop
-μ-loop used₀ listed bonds i₀ used i = listed - i
+μ-loop used₀ bonds listed i₀ used i = listed - i
 
 loop-holds : tie.Need-loop-holds Inv-loop μ-loop
 loop-holds c = (search marks-none, omega arith)
@@ -22,11 +24,14 @@ same-length c = search needs
 returns : tie.Need-returns Inv-loop μ-loop
 returns c = search marks-whole
 
-mul-bond : tie.Need-mul-bond Inv-loop μ-loop
-mul-bond c = search needs
+mul-bond-in : tie.Need-mul-bond-in Inv-loop μ-loop
+mul-bond-in c = search needs
 
-array-copy-out-bond : tie.Need-array-copy-out-bond Inv-loop μ-loop
-array-copy-out-bond c = search needs
+shared-slice-read-bond-in : tie.Need-shared-slice-read-bond-in Inv-loop μ-loop
+shared-slice-read-bond-in c = search needs
+
+bond-in-requires : tie.Need-bond-in-requires Inv-loop μ-loop
+bond-in-requires c κs = search needs
 
 mark-requires : tie.Need-mark-requires Inv-loop μ-loop
 mark-requires c κs = search needs
@@ -55,8 +60,9 @@ mark-listed-spec =
     loop-holds
     same-length
     returns
-    mul-bond
-    array-copy-out-bond
+    mul-bond-in
+    shared-slice-read-bond-in
+    bond-in-requires
     mark-requires
     add-i
     loop-less

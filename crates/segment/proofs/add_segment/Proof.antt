@@ -24,20 +24,26 @@ push-repeated-requires c κs = search needs
 enum-known-segment-4 : tie.Need-enum-known-segment-4
 enum-known-segment-4 c = search needs
 
-set-oxygens-requires : tie.Need-set-oxygens-requires
-set-oxygens-requires c κs = search needs
-
 enum-told : tie.Need-enum-told
 enum-told c = search needs
 
 unreadable-requires : tie.Need-unreadable-requires
 unreadable-requires c κs = search needs
 
+same-length : tie.Need-same-length
+same-length c = search needs
+
 returns : tie.Need-returns
 returns c = search adds-ring
 
+same-length-2 : tie.Need-same-length-2
+same-length-2 c = search needs
+
 returns-2 : tie.Need-returns-2
 returns-2 c = search adds-group
+
+same-length-3 : tie.Need-same-length-3
+same-length-3 c = search needs
 
 returns-3 : tie.Need-returns-3
 returns-3 c = search adds-many
@@ -59,11 +65,13 @@ add-segment-spec =
     enum-known-segment-3
     push-repeated-requires
     enum-known-segment-4
-    set-oxygens-requires
     enum-told
     unreadable-requires
+    same-length
     returns
+    same-length-2
     returns-2
+    same-length-3
     returns-3
     returns-4
     returns-5)

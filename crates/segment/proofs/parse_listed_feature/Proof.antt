@@ -21,8 +21,20 @@ enum-told-3 c = search needs
 unreadable-requires : tie.Need-unreadable-requires
 unreadable-requires c κs = search needs
 
+same-length : tie.Need-same-length
+same-length c = search needs
+
+same-length-2 : tie.Need-same-length-2
+same-length-2 c = search needs
+
 returns : tie.Need-returns
 returns c = search listed-ring
+
+same-length-3 : tie.Need-same-length-3
+same-length-3 c = search needs
+
+same-length-4 : tie.Need-same-length-4
+same-length-4 c = search needs
 
 returns-2 : tie.Need-returns-2
 returns-2 c = search listed-group
@@ -40,6 +52,10 @@ parse-listed-feature-spec =
     parse-plain-position-list-requires-2
     enum-told-3
     unreadable-requires
+    same-length
+    same-length-2
     returns
+    same-length-3
+    same-length-4
     returns-2
     returns-3)

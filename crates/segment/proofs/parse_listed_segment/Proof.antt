@@ -31,6 +31,12 @@ part-parse-listed-feature-end c = search needs
 parse-listed-feature-requires : tie.Need-parse-listed-feature-requires
 parse-listed-feature-requires c κs = search needs
 
+same-length : tie.Need-same-length
+same-length c = search needs
+
+same-length-2 : tie.Need-same-length-2
+same-length-2 c = search needs
+
 returns-2 : tie.Need-returns-2
 returns-2 c = search listed-closed
 
@@ -47,4 +53,6 @@ parse-listed-segment-spec =
     part-parse-listed-feature-start
     part-parse-listed-feature-end
     parse-listed-feature-requires
+    same-length
+    same-length-2
     returns-2)

@@ -11,7 +11,7 @@ enum-known-form : tie.Need-enum-known-form
 enum-known-form c = search needs
 
 parse-ring-segment-requires : tie.Need-parse-ring-segment-requires
-parse-ring-segment-requires c κs = (search ring-dash, search ring-cy)
+parse-ring-segment-requires c κs = ((search ring-dash, search ring-cy), search needs)
 
 enum-told : tie.Need-enum-told
 enum-told c = search needs
@@ -49,14 +49,38 @@ enum-told-2 c = search needs
 parse-parts-requires : tie.Need-parse-parts-requires
 parse-parts-requires c κs = search needs
 
+same-length : tie.Need-same-length
+same-length c = search needs
+
+same-length-2 : tie.Need-same-length-2
+same-length-2 c = search needs
+
 returns : tie.Need-returns
 returns c = search as-ring
+
+same-length-3 : tie.Need-same-length-3
+same-length-3 c = search needs
+
+same-length-4 : tie.Need-same-length-4
+same-length-4 c = search needs
 
 returns-2 : tie.Need-returns-2
 returns-2 c = search as-repeated
 
+same-length-5 : tie.Need-same-length-5
+same-length-5 c = search needs
+
+same-length-6 : tie.Need-same-length-6
+same-length-6 c = search needs
+
 returns-3 : tie.Need-returns-3
 returns-3 c = search as-listed
+
+same-length-7 : tie.Need-same-length-7
+same-length-7 c = search needs
+
+same-length-8 : tie.Need-same-length-8
+same-length-8 c = search needs
 
 returns-4 : tie.Need-returns-4
 returns-4 c = search as-parts
@@ -80,7 +104,15 @@ parse-modification-segment-spec =
     parse-listed-segment-requires
     enum-told-2
     parse-parts-requires
+    same-length
+    same-length-2
     returns
+    same-length-3
+    same-length-4
     returns-2
+    same-length-5
+    same-length-6
     returns-3
+    same-length-7
+    same-length-8
     returns-4)

@@ -1,22 +1,26 @@
-use borrow.Author.Needs.{needs}
 use Prim.Native.Nat.{_≤_}
 use native.Mathlib.Omega.{arith}
-use mathlib.Core.Path.{_≡_}
+use mathlib.Core.Path.{_≡_, refl}
+use mathlib.Core.List.{[]}
 use lib.ListN.{length}
-use Rattle.record.proofs.Laws.{length-mapped}
-use Rattle.segment.specs.Segment.{commaParts}
-use Rattle.segment.proofs.Laws.{Parting, parting-start, group-last, group-more, part-stop, part-last, part-more}
+use Rattle.form.specs.Parts.{partsAt}
+use Rattle.parsed.specs.Parsed.{gather, unbondedAs, on}
+use Rattle.positions.specs.Each.{each}
+use Rattle.positions.proofs.Each.{Onward}
+use Rattle.segment.specs.Segment.{partAt, commaParts}
+use Rattle.segment.proofs.Laws.{parting-start, part-stop, part-last, part-more}
+use borrow.Author.Needs.{needs}
 use Rattle.segment.proofs.parse_parts.Statement.{statement}
 use Rattle.segment.proofs.parse_parts.Tie as tie
 
 abbrev Inv-loop : tie.InvT-loop
-Inv-loop s t₀ c₀ t c = Parting c₀ c (commaParts s) t × (length t ≤ length s)
+Inv-loop s carbon groups₀ rings₀ t₀ so-far₀ groups rings t so-far = Onward (on carbon unbondedAs) (gather so-far₀ [] groups₀ rings₀) (gather so-far [] groups rings) (commaParts s) (each partAt (partsAt 44 t)) × (length t ≤ length s) × (length groups ≡ length groups₀) × (length rings ≡ length rings₀)
 
 abbrev μ-loop : tie.MeasureT-loop
-μ-loop s t₀ c₀ t c = length t
+μ-loop s carbon groups₀ rings₀ t₀ so-far₀ groups rings t so-far = length t
 
 loop-holds : tie.Need-loop-holds Inv-loop μ-loop
-loop-holds c = (search (parting-start, length-mapped), omega arith)
+loop-holds c = (search parting-start, omega arith, refl, refl)
 
 find-requires : tie.Need-find-requires Inv-loop μ-loop
 find-requires c κs = search needs
@@ -33,20 +37,26 @@ part-read-part-end c = search needs
 read-part-requires : tie.Need-read-part-requires Inv-loop μ-loop
 read-part-requires c κs = search needs
 
-enum-known-piece : tie.Need-enum-known-piece Inv-loop μ-loop
-enum-known-piece c = search needs
+add-segment-requires : tie.Need-add-segment-requires Inv-loop μ-loop
+add-segment-requires c κs = search needs
 
-mul-group : tie.Need-mul-group Inv-loop μ-loop
-mul-group c = search needs
+same-length : tie.Need-same-length Inv-loop μ-loop
+same-length c = search needs
 
-element-set-from-group : tie.Need-element-set-from-group Inv-loop μ-loop
-element-set-from-group c = search needs
-
-add-c : tie.Need-add-c Inv-loop μ-loop
-add-c c = search needs
+same-length-2 : tie.Need-same-length-2 Inv-loop μ-loop
+same-length-2 c = search needs
 
 returns : tie.Need-returns Inv-loop μ-loop
-returns c = search group-last
+returns c = search part-stop
+
+same-length-3 : tie.Need-same-length-3 Inv-loop μ-loop
+same-length-3 c = search needs
+
+same-length-4 : tie.Need-same-length-4 Inv-loop μ-loop
+same-length-4 c = search needs
+
+returns-2 : tie.Need-returns-2 Inv-loop μ-loop
+returns-2 c = search part-last
 
 add-t : tie.Need-add-t Inv-loop μ-loop
 add-t c = search needs
@@ -64,36 +74,7 @@ loop-less : tie.Need-loop-less Inv-loop μ-loop
 loop-less c = search needs
 
 loop-again : tie.Need-loop-again Inv-loop μ-loop
-loop-again c = (search group-more, search needs)
-
-add-segment-requires : tie.Need-add-segment-requires Inv-loop μ-loop
-add-segment-requires c κs = search needs
-
-returns-2 : tie.Need-returns-2 Inv-loop μ-loop
-returns-2 c = search part-stop
-
-returns-3 : tie.Need-returns-3 Inv-loop μ-loop
-returns-3 c = search part-last
-
-add-t-2 : tie.Need-add-t-2 Inv-loop μ-loop
-add-t-2 c = search needs
-
-sub-t-2 : tie.Need-sub-t-2 Inv-loop μ-loop
-sub-t-2 c = search needs
-
-part-t-start-2 : tie.Need-part-t-start-2 Inv-loop μ-loop
-part-t-start-2 c = search needs
-
-part-t-end-2 : tie.Need-part-t-end-2 Inv-loop μ-loop
-part-t-end-2 c = search needs
-
-loop-less-2 : tie.Need-loop-less-2 Inv-loop μ-loop
-loop-less-2 c = search needs
-
-loop-again-2 : tie.Need-loop-again-2 Inv-loop μ-loop
-loop-again-2 c =
-    let l : length (c .before .before .before .before .add-segment .result .chain .groups) ≡ 18 = search (length-mapped, c .before .before .before .before .add-segment .ok .1 .1 .1 .0 .1 .1 .1 .1 .1 .1 .1 .1 .1 .1 .1 .0 .1 .0 .1) in
-    (search part-more, search needs)
+loop-again c = (search part-more, search needs, search needs, search needs)
 
 pub parse-parts-spec : {M : Type 1} → statement M
 parse-parts-spec =
@@ -107,23 +88,16 @@ parse-parts-spec =
     part-read-part-start
     part-read-part-end
     read-part-requires
-    enum-known-piece
-    mul-group
-    element-set-from-group
-    add-c
+    add-segment-requires
+    same-length
+    same-length-2
     returns
+    same-length-3
+    same-length-4
+    returns-2
     add-t
     sub-t
     part-t-start
     part-t-end
     loop-less
-    loop-again
-    add-segment-requires
-    returns-2
-    returns-3
-    add-t-2
-    sub-t-2
-    part-t-start-2
-    part-t-end-2
-    loop-less-2
-    loop-again-2)
+    loop-again)

@@ -9,8 +9,21 @@ read-listed-requires c κs = search needs
 add-segment-requires : tie.Need-add-segment-requires
 add-segment-requires c κs = search needs
 
+same-length : tie.Need-same-length
+same-length c = search needs
+
+same-length-2 : tie.Need-same-length-2
+same-length-2 c = search needs
+
 returns : tie.Need-returns
 returns c = search listed-one
 
 pub parse-plain-position-spec : {M : Type 1} → statement M
-parse-plain-position-spec = tie.close (tie.spec read-listed-requires add-segment-requires returns)
+parse-plain-position-spec =
+    tie.close
+    (tie.spec
+    read-listed-requires
+    add-segment-requires
+    same-length
+    same-length-2
+    returns)

@@ -1,19 +1,22 @@
-use borrow.Author.Needs.{needs}
 use Prim.Native.Nat.{_≤_}
 use native.Mathlib.Omega.{arith}
+use mathlib.Core.Path.{_≡_, refl}
+use mathlib.Core.List.{[]}
 use lib.ListN.{length}
 use Rattle.form.specs.Parts.{partsAt}
+use Rattle.parsed.specs.Parsed.{gather, unbondedAs, on}
 use Rattle.positions.specs.Each.{each}
 use Rattle.positions.proofs.Each.{Onward, each-none, each-start, each-stop, each-last, each-more}
 use Rattle.segment.specs.Segment.{listedAt, plainList}
+use borrow.Author.Needs.{needs}
 use Rattle.segment.proofs.parse_plain_position_list.Statement.{statement}
 use Rattle.segment.proofs.parse_plain_position_list.Tie as tie
 
 abbrev Inv-loop : tie.InvT-loop
-Inv-loop s feature t₀ c₀ t c = Onward c₀ c (plainList feature s) (each (listedAt feature) (partsAt 44 t)) × (length t ≤ length s)
+Inv-loop s feature carbon groups₀ rings₀ t₀ so-far₀ groups rings t so-far = Onward (on carbon unbondedAs) (gather so-far₀ [] groups₀ rings₀) (gather so-far [] groups rings) (plainList feature s) (each (listedAt feature) (partsAt 44 t)) × (length t ≤ length s) × (length groups ≡ length groups₀) × (length rings ≡ length rings₀)
 
 abbrev μ-loop : tie.MeasureT-loop
-μ-loop s feature t₀ c₀ t c = length t
+μ-loop s feature carbon groups₀ rings₀ t₀ so-far₀ groups rings t so-far = length t
 
 returns : tie.Need-returns Inv-loop μ-loop
 unfolding plainList
@@ -21,7 +24,7 @@ returns c = search each-none
 
 loop-holds : tie.Need-loop-holds Inv-loop μ-loop
 unfolding plainList
-loop-holds c = (search each-start, omega arith)
+loop-holds c = (search each-start, omega arith, refl, refl)
 
 find-requires : tie.Need-find-requires Inv-loop μ-loop
 find-requires c κs = search needs
@@ -38,8 +41,20 @@ part-parse-plain-position-end c = search needs
 parse-plain-position-requires : tie.Need-parse-plain-position-requires Inv-loop μ-loop
 parse-plain-position-requires c κs = search needs
 
+same-length : tie.Need-same-length Inv-loop μ-loop
+same-length c = search needs
+
+same-length-2 : tie.Need-same-length-2 Inv-loop μ-loop
+same-length-2 c = search needs
+
 returns-2 : tie.Need-returns-2 Inv-loop μ-loop
 returns-2 c = search each-stop
+
+same-length-3 : tie.Need-same-length-3 Inv-loop μ-loop
+same-length-3 c = search needs
+
+same-length-4 : tie.Need-same-length-4 Inv-loop μ-loop
+same-length-4 c = search needs
 
 returns-3 : tie.Need-returns-3 Inv-loop μ-loop
 returns-3 c = search each-last
@@ -60,7 +75,7 @@ loop-less : tie.Need-loop-less Inv-loop μ-loop
 loop-less c = search needs
 
 loop-again : tie.Need-loop-again Inv-loop μ-loop
-loop-again c = (search each-more, search needs)
+loop-again c = (search each-more, search needs, search needs, search needs)
 
 pub parse-plain-position-list-spec : {M : Type 1} → statement M
 parse-plain-position-list-spec =
@@ -75,7 +90,11 @@ parse-plain-position-list-spec =
     part-parse-plain-position-start
     part-parse-plain-position-end
     parse-plain-position-requires
+    same-length
+    same-length-2
     returns-2
+    same-length-3
+    same-length-4
     returns-3
     add-t
     sub-t

@@ -12,11 +12,29 @@ returns c = search segment-empty
 parse-modification-segment-requires : tie.Need-parse-modification-segment-requires
 parse-modification-segment-requires c κs = search needs
 
+same-length : tie.Need-same-length
+same-length c = search needs
+
+same-length-2 : tie.Need-same-length-2
+same-length-2 c = search needs
+
+same-length-3 : tie.Need-same-length-3
+same-length-3 c = search needs
+
 returns-2 : tie.Need-returns-2
 returns-2 c = search segment-refused
 
-counted-requires : tie.Need-counted-requires
-counted-requires c κs = search needs
+check-counts-requires : tie.Need-check-counts-requires
+check-counts-requires c κs = search needs
+
+same-length-4 : tie.Need-same-length-4
+same-length-4 c = search needs
+
+same-length-5 : tie.Need-same-length-5
+same-length-5 c = search needs
+
+same-length-6 : tie.Need-same-length-6
+same-length-6 c = search needs
 
 returns-3 : tie.Need-returns-3
 returns-3 c = search segment-counted
@@ -28,6 +46,12 @@ parse-segment-spec =
     segment-text-requires
     returns
     parse-modification-segment-requires
+    same-length
+    same-length-2
+    same-length-3
     returns-2
-    counted-requires
+    check-counts-requires
+    same-length-4
+    same-length-5
+    same-length-6
     returns-3)

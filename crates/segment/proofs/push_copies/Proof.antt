@@ -1,26 +1,22 @@
-use borrow.Author.Needs.{needs}
-use Rattle.record.proofs.Laws.{length-mapped}
+use mathlib.Core.Path.{_≡_, refl}
+use lib.ListN.{length}
+use Rattle.parsed.specs.Parsed.{first}
 use Rattle.segment.proofs.Laws.{Copying, copies-start, copies-more, copies-end}
+use borrow.Author.Needs.{needs}
 use Rattle.segment.proofs.push_copies.Statement.{statement}
 use Rattle.segment.proofs.push_copies.Tie as tie
 
 abbrev Inv-loop : tie.InvT-loop
-Inv-loop group n left₀ c₀ left c = Copying c₀ c group n left
+Inv-loop group n groups₀ count left₀ so-far₀ groups left so-far = Copying (first so-far₀ groups₀) (first so-far groups) group n left × (length groups ≡ length groups₀)
 
 abbrev μ-loop : tie.MeasureT-loop
-μ-loop group n left₀ c₀ left c = left
+μ-loop group n groups₀ count left₀ so-far₀ groups left so-far = left
 
 loop-holds : tie.Need-loop-holds Inv-loop μ-loop
-loop-holds c = search (copies-start, length-mapped)
+loop-holds c = (search copies-start, refl)
 
-mul-group : tie.Need-mul-group Inv-loop μ-loop
-mul-group c = search needs
-
-element-set-from-group : tie.Need-element-set-from-group Inv-loop μ-loop
-element-set-from-group c = search needs
-
-add-c : tie.Need-add-c Inv-loop μ-loop
-add-c c = search needs
+push-group-requires : tie.Need-push-group-requires Inv-loop μ-loop
+push-group-requires c κs = search needs
 
 sub-left : tie.Need-sub-left Inv-loop μ-loop
 sub-left c = search needs
@@ -29,7 +25,10 @@ loop-less : tie.Need-loop-less Inv-loop μ-loop
 loop-less c = search needs
 
 loop-again : tie.Need-loop-again Inv-loop μ-loop
-loop-again c = search copies-more
+loop-again c = (search copies-more, search needs)
+
+same-length : tie.Need-same-length Inv-loop μ-loop
+same-length c = search needs
 
 returns : tie.Need-returns Inv-loop μ-loop
 returns c = search copies-end
@@ -41,10 +40,9 @@ push-copies-spec =
     Inv-loop
     μ-loop
     loop-holds
-    mul-group
-    element-set-from-group
-    add-c
+    push-group-requires
     sub-left
     loop-less
     loop-again
+    same-length
     returns)

@@ -12,8 +12,11 @@ returns-2 c = search many-over
 push-copies-requires : tie.Need-push-copies-requires
 push-copies-requires c κs = search needs
 
+same-length : tie.Need-same-length
+same-length c = search needs
+
 returns-3 : tie.Need-returns-3
 returns-3 c = search many-fit
 
 pub push-repeated-spec : {M : Type 1} → statement M
-push-repeated-spec = tie.close (tie.spec returns returns-2 push-copies-requires returns-3)
+push-repeated-spec = tie.close (tie.spec returns returns-2 push-copies-requires same-length returns-3)

@@ -4,7 +4,7 @@ use Prim.Native.Nat.{_+_, _≤_}
 use mathlib.Core.Path.{_≡_}
 use native.Mathlib.Omega.{arith}
 use lib.ListN.{length}
-use Rattle.sheet.specs.Sheet.{cellsOf}
+use Rattle.header.specs.Header.{cellsOf}
 use Rattle.sheet.proofs.cell_count.Statement.{statement}
 use Rattle.sheet.proofs.cell_count.Tie as tie
 

@@ -6,7 +6,7 @@ use borrow.Fn.PlainCycle.{Measures, is, falls, and}
 use Rattle.tail.proofs.read_run.Reads as read-run
 use Rattle.tail.proofs.read_run.Kinds as read-run-kinds
 use Rattle.tail.proofs.+read_run.Lts-read_run as read-run-lts
-use Rattle.tail.proofs.Rings.back_to.Reads as back-to-reads
+use Rattle.ringdigits.proofs.Rings.back_to.Reads as back-to-reads
 use Rattle.tail.proofs.read_atom.Reads as read-atom-reads
 use Rattle.tail.proofs.+read_run.{statement}
 use Rattle.tail.proofs.+read_run.Tie.{close}

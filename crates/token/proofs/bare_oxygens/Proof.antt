@@ -1,5 +1,5 @@
-use borrow.Author.Needs.{needs}
 use Rattle.token.proofs.Laws.{no-oxygens, with-groups, with-rings}
+use borrow.Author.Needs.{needs}
 use Rattle.token.proofs.bare_oxygens.Statement.{statement}
 use Rattle.token.proofs.bare_oxygens.Tie as tie
 

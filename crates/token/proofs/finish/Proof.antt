@@ -18,9 +18,6 @@ bare-oxygens-requires c κs = search needs
 returns-2 : tie.Need-returns-2
 returns-2 c = search finish-bare
 
-set-unlocated-requires : tie.Need-set-unlocated-requires
-set-unlocated-requires c κs = search needs
-
 returns-3 : tie.Need-returns-3
 returns-3 c = search finish-read
 
@@ -33,5 +30,4 @@ finish-spec =
     returns
     bare-oxygens-requires
     returns-2
-    set-unlocated-requires
     returns-3)

@@ -12,12 +12,11 @@ placeholder-positions-requires c κs = search needs
 returns-2 : tie.Need-returns-2
 returns-2 c = search not-seated
 
-cast-t10 : tie.Need-cast-t10
-cast-t10 c = search seated-fits
+cast-t9 : tie.Need-cast-t9
+cast-t9 c = search seated-fits
 
 returns-3 : tie.Need-returns-3
 returns-3 c = search all-seated
 
 pub missing-bonds-spec : {M : Type 1} → statement M
-missing-bonds-spec =
-    tie.close (tie.spec returns placeholder-positions-requires returns-2 cast-t10 returns-3)
+missing-bonds-spec = tie.close (tie.spec returns placeholder-positions-requires returns-2 cast-t9 returns-3)

@@ -21,6 +21,15 @@ part-parse-listed-end c = search needs
 parse-listed-requires : tie.Need-parse-listed-requires
 parse-listed-requires c κs = search needs
 
+same-length : tie.Need-same-length
+same-length c = search needs
+
+same-length-2 : tie.Need-same-length-2
+same-length-2 c = search needs
+
+same-length-3 : tie.Need-same-length-3
+same-length-3 c = search needs
+
 returns : tie.Need-returns
 returns c = search with-list
 
@@ -29,6 +38,15 @@ missing-bonds-requires c κs = search needs
 
 parse-rest-requires : tie.Need-parse-rest-requires
 parse-rest-requires c κs = search needs
+
+same-length-4 : tie.Need-same-length-4
+same-length-4 c = search needs
+
+same-length-5 : tie.Need-same-length-5
+same-length-5 c = search needs
+
+same-length-6 : tie.Need-same-length-6
+same-length-6 c = search needs
 
 returns-2 : tie.Need-returns-2
 returns-2 c = search without-list
@@ -43,7 +61,13 @@ parse-after-count-spec =
     part-parse-listed-start
     part-parse-listed-end
     parse-listed-requires
+    same-length
+    same-length-2
+    same-length-3
     returns
     missing-bonds-requires
     parse-rest-requires
+    same-length-4
+    same-length-5
+    same-length-6
     returns-2)

@@ -39,6 +39,15 @@ part-parse-after-count-end c = search needs
 parse-after-count-requires : tie.Need-parse-after-count-requires
 parse-after-count-requires c κs = search needs
 
+same-length : tie.Need-same-length
+same-length c = search needs
+
+same-length-2 : tie.Need-same-length-2
+same-length-2 c = search needs
+
+same-length-3 : tie.Need-same-length-3
+same-length-3 c = search needs
+
 returns-2 : tie.Need-returns-2
 returns-2 c = search count-read
 
@@ -58,4 +67,7 @@ parse-bonds-spec =
     part-parse-after-count-start
     part-parse-after-count-end
     parse-after-count-requires
+    same-length
+    same-length-2
+    same-length-3
     returns-2)

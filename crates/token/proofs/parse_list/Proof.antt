@@ -6,15 +6,28 @@ use Rattle.token.proofs.parse_list.Tie as tie
 parse-position-list-requires : tie.Need-parse-position-list-requires
 parse-position-list-requires c κs = search needs
 
+same-length : tie.Need-same-length
+same-length c = search needs
+
 returns : tie.Need-returns
 returns c = search list-refused
 
-counted-requires : tie.Need-counted-requires
-counted-requires c κs = search needs
+check-counts-requires : tie.Need-check-counts-requires
+check-counts-requires c κs = search needs
+
+same-length-2 : tie.Need-same-length-2
+same-length-2 c = search needs
 
 returns-2 : tie.Need-returns-2
 returns-2 c = search list-read
 
 pub parse-list-spec : {M : Type 1} → statement M
 parse-list-spec =
-    tie.close (tie.spec parse-position-list-requires returns counted-requires returns-2)
+    tie.close
+    (tie.spec
+    parse-position-list-requires
+    same-length
+    returns
+    check-counts-requires
+    same-length-2
+    returns-2)

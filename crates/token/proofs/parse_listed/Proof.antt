@@ -21,6 +21,9 @@ part-parse-list-end c = search needs
 parse-list-requires : tie.Need-parse-list-requires
 parse-list-requires c κs = search needs
 
+same-length : tie.Need-same-length
+same-length c = search needs
+
 returns-2 : tie.Need-returns-2
 returns-2 c = search listed-refused
 
@@ -42,8 +45,17 @@ part-parse-rest-end c = search needs
 parse-rest-requires : tie.Need-parse-rest-requires
 parse-rest-requires c κs = search needs
 
+same-length-2 : tie.Need-same-length-2
+same-length-2 c = search needs
+
+same-length-3 : tie.Need-same-length-3
+same-length-3 c = search needs
+
+same-length-4 : tie.Need-same-length-4
+same-length-4 c = search needs
+
 returns-3 : tie.Need-returns-3
-returns-3 c = search listed-read
+returns-3 c = search (listed-read, c .before .before .before .before .before .before .before .before .before .before .before .before .before .before .before .before .before .before .before .before .before .before .find .ensures, c .before .before .before .before .before .before .before .before .before .before .before .before .before .before .before .before .before .before .before .before .before .if1 .left, c .before .before .before .before .before .before .before .before .before .before .before .before .before .before .before .before .before .before .parse-list .ensures, c .before .before .before .before .before .before .before .before .before .before .before .before .before .if2 .left, c .before .before .before .before .before .before .before .before .before .before .before .missing-bonds .ensures, c .before .before .before .before .before .before .parse-rest .ensures)
 
 pub parse-listed-spec : {M : Type 1} → statement M
 parse-listed-spec =
@@ -55,6 +67,7 @@ parse-listed-spec =
     part-parse-list-start
     part-parse-list-end
     parse-list-requires
+    same-length
     returns-2
     missing-bonds-requires
     add-parse-rest
@@ -62,4 +75,7 @@ parse-listed-spec =
     part-parse-rest-start
     part-parse-rest-end
     parse-rest-requires
+    same-length-2
+    same-length-3
+    same-length-4
     returns-3)

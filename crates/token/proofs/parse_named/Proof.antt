@@ -6,6 +6,9 @@ use Rattle.token.proofs.parse_named.Tie as tie
 find-requires : tie.Need-find-requires
 find-requires c κs = search needs
 
+empty-requires : tie.Need-empty-requires
+empty-requires c κs = search needs
+
 returns : tie.Need-returns
 returns c = search no-colon
 
@@ -20,6 +23,12 @@ part-parse-carbons-end c = search needs
 
 parse-carbons-requires : tie.Need-parse-carbons-requires
 parse-carbons-requires c κs = search needs
+
+empty-requires-2 : tie.Need-empty-requires-2
+empty-requires-2 c κs = search needs
+
+same-length : tie.Need-same-length
+same-length c = search needs
 
 returns-2 : tie.Need-returns-2
 returns-2 c = search carbons-refused
@@ -39,6 +48,15 @@ part-parse-bonds-end c = search needs
 parse-bonds-requires : tie.Need-parse-bonds-requires
 parse-bonds-requires c κs = search needs
 
+same-length-2 : tie.Need-same-length-2
+same-length-2 c = search needs
+
+same-length-3 : tie.Need-same-length-3
+same-length-3 c = search needs
+
+same-length-4 : tie.Need-same-length-4
+same-length-4 c = search needs
+
 returns-3 : tie.Need-returns-3
 returns-3 c = search carbons-then
 
@@ -47,15 +65,21 @@ parse-named-spec =
     tie.close
     (tie.spec
     find-requires
+    empty-requires
     returns
     sub-parse-carbons
     part-parse-carbons-start
     part-parse-carbons-end
     parse-carbons-requires
+    empty-requires-2
+    same-length
     returns-2
     add-parse-bonds
     sub-parse-bonds
     part-parse-bonds-start
     part-parse-bonds-end
     parse-bonds-requires
+    same-length-2
+    same-length-3
+    same-length-4
     returns-3)

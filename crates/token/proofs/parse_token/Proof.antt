@@ -1,33 +1,53 @@
-use Rattle.token.proofs.Laws.{token-long, token-bytes, token-read}
+use Rattle.token.proofs.Laws.{bonds-short, groups-short, rings-short, token-in}
 use borrow.Author.Needs.{needs}
 use Rattle.token.proofs.parse_token.Statement.{statement}
 use Rattle.token.proofs.parse_token.Tie as tie
 
-returns : tie.Need-returns
-returns c = search token-long
+empty-requires : tie.Need-empty-requires
+empty-requires c κs = search needs
 
-all-printable-requires : tie.Need-all-printable-requires
-all-printable-requires c κs = search needs
+returns : tie.Need-returns
+returns c = search bonds-short
+
+empty-requires-2 : tie.Need-empty-requires-2
+empty-requires-2 c κs = search needs
 
 returns-2 : tie.Need-returns-2
-returns-2 c = search token-bytes
+returns-2 c = search groups-short
 
-trim-requires : tie.Need-trim-requires
-trim-requires c κs = search needs
-
-parse-trimmed-requires : tie.Need-parse-trimmed-requires
-parse-trimmed-requires c κs = search needs
+empty-requires-3 : tie.Need-empty-requires-3
+empty-requires-3 c κs = search needs
 
 returns-3 : tie.Need-returns-3
-returns-3 c = search token-read
+returns-3 c = search rings-short
+
+read-token-requires : tie.Need-read-token-requires
+read-token-requires c κs = search needs
+
+same-length : tie.Need-same-length
+same-length c = search needs
+
+same-length-2 : tie.Need-same-length-2
+same-length-2 c = search needs
+
+same-length-3 : tie.Need-same-length-3
+same-length-3 c = search needs
+
+returns-4 : tie.Need-returns-4
+returns-4 c = search token-in
 
 pub parse-token-spec : {M : Type 1} → statement M
 parse-token-spec =
     tie.close
     (tie.spec
+    empty-requires
     returns
-    all-printable-requires
+    empty-requires-2
     returns-2
-    trim-requires
-    parse-trimmed-requires
-    returns-3)
+    empty-requires-3
+    returns-3
+    read-token-requires
+    same-length
+    same-length-2
+    same-length-3
+    returns-4)

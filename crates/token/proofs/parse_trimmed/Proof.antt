@@ -9,8 +9,8 @@ slice-aggregate-same c = search needs
 same-requires : tie.Need-same-requires
 same-requires c κs = search needs
 
-emptied-requires : tie.Need-emptied-requires
-emptied-requires c κs = search needs
+empty-requires : tie.Need-empty-requires
+empty-requires c κs = search needs
 
 returns : tie.Need-returns
 returns c = search empty-chain
@@ -30,6 +30,15 @@ part-parse-named-end c = search needs
 parse-named-requires : tie.Need-parse-named-requires
 parse-named-requires c κs = search needs
 
+same-length : tie.Need-same-length
+same-length c = search needs
+
+same-length-2 : tie.Need-same-length-2
+same-length-2 c = search needs
+
+same-length-3 : tie.Need-same-length-3
+same-length-3 c = search needs
+
 returns-2 : tie.Need-returns-2
 returns-2 c = search opened-chain
 
@@ -39,11 +48,14 @@ parse-trimmed-spec =
     (tie.spec
     slice-aggregate-same
     same-requires
-    emptied-requires
+    empty-requires
     returns
     read-opening-requires
     sub-parse-named
     part-parse-named-start
     part-parse-named-end
     parse-named-requires
+    same-length
+    same-length-2
+    same-length-3
     returns-2)

@@ -29,11 +29,14 @@ separator-requires c κs = search needs
 put-byte-requires : tie.Need-put-byte-requires Inv-loop μ-loop
 put-byte-requires c κs = search needs
 
-mul-put-bond : tie.Need-mul-put-bond Inv-loop μ-loop
-mul-put-bond c = search needs
+mul-bond-in : tie.Need-mul-bond-in Inv-loop μ-loop
+mul-bond-in c = search needs
 
-array-copy-out-put-bond : tie.Need-array-copy-out-put-bond Inv-loop μ-loop
-array-copy-out-put-bond c = search needs
+array-read-bond-in : tie.Need-array-read-bond-in Inv-loop μ-loop
+array-read-bond-in c = search needs
+
+bond-in-requires : tie.Need-bond-in-requires Inv-loop μ-loop
+bond-in-requires c κs = search needs
 
 put-bond-requires : tie.Need-put-bond-requires Inv-loop μ-loop
 put-bond-requires c κs = search needs
@@ -65,8 +68,9 @@ put-bonds-spec =
     returns
     separator-requires
     put-byte-requires
-    mul-put-bond
-    array-copy-out-put-bond
+    mul-bond-in
+    array-read-bond-in
+    bond-in-requires
     put-bond-requires
     add-i
     loop-less

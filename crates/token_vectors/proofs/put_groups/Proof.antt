@@ -29,11 +29,14 @@ separator-requires c κs = search needs
 put-byte-requires : tie.Need-put-byte-requires Inv-loop μ-loop
 put-byte-requires c κs = search needs
 
-mul-put-group : tie.Need-mul-put-group Inv-loop μ-loop
-mul-put-group c = search needs
+mul-group-in : tie.Need-mul-group-in Inv-loop μ-loop
+mul-group-in c = search needs
 
-array-copy-out-put-group : tie.Need-array-copy-out-put-group Inv-loop μ-loop
-array-copy-out-put-group c = search needs
+array-read-group-in : tie.Need-array-read-group-in Inv-loop μ-loop
+array-read-group-in c = search needs
+
+group-in-requires : tie.Need-group-in-requires Inv-loop μ-loop
+group-in-requires c κs = search needs
 
 put-group-requires : tie.Need-put-group-requires Inv-loop μ-loop
 put-group-requires c κs = search needs
@@ -65,8 +68,9 @@ put-groups-spec =
     returns
     separator-requires
     put-byte-requires
-    mul-put-group
-    array-copy-out-put-group
+    mul-group-in
+    array-read-group-in
+    group-in-requires
     put-group-requires
     add-i
     loop-less

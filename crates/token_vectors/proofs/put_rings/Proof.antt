@@ -29,11 +29,14 @@ separator-requires c κs = search needs
 put-byte-requires : tie.Need-put-byte-requires Inv-loop μ-loop
 put-byte-requires c κs = search needs
 
-mul-put-ring : tie.Need-mul-put-ring Inv-loop μ-loop
-mul-put-ring c = search needs
+mul-ring-in : tie.Need-mul-ring-in Inv-loop μ-loop
+mul-ring-in c = search needs
 
-array-copy-out-put-ring : tie.Need-array-copy-out-put-ring Inv-loop μ-loop
-array-copy-out-put-ring c = search needs
+array-read-ring-in : tie.Need-array-read-ring-in Inv-loop μ-loop
+array-read-ring-in c = search needs
+
+ring-in-requires : tie.Need-ring-in-requires Inv-loop μ-loop
+ring-in-requires c κs = search needs
 
 put-ring-requires : tie.Need-put-ring-requires Inv-loop μ-loop
 put-ring-requires c κs = search needs
@@ -65,8 +68,9 @@ put-rings-spec =
     returns
     separator-requires
     put-byte-requires
-    mul-put-ring
-    array-copy-out-put-ring
+    mul-ring-in
+    array-read-ring-in
+    ring-in-requires
     put-ring-requires
     add-i
     loop-less

@@ -5,7 +5,7 @@ use Rattle.builder.proofs.Builder.new.Tie as tie
 
 returns : tie.Need-returns
 unfolding placedIn
-returns c = record { at = refl; atoms = refl; variables = refl; labels = refl; placed = refl }
+returns c = record { at = refl; atoms = refl; variables = refl; labels = refl; used = refl; rows = refl; placed = refl }
 
 pub new-spec : {M : Type 1} → statement M
 new-spec = tie.close (tie.spec returns)

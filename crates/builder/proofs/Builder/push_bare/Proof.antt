@@ -1,5 +1,5 @@
-use Rattle.builder.proofs.Pushes.{bare-pushed}
 use borrow.Author.Needs.{needs}
+use Rattle.builder.proofs.Pushes.{bare-pushed}
 use Rattle.builder.proofs.Builder.push_bare.Statement.{statement}
 use Rattle.builder.proofs.Builder.push_bare.Tie as tie
 
@@ -9,8 +9,15 @@ push-chain-requires c κs = search needs
 same-length : tie.Need-same-length
 same-length c = search needs
 
+same-length-2 : tie.Need-same-length-2
+same-length-2 c = search needs
+
+same-length-3 : tie.Need-same-length-3
+same-length-3 c = search needs
+
 returns : tie.Need-returns
 returns c = search bare-pushed
 
 pub push-bare-spec : {M : Type 1} → statement M
-push-bare-spec = tie.close (tie.spec push-chain-requires same-length returns)
+push-bare-spec =
+    tie.close (tie.spec push-chain-requires same-length same-length-2 same-length-3 returns)

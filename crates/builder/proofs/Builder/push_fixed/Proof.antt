@@ -1,5 +1,6 @@
-use Rattle.builder.proofs.Pushes.{fixed-is}
 use borrow.Author.Needs.{needs}
+use native.Mathlib.Omega.{arith}
+use Rattle.builder.proofs.Pushes.{fixed-is}
 use Rattle.builder.proofs.Builder.push_fixed.Statement.{statement}
 use Rattle.builder.proofs.Builder.push_fixed.Tie as tie
 
@@ -13,7 +14,7 @@ same-length : tie.Need-same-length
 same-length c = search needs
 
 returns : tie.Need-returns
-returns c = search fixed-is
+returns c = search (fixed-is, arith)
 
 pub push-fixed-spec : {M : Type 1} → statement M
 push-fixed-spec = tie.close (tie.spec put-text-requires plus-requires same-length returns)

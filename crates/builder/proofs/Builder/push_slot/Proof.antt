@@ -1,6 +1,6 @@
 use borrow.Author.Needs.{needs}
+use mathlib.Core.Path.{refl}
 use Rattle.reading.specs.Ascii.{ascii}
-use native.Mathlib.Omega.{arith}
 use Rattle.builder.proofs.Pushes.{slot-pushed}
 use Rattle.builder.proofs.Builder.push_slot.Statement.{statement}
 use Rattle.builder.proofs.Builder.push_slot.Tie as tie
@@ -17,9 +17,19 @@ push-chain-requires c κs = search needs
 same-length : tie.Need-same-length
 same-length c = search needs
 
+same-length-2 : tie.Need-same-length-2
+same-length-2 c = search needs
+
+same-length-3 : tie.Need-same-length-3
+same-length-3 c = search needs
+
 returns : tie.Need-returns
 unfolding ascii
-returns c = search (slot-pushed, arith)
+returns c =
+    let chain = c .before .before .before .before .before .before in
+    let fixed = chain .before .before .before .before .before .before in
+    let start = fixed .before .before .before .before .before .before .before in
+    slot-pushed (start .good .1 .0 .0) (fixed .push-fixed .ensures) refl (chain .push-chain .ensures)
 
 pub push-slot-spec : {M : Type 1} → statement M
 push-slot-spec =
@@ -29,4 +39,6 @@ push-slot-spec =
     push-fixed-requires
     push-chain-requires
     same-length
+    same-length-2
+    same-length-3
     returns)

@@ -1,4 +1,4 @@
-use Rattle.listing.proofs.FourLaws.{filled-none}
+use Rattle.rising.proofs.FourLaws.{filled-none}
 use Rattle.listing.specs.Lists.{noList}
 use Rattle.listing.proofs.Lists.new.Statement.{statement}
 use Rattle.listing.proofs.Lists.new.Tie as tie

@@ -1,4 +1,4 @@
-use Rattle.listing.proofs.FourLaws.{filled-none}
+use Rattle.rising.proofs.FourLaws.{filled-none}
 use Rattle.listing.specs.Sites.{noSite}
 use Rattle.listing.proofs.Sites.new.Statement.{statement}
 use Rattle.listing.proofs.Sites.new.Tie as tie

@@ -1,4 +1,4 @@
-use Rattle.listing.proofs.FourLaws.{added-more, added-full}
+use Rattle.rising.proofs.FourLaws.{added-more, added-full}
 use borrow.Author.Needs.{needs}
 use Rattle.listing.proofs.Sites.push.Statement.{statement}
 use Rattle.listing.proofs.Sites.push.Tie as tie

@@ -1,0 +1,16 @@
+use Rattle.branches.proofs.Laws.{rows-put}
+use borrow.Author.Needs.{needs}
+use Rattle.branches.proofs.put_rows.Statement.{statement}
+use Rattle.branches.proofs.put_rows.Tie as tie
+
+write-rows-requires : tie.Need-write-rows-requires
+write-rows-requires c κs = search needs
+
+same-length : tie.Need-same-length
+same-length c = search needs
+
+returns : tie.Need-returns
+returns c = search rows-put
+
+pub put-rows-spec : {M : Type 1} → statement M
+put-rows-spec = tie.close (tie.spec write-rows-requires same-length returns)

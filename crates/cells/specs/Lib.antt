@@ -1,0 +1,2 @@
+pub use Rattle.cellwords.specs.Words
+pub mod Cells

@@ -1,0 +1,3 @@
+pub mod Put
+pub mod Marks
+pub mod Told

@@ -1,0 +1,65 @@
+-- Laws of the marks and the sums, chain by chain. Assumes nothing.
+use Prim.Native.Nat.{ℕ, _+_, _<_, _^_}
+use native.Mathlib.Omega.{arith}
+use mathlib.Core.Path.{_≡_, sym, _∙_}
+use mathlib.Core.Bool.{Bool, false, cond}
+use mathlib.Core.List.{List, _++_, map, map-append}
+use lib.Dec.{eqb}
+use lib.ListN.{length, take, getD}
+use borrow.Author.Tests.{eq-eqb, ne-eqb}
+use Rattle.emit.specs.Text.{Written}
+use Rattle.reading.specs.Ascii.{ascii}
+use Rattle.reading.specs.Show.{showMark, showSum}
+use Rattle.chain.specs.Drawing.{markList}
+use Rattle.shown.specs.Chained.{shown}
+use Rattle.shown.specs.Notes.{sumList}
+use Rattle.shown.proofs.Chained.{still-marks, still-sums}
+use Rattle.placed.specs.declared.Placed.{Placed}
+use Rattle.atoms.specs.Index.{inRoom}
+use Rattle.placed.specs.Fragment.{gathered}
+use Rattle.placed.proofs.Laws.{gathered-more}
+use Rattle.chain_marks.specs.declared.Next.{Next}
+use Rattle.chain_marks.specs.Put.{PutBlocks, PutParts}
+use Rattle.chain_marks.specs.Marks.{marksOf, sumsOf, marksIn, sumsIn}
+use Rattle.chain_marks.proofs.Put.{put-then}
+
+-- whether the next is still the first
+pub first-none : (n : ℕ) (first : Bool) → n ≡ 0 → first ≡ cond (eqb n 0) first false
+first-none n first e = rw (eq-eqb n 0 e)
+
+pub first-some : (n : ℕ) (first : Bool) → (n ≡ 0 → ⊥) → false ≡ cond (eqb n 0) first false
+first-some n first h = rw (ne-eqb n 0 h)
+
+-- ---- a chain
+
+pub marks-put : (p : Placed) (a : Next) {xs ys : List ℕ} {f v q : ℕ} {later : Bool} → f ≡ inRoom (p .first) → v ≡ inRoom (p .variable)
+    → Written xs (a .at) (shown (ascii " |") (ascii ",") (a .first) (map showMark (markList (f + p .flexible) v (p .unlocated)))) ys q
+    → later ≡ cond (eqb (p .unlocated) 0) (a .first) false → PutBlocks (map showMark (marksOf p)) xs a ys (record { at = q; first = later })
+unfolding marksOf
+marks-put p a {f = f} {v} ef ev w e =
+    record { text = rw (← ef, ← ev) w; first = e ∙ sym (still-marks (a .first) (inRoom (p .first) + p .flexible) (inRoom (p .variable)) (p .unlocated)) }
+
+pub sum-put : (p : Placed) (a : Next) {xs ys : List ℕ} {v q : ℕ} {later : Bool} → v ≡ inRoom (p .variable)
+    → Written xs (a .at) (shown (ascii " ") (ascii ";") (a .first) (map showSum (sumList v (p .unlocated) (p .total)))) ys q
+    → later ≡ cond (eqb (p .unlocated) 0) (a .first) false → PutParts (map showSum (sumsOf p)) xs a ys (record { at = q; first = later })
+unfolding sumsOf
+sum-put p a {v = v} ev w e =
+    record { text = rw (← ev) w; first = e ∙ sym (still-sums (a .first) (inRoom (p .variable)) (p .unlocated) (p .total)) }
+
+-- ---- all chains
+
+-- the texts of what is gathered from one chain more
+more-shown : {A : Type 0} (show : A → List ℕ) (f : Placed → List A) (l : List Placed) (i : ℕ) (d : Placed) → i < length l
+    → map show (gathered f (take (i + 1) l)) ≡ map show (gathered f (take i l)) ++ map show (f (getD l i d))
+more-shown show f l i d h = rw (gathered-more f l i d h) (map-append show (gathered f (take i l)) (f (getD l i d)))
+
+module _ {xs ys zs : List ℕ} {a b c : Next} (l : List Placed) (i : ℕ) (d : Placed) where
+  pub marks-more : PutBlocks (map showMark (marksIn (take i l))) xs a ys b
+      → PutBlocks (map showMark (marksOf (getD l i d))) ys b zs c → length xs < 2 ^ 64 → i < length l → PutBlocks (map showMark (marksIn (take (i + 1) l))) xs a zs c
+  unfolding marksIn
+  marks-more u w g h = rw (more-shown showMark marksOf l i d h) (put-then g u w)
+
+  pub sums-more : PutParts (map showSum (sumsIn (take i l))) xs a ys b
+      → PutParts (map showSum (sumsOf (getD l i d))) ys b zs c → length xs < 2 ^ 64 → i < length l → PutParts (map showSum (sumsIn (take (i + 1) l))) xs a zs c
+  unfolding sumsIn
+  sums-more u w g h = rw (more-shown showSum sumsOf l i d h) (put-then g u w)

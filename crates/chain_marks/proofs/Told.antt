@@ -1,0 +1,57 @@
+-- The marks and the sums by numbers are those that the chains' drawings say. Assumes nothing.
+use Prim.Native.Nat.{ℕ, zero, suc, _+_, _-_, _≤_}
+use native.Mathlib.Omega.{arith}
+use mathlib.Core.Path.{_≡_, refl, sym, ap₂, _∙_}
+use mathlib.Core.List.{List, [], _∷_, _++_, map}
+use Rattle.reading.specs.Molecule.{At, Sum}
+use Rattle.chain.specs.Lists.{valuesFrom}
+use Rattle.chain.specs.Features.{remaining}
+use Rattle.chain.specs.Drawing.{markList}
+use Rattle.chain.specs.Drawing as draw
+use Rattle.atoms.proofs.NumberLaws.{flexible-atom-shift}
+use Rattle.template.specs.Request as request
+use Rattle.template.specs.Request.{allMarks, allSums}
+use Rattle.template.specs.Promise.{Each}
+use Rattle.shown.specs.Notes.{sumList}
+use Rattle.shown.proofs.Chained.{sums-are}
+use Rattle.placed.specs.Fragment.{noted, gathered, Told}
+use Rattle.atoms.proofs.IndexLaws.{room-is}
+use Rattle.chain_marks.specs.Marks.{marksOf, sumsOf, marksIn, sumsIn}
+
+-- ---- a chain
+
+module _ (p : request.Placed) (t : Told p) where
+  marks-of : marksOf (noted p) ≡ draw.marks (p .role) (p .chain) (p .first) (p .variable)
+  unfolding marksOf noted draw.marks
+  marks-of = rw (room-is (p .first) (t .first), room-is (p .variable) (t .variable), ← flexible-atom-shift (p .role) (p .chain) (p .first))
+
+  sums-of : sumsOf (noted p) ≡ draw.sums (p .role) (p .chain) (p .variable)
+  unfolding sumsOf noted
+  sums-of = rw (room-is (p .variable) (t .variable)) (sym (sums-are (p .role) (p .chain) (p .variable)))
+
+-- ---- all chains
+
+pub marks-told : (ps : List request.Placed) → Each Told ps → marksIn (map noted ps) ≡ allMarks ps
+unfolding marksIn gathered allMarks
+marks-told [] h = refl
+marks-told (p ∷ ps) h = ap₂ (λ (a b : List (At ℕ)). a ++ b) (marks-of p (h .0)) (marks-told ps (h .1))
+
+pub sums-told : (ps : List request.Placed) → Each Told ps → sumsIn (map noted ps) ≡ allSums ps
+unfolding sumsIn gathered allSums
+sums-told [] h = refl
+sums-told (p ∷ ps) h = ap₂ (λ (a b : List Sum). a ++ b) (sums-of p (h .0)) (sums-told ps (h .1))
+
+-- ---- sums stand only with marks
+
+none-marked : (p v n total : ℕ) (ms : List (At ℕ)) → markList p v n ++ ms ≡ [] → (sumList v n total ≡ []) × (ms ≡ [])
+unfolding markList sumList valuesFrom
+none-marked p v zero total ms e = (refl, e)
+none-marked p v (suc n) total ms e = let z : _≡_ {A = ℕ} 0 1 = cc in absurd (omega arith)
+
+pub marked-sums : (ps : List request.Placed) → allMarks ps ≡ [] → allSums ps ≡ []
+unfolding allMarks allSums draw.marks
+marked-sums [] h = refl
+marked-sums (p ∷ ps) h =
+    let d = p .chain in
+    let z = none-marked (draw.flexibleAtom (p .role) d (p .first)) (p .variable) (d .unlocated) (remaining (p .role) d - d .unlocated - 1) (allMarks ps) h in
+    rw (sums-are (p .role) d (p .variable), z .0) (marked-sums ps (z .1))

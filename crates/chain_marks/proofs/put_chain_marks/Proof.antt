@@ -1,0 +1,45 @@
+use Rattle.chain_marks.proofs.Marks.{marks-put}
+use borrow.Author.Needs.{needs}
+use Rattle.chain_marks.proofs.put_chain_marks.Statement.{statement}
+use Rattle.chain_marks.proofs.put_chain_marks.Tie as tie
+
+in-room-requires : tie.Need-in-room-requires
+in-room-requires c κs = search needs
+
+cast-atom : tie.Need-cast-atom
+cast-atom c = search needs
+
+add-atom : tie.Need-add-atom
+add-atom c = search needs
+
+in-room-requires-2 : tie.Need-in-room-requires-2
+in-room-requires-2 c κs = search needs
+
+cast-put-marks : tie.Need-cast-put-marks
+cast-put-marks c = search needs
+
+put-marks-requires : tie.Need-put-marks-requires
+put-marks-requires c κs = search needs
+
+still-first-requires : tie.Need-still-first-requires
+still-first-requires c κs = search needs
+
+same-length : tie.Need-same-length
+same-length c = search needs
+
+returns : tie.Need-returns
+returns c = search marks-put
+
+pub put-chain-marks-spec : {M : Type 1} → statement M
+put-chain-marks-spec =
+    tie.close
+    (tie.spec
+    in-room-requires
+    cast-atom
+    add-atom
+    in-room-requires-2
+    cast-put-marks
+    put-marks-requires
+    still-first-requires
+    same-length
+    returns)

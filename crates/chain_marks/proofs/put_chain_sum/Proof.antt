@@ -1,0 +1,37 @@
+use Rattle.chain_marks.proofs.Marks.{sum-put}
+use borrow.Author.Needs.{needs}
+use Rattle.chain_marks.proofs.put_chain_sum.Statement.{statement}
+use Rattle.chain_marks.proofs.put_chain_sum.Tie as tie
+
+in-room-requires : tie.Need-in-room-requires
+in-room-requires c κs = search needs
+
+cast-put-sum : tie.Need-cast-put-sum
+cast-put-sum c = search needs
+
+cast-put-sum-2 : tie.Need-cast-put-sum-2
+cast-put-sum-2 c = search needs
+
+put-sum-requires : tie.Need-put-sum-requires
+put-sum-requires c κs = search needs
+
+still-first-requires : tie.Need-still-first-requires
+still-first-requires c κs = search needs
+
+same-length : tie.Need-same-length
+same-length c = search needs
+
+returns : tie.Need-returns
+returns c = search sum-put
+
+pub put-chain-sum-spec : {M : Type 1} → statement M
+put-chain-sum-spec =
+    tie.close
+    (tie.spec
+    in-room-requires
+    cast-put-sum
+    cast-put-sum-2
+    put-sum-requires
+    still-first-requires
+    same-length
+    returns)

@@ -1,0 +1,89 @@
+// The marks and the sums of all chains of a line, from what is noted of them. The chains are gone through in the order of the text. The
+// texts of single marks and sums are those of `marks` and `sums`.
+use placed::MAX_CHAINS;
+use placed::Placed;
+use placed::in_places;
+use placed::in_room;
+ghost use mathlib.Core.Path.{_≡_};
+ghost use mathlib.Core.Bool.{cond, false};
+ghost use mathlib.Core.List.{map};
+ghost use lib.Dec.{eqb};
+ghost use lib.ListN.{take};
+ghost use Rattle.reading.specs.Show.{showMark, showSum};
+ghost use Rattle.chain_marks.specs.Put.{PutBlocks, PutParts};
+ghost use Rattle.chain_marks.specs.Marks.{marksOf, sumsOf, marksIn, sumsIn};
+
+// A place in the line, and whether the next block or part of the trailer is the first.
+pub struct Next {
+    pub at: usize,
+    pub first: bool,
+}
+
+// Whether the next is still the first after the marks or the sum of n double bonds without a position.
+fn still_first(first: bool, n: u16) -> bool
+    ensures { λ r. ⌜ r ≡ cond (eqb n 0) first false ⌝ }
+{
+    if n == 0 {
+        return first;
+    }
+    false
+}
+
+// The marks of a chain.
+fn put_chain_marks(out: &mut [u8], next: Next, p: Placed) -> Next
+    ensures { λ r. ⌜ PutBlocks (map showMark (marksOf p)) (now (out .entry)) next (now (out .exit)) r ⌝ }
+{
+    let n = p.unlocated;
+    let first = next.first;
+    let atom = in_room(p.first) + p.flexible as u32;
+    let v = in_room(p.variable);
+    let at = marks::put_marks(out, next.at, first, atom, v, n as u32);
+    Next {
+        at,
+        first: still_first(first, n),
+    }
+}
+
+// The marks of all chains.
+pub fn put_all_marks(out: &mut [u8], next: Next, placed: [Placed; MAX_CHAINS], count: usize) -> Next
+    ensures { λ r. ⌜ PutBlocks (map showMark (marksIn (take count placed))) (now (out .entry)) next (now (out .exit)) r ⌝ }
+{
+    let n = in_places(count);
+    let mut b = next;
+    let mut i = 0;
+    while i < n {
+        let p = placed[i];
+        b = put_chain_marks(out, b, p);
+        i += 1;
+    }
+    b
+}
+
+// The sum of a chain.
+fn put_chain_sum(out: &mut [u8], next: Next, p: Placed) -> Next
+    ensures { λ r. ⌜ PutParts (map showSum (sumsOf p)) (now (out .entry)) next (now (out .exit)) r ⌝ }
+{
+    let n = p.unlocated;
+    let first = next.first;
+    let v = in_room(p.variable);
+    let at = sums::put_sum(out, next.at, first, v, n as u32, p.total as u32);
+    Next {
+        at,
+        first: still_first(first, n),
+    }
+}
+
+// The sums of all chains.
+pub fn put_all_sums(out: &mut [u8], next: Next, placed: [Placed; MAX_CHAINS], count: usize) -> Next
+    ensures { λ r. ⌜ PutParts (map showSum (sumsIn (take count placed))) (now (out .entry)) next (now (out .exit)) r ⌝ }
+{
+    let n = in_places(count);
+    let mut b = next;
+    let mut i = 0;
+    while i < n {
+        let p = placed[i];
+        b = put_chain_sum(out, b, p);
+        i += 1;
+    }
+    b
+}

@@ -1,0 +1,23 @@
+use Rattle.drawing.proofs.Answered.{refused-is}
+use borrow.Author.Needs.{needs}
+use Rattle.drawing.proofs.refused.Statement.{statement}
+use Rattle.drawing.proofs.refused.Tie as tie
+use Rattle.drawing.proofs.refused.Reads as reads
+use Rattle.drawing.proofs.refused.Lts as lts
+use Rattle.drawing.proofs.no_lists.Reads as no-lists-reads
+use Rattle.drawing.proofs.no_sites.Reads as no-sites-reads
+
+-- src/lib.rt:60:9
+no-lists-requires : tie.Need-no-lists-requires
+no-lists-requires c κs = search needs
+
+-- src/lib.rt:61:9
+no-sites-requires : tie.Need-no-sites-requires
+no-sites-requires c κs = search needs
+
+-- src/lib.rt:57:1
+returns : tie.Need-returns
+returns c = search refused-is
+
+pub refused-spec : {M : Type 1} → statement M
+refused-spec = tie.close (tie.spec no-lists-requires no-sites-requires returns)

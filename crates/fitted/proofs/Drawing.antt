@@ -1,0 +1,337 @@
+-- Laws of a chain as it is drawn: what each step of `drawn_as` makes of the lists.
+-- Assumes nothing.
+use Prim.Native.Nat.{ℕ, zero, suc, _+_, _<_, _≤_, _^_, min}
+use native.Mathlib.Numerals.{add-one}
+use native.Mathlib.Omega.{arith}
+use mathlib.Core.Path.{_≡_, refl, sym, ap, _∙_}
+use mathlib.Core.Bool.{Bool, true, false, cond, not}
+use mathlib.Core.List.{List, [], _∷_, _++_, map, map-append, append-assoc, append-nil}
+use lib.Dec.{eqb}
+use lib.ListN.{length, take, drop, set, getD, replicate, length-append, length-take, length-map, List·getD-map}
+use lib.Seq.{take-suc, take-suc-set, take-all, take-append-le, getD-take}
+use borrow.Author.Tests.{eq-eqb, ne-eqb}
+use Rattle.record.specs.declared.ChainPrefix.{ChainPrefix}
+use Rattle.record.specs.declared.ChainPrefix.the-variants as prefix
+use Rattle.record.specs.declared.DbPos.{DbPos}
+use Rattle.record.specs.declared.Mod.{Mod}
+use Rattle.record.specs.Chain.{Chain, Within, maxBonds, maxGroups, maxRings}
+use Rattle.parsed.specs.declared.ParsedChain.{ParsedChain}
+use Rattle.parsed.specs.Parsed.{Keeps, Holds}
+use Rattle.chain.specs.declared.Role.{Role}
+use Rattle.chain.specs.declared.Role.the-variants.{Slot, Acyl, Base}
+use Rattle.chain.specs.Lists.{anyOf}
+use Rattle.chain.specs.Features.{alkenylBond, doubles, located, unlocated, oxygenAt, triolOxygen, baseOxygens, groupsOn, floating}
+use Rattle.groups.specs.Groups.{hydroxy}
+use Rattle.codes.specs.Codes.{bondCode, bondIn, groupCode, groupIn, ringIn}
+use Rattle.codes.proofs.Laws.{bond-back, group-back}
+use Rattle.drawable.specs.Drawn.{bondsIn, groupsIn, ringsIn, noGroup, Length, groupAt, chainOf}
+use Rattle.drawable.proofs.Through.{only-skip, only-keep, only-all}
+use Rattle.drawable.proofs.Lists.{length-only, take-front}
+use Rattle.fitted.specs.declared.Listed.{Listed}
+use Rattle.fitted.specs.Fitted.{alkenyl, listed}
+
+-- ---- a chain that a record holds, within its limits, is the one that its arrays say
+
+kept : {A : Type 0} (of : ℕ → A) (limit : ℕ) (xs : List ℕ) (n : ℕ) (l : List A) → Keeps of limit xs n l → length l ≤ limit → map of (take (min n limit) xs) ≡ l
+kept of limit xs n l k h = k .kept ∙ take-all limit l h
+
+pub held-chain : {c : ParsedChain} {d : Chain} → Holds c d → Within d → chainOf c ≡ d
+unfolding chainOf bondsIn groupsIn ringsIn
+held-chain {c} {d} k w =
+    simp (k .prefix, k .written, k .carbon, k .branched, k .unlocated, k .oxygens, kept bondIn maxBonds (c .bonds) (c .«bond_count») (d .bonds) (k .bonds) (w .bonds), kept groupIn maxGroups (c .groups) (c .«group_count») (d .groups) (k .groups) (w .groups), kept ringIn maxRings (c .rings) (c .«ring_count») (d .rings) (k .rings) (w .rings))
+
+-- ---- how many double bonds a prefix adds
+
+pub adds-as : (p q : ChainPrefix) (n : ℕ) → n ≡ length (alkenylBond Slot q) → p ≡ q → n ≡ length (alkenylBond Slot p)
+adds-as p q n e h = rw h e
+
+pub adds-acyl : 0 ≡ length (alkenylBond Slot prefix.Acyl)
+unfolding alkenylBond
+adds-acyl = refl
+
+pub adds-alkyl : 0 ≡ length (alkenylBond Slot prefix.EtherAlkyl)
+unfolding alkenylBond
+adds-alkyl = refl
+
+pub adds-alkenyl : 1 ≡ length (alkenylBond Slot prefix.EtherAlkenyl)
+unfolding alkenylBond
+adds-alkenyl = refl
+
+pub adds-diol : 0 ≡ length (alkenylBond Slot prefix.SphingoidD)
+unfolding alkenylBond
+adds-diol = refl
+
+pub adds-triol : 0 ≡ length (alkenylBond Slot prefix.SphingoidT)
+unfolding alkenylBond
+adds-triol = refl
+
+-- an acyl place is as a slot
+alkenyl-as-slot : (p : ChainPrefix) → alkenylBond Slot p ≡ alkenylBond Acyl p
+unfolding alkenylBond
+alkenyl-as-slot prefix.Acyl = refl
+alkenyl-as-slot prefix.EtherAlkyl = refl
+alkenyl-as-slot prefix.EtherAlkenyl = refl
+alkenyl-as-slot prefix.SphingoidD = refl
+alkenyl-as-slot prefix.SphingoidT = refl
+
+pub adds-in-slot : (r : Role) (p : ChainPrefix) (n : ℕ) → r ≡ Slot → n ≡ length (alkenylBond Slot p) → n ≡ length (alkenylBond r p)
+adds-in-slot r p n h e = rw h e
+
+pub adds-in-acyl : (r : Role) (p : ChainPrefix) (n : ℕ) → r ≡ Acyl → n ≡ length (alkenylBond Slot p) → n ≡ length (alkenylBond r p)
+adds-in-acyl r p n h e = e ∙ rw h (ap length (alkenyl-as-slot p))
+
+pub adds-in-base : (r : Role) (p : ChainPrefix) → r ≡ Base → 0 ≡ length (alkenylBond r p)
+unfolding alkenylBond
+adds-in-base r p h = rw h
+
+-- ---- numbers that stand for a list
+
+-- one number more
+more : {A : Type 0} (f : ℕ → A) (ys : List ℕ) (j v : ℕ) → j < length ys → map f (take (j + 1) (set ys j v)) ≡ map f (take j ys) ++ (f v ∷ [])
+more f ys j v h = rw (add-one j, take-suc-set ys j v h) (map-append f (take j ys) (v ∷ []))
+
+-- each number stands for what it is the number of
+pub bond-stands : (b : DbPos) (v : ℕ) → b .pos < 4294967296 → v ≡ bondCode b → bondIn v ≡ b
+bond-stands b v h e = ap bondIn e ∙ bond-back b h
+
+pub group-stands : (g : Mod) (v : ℕ) → g .pos < 4294967296 → g .row < 256 → v ≡ groupCode g → groupIn v ≡ g
+group-stands g v h k e = ap groupIn e ∙ group-back g h k
+
+-- ---- the double bonds: an array filled with that of `P-`, of which those that are added count
+
+alkenyl-front : (r : Role) (p : ChainPrefix) → take (length (alkenylBond r p)) (alkenyl ∷ []) ≡ alkenylBond r p
+unfolding alkenylBond
+alkenyl-front Base p = refl
+alkenyl-front Slot prefix.Acyl = refl
+alkenyl-front Slot prefix.EtherAlkyl = refl
+alkenyl-front Slot prefix.EtherAlkenyl = refl
+alkenyl-front Slot prefix.SphingoidD = refl
+alkenyl-front Slot prefix.SphingoidT = refl
+alkenyl-front Acyl prefix.Acyl = refl
+alkenyl-front Acyl prefix.EtherAlkyl = refl
+alkenyl-front Acyl prefix.EtherAlkenyl = refl
+alkenyl-front Acyl prefix.SphingoidD = refl
+alkenyl-front Acyl prefix.SphingoidT = refl
+
+alkenyl-short : (r : Role) (p : ChainPrefix) → length (alkenylBond r p) ≤ 1
+unfolding alkenylBond
+alkenyl-short Base p = omega arith
+alkenyl-short Slot prefix.Acyl = omega arith
+alkenyl-short Slot prefix.EtherAlkyl = omega arith
+alkenyl-short Slot prefix.EtherAlkenyl = omega arith
+alkenyl-short Slot prefix.SphingoidD = omega arith
+alkenyl-short Slot prefix.SphingoidT = omega arith
+alkenyl-short Acyl prefix.Acyl = omega arith
+alkenyl-short Acyl prefix.EtherAlkyl = omega arith
+alkenyl-short Acyl prefix.EtherAlkenyl = omega arith
+alkenyl-short Acyl prefix.SphingoidD = omega arith
+alkenyl-short Acyl prefix.SphingoidT = omega arith
+
+pub adds-few : (r : Role) (p : ChainPrefix) (k : ℕ) → k ≡ length (alkenylBond r p) → k ≤ 1
+adds-few r p k e = rw e (alkenyl-short r p)
+
+pub bonds-none : (k v : ℕ) (xs : List ℕ) → k ≤ 1 → bondIn v ≡ alkenyl → bondsIn (k + 0) (replicate 33 v) ≡ take k (alkenyl ∷ []) ++ bondsIn 0 xs
+unfolding bondsIn
+bonds-none zero v xs h e = refl
+bonds-none (suc zero) v xs h e = rw e
+bonds-none (suc (suc k)) v xs h e = absurd (omega arith)
+
+-- one bond more of those in the lent array, behind a
+pub bonds-next : (a : List DbPos) (xs ys : List ℕ) (k i n : ℕ) → n ≤ length xs → length ys ≡ 33 → k ≤ 1 → n ≤ 32 → bondsIn (k + i) ys ≡ a ++ bondsIn i xs → i < n
+    → bondsIn (k + (i + 1)) (set ys (k + i) (getD xs i 0)) ≡ a ++ bondsIn (i + 1) xs
+unfolding bondsIn
+bonds-next a xs ys k i n s t j m v h =
+    let e : k + (i + 1) ≡ k + i + 1 = omega arith in
+    let w : bondsIn (i + 1) xs ≡ bondsIn i xs ++ (bondIn (getD xs i 0) ∷ []) = rw (add-one i, take-suc xs i 0 (omega arith)) (map-append bondIn (take i xs) (getD xs i 0 ∷ [])) in
+    rw (e, more bondIn ys (k + i) (getD xs i 0) (omega arith), v, w, append-assoc)
+
+pub bonds-all : (a : List DbPos) (xs ys : List ℕ) (k i n : ℕ) → bondsIn (k + i) ys ≡ a ++ bondsIn i xs → i ≤ n → n ≤ i → bondsIn (k + n) ys ≡ a ++ bondsIn n xs
+bonds-all a xs ys k i n v h g = let z : i ≡ n = omega arith in rw z at v
+
+-- ---- groups with a position, and those without: the loop over the first n numbers of xs, of which so many are kept in ys
+
+module _ (xs : List ℕ) (n i : ℕ) (f : n ≤ length xs) where
+  whole : Length n (groupsIn n xs) n
+  unfolding groupsIn
+  whole = record { is = omega (arith, length-map (take n xs) groupIn, length-take n xs); fits = omega arith }
+
+  here : i < n → (g : Mod) → g ≡ groupIn (getD xs i 0) → g ≡ getD (groupsIn n xs) i noGroup
+  unfolding groupsIn groupIn
+  here h g e = e ∙ (ap groupIn (sym (getD-take n xs i 0 h)) ∙ sym (List·getD-map groupIn (take n xs) i 0))
+
+  module _ (l : List Mod) (g : Mod) (e : g ≡ groupIn (getD xs i 0)) (h : i < n) where
+    pub located-pass : l ++ located (drop i (groupsIn n xs)) ≡ located (groupsIn n xs) → g .pos ≡ 0 → l ++ located (drop (i + 1) (groupsIn n xs)) ≡ located (groupsIn n xs)
+    unfolding located
+    located-pass v z = only-skip (λ g. not (eqb (g .pos) 0)) n (groupsIn n xs) n i noGroup g l whole v h (here h g e) (rw (eq-eqb (g .pos) 0 z))
+
+    pub floating-pass : l ++ unlocated (drop i (groupsIn n xs)) ≡ unlocated (groupsIn n xs) → (g .pos ≡ 0 → ⊥) → l ++ unlocated (drop (i + 1) (groupsIn n xs)) ≡ unlocated (groupsIn n xs)
+    unfolding unlocated
+    floating-pass v z = only-skip (λ g. eqb (g .pos) 0) n (groupsIn n xs) n i noGroup g l whole v h (here h g e) (ne-eqb (g .pos) 0 z)
+
+  module _ (ys : List ℕ) (j : ℕ) (s : length ys ≡ 18) (k : n ≤ 16) (b : j ≤ i) (g : Mod) (e : g ≡ groupIn (getD xs i 0)) (h : i < n) where
+    put : groupsIn (j + 1) (set ys j (getD xs i 0)) ≡ groupsIn j ys ++ (g ∷ [])
+    unfolding groupsIn
+    put = more groupIn ys j (getD xs i 0) (omega arith) ∙ rw e
+
+    pub located-put : groupsIn j ys ++ located (drop i (groupsIn n xs)) ≡ located (groupsIn n xs) → (g .pos ≡ 0 → ⊥)
+        → groupsIn (j + 1) (set ys j (getD xs i 0)) ++ located (drop (i + 1) (groupsIn n xs)) ≡ located (groupsIn n xs)
+    unfolding located
+    located-put v z =
+        only-keep (λ g. not (eqb (g .pos) 0)) n (groupsIn n xs) n i noGroup g (groupsIn j ys) whole v h (here h g e) (groupsIn (j + 1) (set ys j (getD xs i 0))) (rw (ne-eqb (g .pos) 0 z)) put
+
+    pub floating-put : groupsIn j ys ++ unlocated (drop i (groupsIn n xs)) ≡ unlocated (groupsIn n xs) → g .pos ≡ 0
+        → groupsIn (j + 1) (set ys j (getD xs i 0)) ++ unlocated (drop (i + 1) (groupsIn n xs)) ≡ unlocated (groupsIn n xs)
+    unfolding unlocated
+    floating-put v z =
+        only-keep (λ g. eqb (g .pos) 0) n (groupsIn n xs) n i noGroup g (groupsIn j ys) whole v h (here h g e) (groupsIn (j + 1) (set ys j (getD xs i 0))) (eq-eqb (g .pos) 0 z) put
+
+  module _ (ys : List ℕ) (j : ℕ) (h : n ≤ i) where
+    pub located-end : groupsIn j ys ++ located (drop i (groupsIn n xs)) ≡ located (groupsIn n xs) → listed (record { count = j; items = ys }) ≡ located (groupsIn n xs)
+    unfolding located listed
+    located-end v = only-all (λ g. not (eqb (g .pos) 0)) n (groupsIn n xs) n i (groupsIn j ys) whole v h
+
+    pub floating-end : groupsIn j ys ++ unlocated (drop i (groupsIn n xs)) ≡ unlocated (groupsIn n xs) → listed (record { count = j; items = ys }) ≡ unlocated (groupsIn n xs)
+    unfolding unlocated listed
+    floating-end v = only-all (λ g. eqb (g .pos) 0) n (groupsIn n xs) n i (groupsIn j ys) whole v h
+
+pub located-first : (ys : List ℕ) (l : List Mod) → groupsIn 0 ys ++ located (drop 0 l) ≡ located l
+unfolding groupsIn
+located-first ys l = refl
+
+pub floating-first : (ys : List ℕ) (l : List Mod) → groupsIn 0 ys ++ unlocated (drop 0 l) ≡ unlocated l
+unfolding groupsIn
+floating-first ys l = refl
+
+-- ---- one group more in a list
+
+module _ (x : Listed) (g : Mod) (s : length (x .items) ≡ 18) where
+  pub list-more : (v : ℕ) → groupIn v ≡ g → x .count < 18 → listed (record { count = x .count + 1; items = set (x .items) (x .count) v }) ≡ take 18 (listed x ++ (g ∷ []))
+  unfolding listed groupsIn
+  list-more v e h =
+      more groupIn (x .items) (x .count) v (omega arith)
+      ∙ rw e (sym (take-all 18 (map groupIn (take (x .count) (x .items)) ++ (g ∷ [])) (omega (arith, length-append (map groupIn (take (x .count) (x .items))) (g ∷ []), length-map (take (x .count) (x .items)) groupIn, length-take (x .count) (x .items)))))
+
+  pub list-full : 18 ≤ x .count → listed x ≡ take 18 (listed x ++ (g ∷ []))
+  unfolding listed groupsIn
+  list-full h =
+      let z : length (map groupIn (take (x .count) (x .items))) ≡ 18 = omega (arith, length-map (take (x .count) (x .items)) groupIn, length-take (x .count) (x .items)) in
+      sym (take-append-le 18 (listed x) (g ∷ []) (omega arith) ∙ take-all 18 (listed x) (omega arith))
+
+  -- no more than there is room for
+  pub list-fits : length (listed x) ≤ 18
+  unfolding listed groupsIn
+  list-fits = omega (arith, length-map (take (x .count) (x .items)) groupIn, length-take (x .count) (x .items))
+
+-- ---- the groups on the chain
+
+pub oxygen-none : (g : List Mod) (w : List Mod) (p : ℕ) (t : Bool) → length g ≤ 18 → t ≡ anyOf (groupAt p) w → t ≡ true → g ≡ take 18 (g ++ oxygenAt p w)
+unfolding oxygenAt
+oxygen-none g w p t h e f = rw (sym e ∙ f, append-nil g) (sym (take-all 18 g h))
+
+pub oxygen-one : (g w m : List Mod) (p : ℕ) (t : Bool) → t ≡ anyOf (groupAt p) w → t ≡ false → m ≡ take 18 (g ++ (record { pos = p; row = 11 } ∷ [])) → m ≡ take 18 (g ++ oxygenAt p w)
+unfolding oxygenAt
+oxygen-one g w m p t e f h = rw (sym e ∙ f) h
+
+-- an O at 3 alone, where the prefix is not t
+pub diol-groups : (q : ChainPrefix) (p : ChainPrefix) (w m : List Mod) → ((gs : List Mod) → triolOxygen q gs ≡ []) → p ≡ q → m ≡ take 18 (w ++ oxygenAt 3 w) → m ≡ take 18 (w ++ baseOxygens Base p w)
+unfolding baseOxygens
+diol-groups q p w m z h e = rw (h, z w, append-nil (oxygenAt 3 w)) e
+
+pub triol-groups : (p : ChainPrefix) (w k m : List Mod) → p ≡ prefix.SphingoidT → k ≡ take 18 (w ++ oxygenAt 3 w) → m ≡ take 18 (k ++ oxygenAt 4 w) → m ≡ take 18 (w ++ baseOxygens Base p w)
+unfolding baseOxygens triolOxygen
+triol-groups p w k m h e f = f ∙ rw (e, h, take-front 18 (w ++ oxygenAt 3 w) (oxygenAt 4 w), append-assoc)
+
+pub no-triol-acyl : (gs : List Mod) → triolOxygen prefix.Acyl gs ≡ []
+unfolding triolOxygen
+no-triol-acyl gs = refl
+
+pub no-triol-alkyl : (gs : List Mod) → triolOxygen prefix.EtherAlkyl gs ≡ []
+unfolding triolOxygen
+no-triol-alkyl gs = refl
+
+pub no-triol-alkenyl : (gs : List Mod) → triolOxygen prefix.EtherAlkenyl gs ≡ []
+unfolding triolOxygen
+no-triol-alkenyl gs = refl
+
+pub no-triol-diol : (gs : List Mod) → triolOxygen prefix.SphingoidD gs ≡ []
+unfolding triolOxygen
+no-triol-diol gs = refl
+
+-- a chain that is no base has no O's of its own
+pub plain-groups : (q r : Role) (p : ChainPrefix) (w : List Mod) → ((gs : List Mod) → baseOxygens q p gs ≡ []) → r ≡ q → length w ≤ 18 → w ≡ take 18 (w ++ baseOxygens r p w)
+plain-groups q r p w z h l = rw (h, z w, append-nil w) (sym (take-all 18 w l))
+
+pub no-base-slot : (p : ChainPrefix) (gs : List Mod) → baseOxygens Slot p gs ≡ []
+unfolding baseOxygens
+no-base-slot p gs = refl
+
+pub no-base-acyl : (p : ChainPrefix) (gs : List Mod) → baseOxygens Acyl p gs ≡ []
+unfolding baseOxygens
+no-base-acyl p gs = refl
+
+pub base-same : (r q : Role) (p : ChainPrefix) (w m : List Mod) → r ≡ q → m ≡ take 18 (w ++ baseOxygens q p w) → m ≡ take 18 (w ++ baseOxygens r p w)
+base-same r q p w m h e = rw h e
+
+-- ---- the lists of the whole
+
+one-short : (b : Bool) (g : Mod) → length (cond {A = List Mod} b [] (g ∷ [])) ≤ 1
+one-short true g = omega arith
+one-short false g = omega arith
+
+oxygen-short : (p : ℕ) (gs : List Mod) → length (oxygenAt p gs) ≤ 1
+unfolding oxygenAt
+oxygen-short p gs = one-short (anyOf (groupAt p) gs) (record { pos = p; row = hydroxy })
+
+triol-short : (p : ChainPrefix) (gs : List Mod) → length (triolOxygen p gs) ≤ 1
+unfolding triolOxygen
+triol-short prefix.Acyl gs = omega arith
+triol-short prefix.EtherAlkyl gs = omega arith
+triol-short prefix.EtherAlkenyl gs = omega arith
+triol-short prefix.SphingoidD gs = omega arith
+triol-short prefix.SphingoidT gs = oxygen-short 4 gs
+
+base-short : (r : Role) (p : ChainPrefix) (gs : List Mod) → length (baseOxygens r p gs) ≤ 2
+unfolding baseOxygens
+base-short Slot p gs = omega arith
+base-short Acyl p gs = omega arith
+base-short Base p gs = omega (arith, oxygen-short 3 gs, triol-short p gs, length-append (oxygenAt 3 gs) (triolOxygen p gs))
+
+located-short : (c : ParsedChain) → length (located (chainOf c .groups)) ≤ 16
+unfolding located chainOf groupsIn
+located-short c =
+    omega
+    (arith, length-only (λ g. not (eqb (g .pos) 0)) (chainOf c .groups), length-map (take (min (c .«group_count») maxGroups) (c .groups)) groupIn, length-take (min (c .«group_count») maxGroups) (c .groups))
+
+pub bonds-drawn : (r : Role) (c : ParsedChain) (k n : ℕ) (ys : List ℕ) → k ≡ length (alkenylBond r (c .prefix)) → n ≡ min (c .«bond_count») 32
+    → bondsIn (k + n) ys ≡ take k (alkenyl ∷ []) ++ bondsIn n (c .bonds) → bondsIn (k + n) ys ≡ doubles r (chainOf c)
+unfolding doubles chainOf
+bonds-drawn r c k n ys e f h = h ∙ rw (e, alkenyl-front r (c .prefix), f)
+
+-- so many of an array's numbers stand within it
+pub lent-within : (xs : List ℕ) (n m limit room : ℕ) → length xs ≡ room → limit ≤ room → n ≡ min m limit → n ≤ length xs
+lent-within xs n m limit room l h e = omega arith
+
+pub bonds-lent : (xs : List ℕ) (n m : ℕ) → length xs ≡ 32 → n ≡ min m 32 → n ≤ length xs
+bonds-lent xs n m l e = lent-within xs n m 32 32 l (omega arith) e
+
+pub groups-lent : (xs : List ℕ) (n m : ℕ) → length xs ≡ 18 → n ≡ min m 16 → n ≤ length xs
+groups-lent xs n m l e = lent-within xs n m 16 18 l (omega arith) e
+
+pub adds-fit : (r : Role) (p : ChainPrefix) (k m n : ℕ) → k ≡ length (alkenylBond r p) → n ≡ min m 32 → k + n < 2 ^ 64
+adds-fit r p k m n e f = omega (arith, adds-few r p k e)
+
+pub groups-drawn : (r : Role) (c : ParsedChain) (n : ℕ) (k m : List Mod) → n ≡ min (c .«group_count») 16 → k ≡ located (groupsIn n (c .groups)) → m ≡ take 18 (k ++ baseOxygens r (c .prefix) k)
+    → m ≡ groupsOn r (chainOf c)
+unfolding groupsOn chainOf
+groups-drawn r c n k m e i h =
+    let g : k ≡ located (chainOf c .groups) = rw e at i in
+    h
+    ∙ rw g (take-all 18 _ (omega (arith, length-append (located (chainOf c .groups)) (baseOxygens r (c .prefix) (located (chainOf c .groups))), located-short c, base-short r (c .prefix) (located (chainOf c .groups)))))
+
+pub floats-drawn : (c : ParsedChain) (n : ℕ) (m : List Mod) → n ≡ min (c .«group_count») 16 → m ≡ unlocated (groupsIn n (c .groups)) → m ≡ floating (chainOf c)
+unfolding floating chainOf
+floats-drawn c n m e i = rw e at i
+
+pub rings-drawn : (c : ParsedChain) (n : ℕ) → n ≡ min (c .«ring_count») 8 → ringsIn n (c .rings) ≡ chainOf c .rings
+unfolding chainOf
+rings-drawn c n e = rw e

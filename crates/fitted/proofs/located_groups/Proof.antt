@@ -1,0 +1,77 @@
+use borrow.Author.Needs.{needs}
+use borrow.Author.Needs.{needs}
+use Prim.Native.Nat.{_≤_, _-_}
+use native.Mathlib.Omega.{arith}
+use mathlib.Core.Path.{_≡_}
+use mathlib.Core.List.{_++_}
+use lib.ListN.{length, drop}
+use Rattle.chain.specs.Features.{located}
+use Rattle.drawable.specs.Drawn.{groupsIn}
+use Rattle.fitted.proofs.Drawing.{located-first, located-pass, located-put, located-end}
+use Rattle.fitted.proofs.located_groups.Statement.{statement}
+use Rattle.fitted.proofs.located_groups.Tie as tie
+
+abbrev Inv-loop : tie.InvT-loop
+Inv-loop groups n items₀ count₀ i₀ items count i = (groupsIn count items ++ located (drop i (groupsIn n groups)) ≡ located (groupsIn n groups)) × (count ≤ i) × (i ≤ n) × (length items ≡ 18)
+
+abbrev μ-loop : tie.MeasureT-loop
+μ-loop groups n items₀ count₀ i₀ items count i = n - i
+
+loop-holds : tie.Need-loop-holds Inv-loop μ-loop
+loop-holds c = (search located-first, omega arith, omega arith, search needs)
+
+mul-number : tie.Need-mul-number Inv-loop μ-loop
+mul-number c = search needs
+
+shared-slice-read-number : tie.Need-shared-slice-read-number Inv-loop μ-loop
+shared-slice-read-number c = search needs
+
+group-in-requires : tie.Need-group-in-requires Inv-loop μ-loop
+group-in-requires c κs = search needs
+
+add-i : tie.Need-add-i Inv-loop μ-loop
+add-i c = search needs
+
+loop-less : tie.Need-loop-less Inv-loop μ-loop
+loop-less c = search needs
+
+loop-again : tie.Need-loop-again Inv-loop μ-loop
+loop-again c = (search located-pass, omega arith, omega arith, search needs)
+
+mul-items : tie.Need-mul-items Inv-loop μ-loop
+mul-items c = search needs
+
+array-write-items : tie.Need-array-write-items Inv-loop μ-loop
+array-write-items c = search needs
+
+add-count : tie.Need-add-count Inv-loop μ-loop
+add-count c = search needs
+
+loop-less-2 : tie.Need-loop-less-2 Inv-loop μ-loop
+loop-less-2 c = search needs
+
+loop-again-2 : tie.Need-loop-again-2 Inv-loop μ-loop
+loop-again-2 c = (search located-put, omega arith, omega arith, search needs)
+
+returns : tie.Need-returns Inv-loop μ-loop
+returns c = search located-end
+
+pub located-groups-spec : {M : Type 1} → statement M
+located-groups-spec =
+    tie.close
+    (tie.spec
+    Inv-loop
+    μ-loop
+    loop-holds
+    mul-number
+    shared-slice-read-number
+    group-in-requires
+    add-i
+    loop-less
+    loop-again
+    mul-items
+    array-write-items
+    add-count
+    loop-less-2
+    loop-again-2
+    returns)

@@ -1,0 +1,17 @@
+-- Laws of the writers of the head of a row: a law for each way out. Assumes nothing.
+use Prim.Native.Nat.{ℕ, _^_, _<_}
+use mathlib.Core.List.{List, [], _∷_}
+use lib.ListN.{length}
+use Rattle.emit.specs.Text.{Written, decimal}
+use Rattle.emit.proofs.Laws.{written-append}
+use Rattle.heads.specs.Text.{ended, headText}
+
+module _ {xs ys zs : List ℕ} {a p q : ℕ} (t : List ℕ) (b : ℕ) (g : length xs < 2 ^ 64) (w : Written xs a t ys p) (u : Written ys p (b ∷ []) zs q) where
+  pub ended-text : Written xs a (ended t b) zs q
+  unfolding ended
+  ended-text = written-append g w u
+
+pub head-text : {xs ys zs : List ℕ} {a p q : ℕ} (answer token : ℕ) → length xs < 2 ^ 64 → Written xs a (ended (decimal answer) 9) ys p
+    → Written ys p (ended (decimal token) 9) zs q → Written xs a (headText answer token) zs q
+unfolding headText
+head-text answer token g w u = written-append g w u

@@ -1,0 +1,33 @@
+// The numbers at the head of a row of the output, written: the answer and the token's place. Each writer is of the kind of `emit`: it stores
+// nothing past the end and counts on. What is written is said by specs/Text.antt.
+ghost use Rattle.emit.specs.Text.{Written, decimal};
+ghost use Rattle.heads.specs.Text.{ended, headText};
+use emit::put_byte;
+
+// The decimal digits of n, most significant first, with no leading zero.
+pub fn put_decimal(out: &mut [u8], at: usize, n: u64) -> usize
+    ensures { λ r. ⌜ Written (now (out .entry)) at (decimal n) (now (out .exit)) r ⌝ }
+{
+    if n < 10 {
+        put_byte(out, at, (48 + n) as u8)
+    } else {
+        let p = put_decimal(out, at, n / 10);
+        put_byte(out, p, (48 + n % 10) as u8)
+    }
+}
+
+// A number and a tab.
+pub fn put_number_cell(out: &mut [u8], at: usize, n: u64) -> usize
+    ensures { λ r. ⌜ Written (now (out .entry)) at (ended (decimal n) 9) (now (out .exit)) r ⌝ }
+{
+    let p = put_decimal(out, at, n);
+    put_byte(out, p, b'\t')
+}
+
+// The answer and the token's place.
+pub fn put_head(out: &mut [u8], at: usize, answer: u16, token: usize) -> usize
+    ensures { λ r. ⌜ Written (now (out .entry)) at (headText answer token) (now (out .exit)) r ⌝ }
+{
+    let p = put_number_cell(out, at, answer as u64);
+    put_number_cell(out, p, token as u64)
+}

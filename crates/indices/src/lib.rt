@@ -1,0 +1,68 @@
+// The index lists of a line, end to end by rising sn. The indices of its chains stand end to end in the order of the text; the part of each
+// chain is copied from there. A writer of the kind of `emit`: it stores nothing past the end and counts on.
+use placed::MAX_CHAINS;
+use placed::Placed;
+use rising::Rising;
+ghost use Prim.Native.Nat.{_≤_};
+ghost use lib.ListN.{take, drop};
+ghost use Rattle.emit.specs.Text.{Written};
+ghost use Rattle.rising.specs.Order.{placesIn};
+ghost use Rattle.indices.specs.Index.{indicesAt, Starts};
+
+// Where the part of the chain at a place starts: behind those of the chains before it.
+fn start_of(placed: [Placed; MAX_CHAINS], place: usize) -> usize
+    ensures { λ r. ⌜ Starts placed place r ⌝ }
+{
+    let n = placed::in_places(place);
+    let mut sum = 0;
+    let mut i = 0;
+    while i < n {
+        let p = placed[i];
+        sum += p.count as usize;
+        i += 1;
+    }
+    sum
+}
+
+// So many numbers from a place on, as far as there are any.
+fn put_part(out: &mut [u16], at: usize, numbers: &[u16], from: usize, count: usize) -> usize
+    requires { ⌜ (from ≤ 262140) × (count ≤ 65535) ⌝ }
+    ensures { λ r. ⌜ Written (now (out .entry)) at (take count (drop from (now (numbers .entry)))) (now (out .exit)) r ⌝ }
+{
+    let n = numbers.len();
+    let end = from + count;
+    if end <= n {
+        return emit::put_indices(out, at, &numbers[from..end]);
+    }
+    if from <= n {
+        return emit::put_indices(out, at, &numbers[from..n]);
+    }
+    at
+}
+
+// The parts of the chains at some places.
+pub fn write_indices(
+    out: &mut [u16],
+    numbers: &[u16],
+    placed: [Placed; MAX_CHAINS],
+    order: Rising,
+) -> usize
+    ensures { λ r. ⌜ Written (now (out .entry)) 0 (indicesAt placed (now (numbers .entry)) (placesIn order)) (now (out .exit)) r ⌝ }
+{
+    let n = placed::in_places(order.count);
+    let items = order.items;
+    let mut q = 0;
+    let mut i = 0;
+    while i < n {
+        let k = items[i];
+        if k < MAX_CHAINS {
+            let p = placed[k];
+            let from = start_of(placed, k);
+            q = put_part(out, q, numbers, from, p.count as usize);
+            i += 1;
+            continue;
+        }
+        i += 1;
+    }
+    q
+}

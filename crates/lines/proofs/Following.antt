@@ -1,0 +1,108 @@
+-- What is written after the text makes it the line.
+-- Assumes nothing.
+use Prim.Native.Nat.{ℕ, zero, suc, _+_, _≤_, _<_, _^_, min}
+use native.Mathlib.Nat.{zero-add}
+use native.Mathlib.Omega.{arith}
+use mathlib.Core.Path.{_≡_, refl, sym, ap, _∙_}
+use mathlib.Core.Bool.{Bool, true}
+use mathlib.Core.List.{List, [], _∷_, _++_, map}
+use lib.ListN.{length, take, drop}
+use lib.Seq.{sets-eq}
+use Rattle.emit.specs.Text.{Written}
+use Rattle.emit.proofs.Laws.{written-append, written-length}
+use Rattle.record.specs.Chain.{Chain}
+use Rattle.shown.specs.declared.Site.{Site}
+use Rattle.drawable.specs.declared.Chains.{Chains}
+use Rattle.template.specs.declared.Class.{Class}
+use Rattle.template.specs.Template.{elements, hasTail}
+use Rattle.template.specs.Request as request
+use Rattle.template.specs.Request.{placed, indicesOf, bySn, snSites, labels, allMarks, allSites, allSums, textOf, lineOf}
+use Rattle.template.specs.Promise.{Each}
+use Rattle.placed.specs.declared.Placed.{Placed}
+use Rattle.placed.specs.Fragment.{noted, rowsOf, gathered, Told}
+use Rattle.placed.proofs.Laws.{index-lists}
+use Rattle.strand.specs.Strand.{rooms}
+use Rattle.listing.specs.declared.Sites.{Sites}
+use Rattle.listing.specs.Sites.{sitesAt, SitesHeld, allSiteList, SitesAre}
+use Rattle.listing.specs.Order.{placesIn, InOrder}
+use Rattle.listing.proofs.SitesLaws.{sites-in-order, placed-sites}
+use Rattle.rising.specs.declared.Rising.{Rising}
+use Rattle.chain_marks.proofs.Told.{marks-told, sums-told, marked-sums}
+use Rattle.chain_sites.proofs.Told.{sites-told}
+use Rattle.blocks.proofs.Notes.{line-noted}
+use Rattle.builder.specs.declared.Builder.{Builder}
+use Rattle.builder.specs.Build.{placedIn}
+use Rattle.builder.specs.Line.{sitesIn, Few, notesAfter, Finished}
+use Rattle.templates.specs.Templates.{FitsAll, TailOf}
+use Rattle.templates.specs.Classes.{StoodIn, ClassBuilt}
+use Rattle.templates.proofs.Built.{Short}
+use Rattle.lines.specs.Line.{chainsIn, Roomy, LineIs, LineBuilt}
+
+-- ---- the sites
+
+length-take-le : (n : ℕ) (l : List Site) → length (take n l) ≤ n
+length-take-le zero l = omega arith
+length-take-le (suc n) [] = omega arith
+length-take-le (suc n) (x ∷ l) = omega (arith, length-take-le n l)
+
+-- those of chains in order can be written
+few-sites : (l : List Placed) (count : ℕ) (o : Rising) (r : Sites) → InOrder (take count l) o → SitesHeld (sitesAt l (placesIn o)) r → Few r
+few-sites l count o r i h =
+    let w = sites-in-order l count o r i h in
+    record { count = omega (arith, w .count, length-take-le 4 (allSiteList (take count l))); digits = w .digits }
+
+-- ---- what was written from the first place on, with room for all of it
+
+written-front : {xs ys ts : List ℕ} {p : ℕ} → Written xs 0 ts ys p → length ts ≤ length xs → take (length ts) ys ≡ ts
+written-front {xs} {ts = ts} w h = rw (w .elements, rw (zero-add (length ts)) at (sets-eq ts xs 0 (omega (arith, h)))) (go ts (drop (length ts) xs))
+  where
+    go : (l r : List ℕ) → take (length l) (l ++ r) ≡ l
+    go [] r = refl
+    go (x ∷ l) r = ap (λ (z : List ℕ). x ∷ z) (go l r)
+
+-- ---- the line
+
+line-is : (c : Class) (swap : Bool) (t : List ℕ) (ds : List Chain) (s : Sites) (numbers rows : List ℕ) (n m : ℕ) → Each Told (placed c t ds)
+    → SitesAre (allSiteList (map noted (placed c t ds))) s → take n numbers ≡ gathered indicesOf (placed c t ds) → take m rows ≡ gathered rowsOf (placed c t ds)
+    → lineOf c swap t ds ≡ textOf c t ds ++ notesAfter swap (sitesIn s) (map noted (placed c t ds)) numbers rows
+unfolding notesAfter lineOf
+line-is c swap t ds s numbers rows n m h w e f =
+    rw (placed-sites c t ds s w, marks-told (placed c t ds) h, sites-told (placed c t ds) numbers rows n m h e f, sums-told (placed c t ds) h)
+    (line-noted (textOf c t ds) (labels swap (snSites (bySn (placed c t ds)))) (allMarks (placed c t ds)) (allSites (placed c t ds)) (allSums (placed c t ds)) (marked-sums (placed c t ds)))
+
+-- THE LINE of a class: its text, and what follows it
+pub line-built : {c : Class} {swap : Bool} {t : List ℕ} {k : ℕ} {x : Chains} {xs ys zs is js rs ss : List ℕ} {b q : Builder} {o : Rising} {s : Sites} → Short (rooms xs is rs)
+    → ClassBuilt c t k x (rooms xs is rs) (rooms ys js ss) b → InOrder (take (b .count) (b .placed)) o → SitesHeld (sitesAt (b .placed) (placesIn o)) s
+    → Finished swap s js ss ys b zs q → LineBuilt c swap t k x (rooms xs is rs) (rooms zs js ss) (record { builder = q; order = o; sites = s })
+unfolding placed textOf placedIn
+line-built {c} {swap} {t} {k} {x} {xs} {ys} {zs} {is} {js} {rs} {ss} {b} {q} {o} {s} g w i h f =
+    record {
+      sizes = record { text = f .size ∙ w .sizes .text; index = w .sizes .index; rows = w .sizes .rows };
+      order = rw (f .count, f .places) i;
+      sites = rw (f .count, f .places) sited;
+      line = line;
+    }
+  where
+    sited : SitesAre (allSiteList (take (b .count) (b .placed))) s
+    sited = sites-in-order (b .placed) (b .count) o s i h
+
+    few : Few s
+    few = few-sites (b .placed) (b .count) o s i h
+
+    line : (ds : List Chain) → (hasTail c ≡ true → TailOf t k) → StoodIn c ds x → FitsAll t ds (elements c) → Each Told (placed c t ds)
+        → Roomy (placed c t ds) (rooms xs is rs) → LineIs c swap t ds (rooms xs is rs) (rooms zs js ss) q
+    line ds a d e p m =
+        let u = w .built ds a d e in
+        let own : Written is 0 (gathered indicesOf (placed c t ds)) js (b .used) = rw (index-lists (placed c t ds) p) at (u .index) in
+        let n : b .used ≡ length (gathered indicesOf (placed c t ds)) = omega (arith, own .next, m .index, g .index) in
+        let front : take (length (gathered indicesOf (placed c t ds))) js ≡ gathered indicesOf (placed c t ds) = written-front own (m .index) in
+        let behind : take (length (gathered rowsOf (placed c t ds))) ss ≡ gathered rowsOf (placed c t ds) = written-front (u .rows) (m .rows) in
+        let there : take (b .count) (b .placed) ≡ map noted (placed c t ds) = u .counts .placed in
+        let after : Written ys (b .at) (notesAfter swap (sitesIn s) (map noted (placed c t ds)) js ss) zs (q .at) = rw there at (f .text few) in
+        let z = line-is c swap t ds s js ss (length (gathered indicesOf (placed c t ds))) (length (gathered rowsOf (placed c t ds))) p (rw there at sited) front behind in
+        record {
+          text = rw z (written-append (g .text) (u .text) after);
+          chains = rw (f .count, f .places) there;
+          used = f .used ∙ n;
+          index = rw (f .used, n) front;
+        }

@@ -1,0 +1,156 @@
+// The chain record: what one token says of a chain, by value, with fixed arrays of double bonds, groups and rings as numbers; and what the
+// token reader adds to such arrays while they are lent to it, and counts beside them. A list or a segment is read whole before its counts are
+// judged, so a push never refuses: an array keeps what its limit allows, its count stops one past the limit, and `check_counts` answers 31 there.
+// What a record holds is said by specs/Parsed.antt.
+use record::ChainPrefix;
+use record::DbPos;
+use record::GROUP_ROOM;
+use record::MAX_BONDS;
+use record::MAX_GROUPS;
+use record::MAX_RINGS;
+use record::Mod;
+use record::OVER_LIMIT;
+use record::Ring;
+ghost use mathlib.Core.Path.{_≡_};
+ghost use Prim.Native.Nat.{_≤_};
+ghost use lib.ListN.{length};
+ghost use Rattle.record.specs.Chain.{noFeatures, withBond, withGroup, withRing, countsOf, maxBonds, maxGroups, maxRings};
+ghost use Rattle.parsed.specs.Parsed.{Holds, Grows, first, bondsAs, groupsAs, ringsAs, Judges};
+
+// Double bonds, groups and rings are numbers of the crate `codes`.
+pub struct ParsedChain {
+    pub prefix: ChainPrefix,
+    pub written: u16,
+    pub carbon: u16,
+    pub branched: bool,
+    pub unlocated: u16,
+    pub oxygens: u32,
+    pub bond_count: usize,
+    pub bonds: [u64; MAX_BONDS],
+    pub group_count: usize,
+    pub groups: [u64; GROUP_ROOM],
+    pub ring_count: usize,
+    pub rings: [u64; MAX_RINGS],
+}
+
+// A chain that was read, or a refusal by its number (0: read). An enum holds no array, so the number stands beside the chain.
+pub struct Parsed {
+    pub refusal: u16,
+    pub chain: ParsedChain,
+}
+
+// How much of each lent array is used, and the last oxygen count.
+pub struct Counts {
+    pub bonds: usize,
+    pub groups: usize,
+    pub rings: usize,
+    pub oxygens: u32,
+}
+
+// What a reader counts once it has read, or a refusal by its number (0: read).
+pub struct Counted {
+    pub refusal: u16,
+    pub counts: Counts,
+}
+
+// The same of a reader that adds to one array.
+pub struct Pushed {
+    pub refusal: u16,
+    pub count: usize,
+}
+
+impl ParsedChain {
+    // A chain of so many carbons with nothing on it.
+    pub fn new(prefix: ChainPrefix, written: u16, carbon: u16, branched: bool) -> ParsedChain
+        ensures { λ r. ⌜ Holds r (noFeatures prefix written carbon branched) ⌝ }
+    {
+        let bonds = [0u64; MAX_BONDS];
+        let groups = [0u64; GROUP_ROOM];
+        let rings = [0u64; MAX_RINGS];
+        ParsedChain {
+            prefix,
+            written,
+            carbon,
+            branched,
+            unlocated: 0,
+            oxygens: 0,
+            bond_count: 0,
+            bonds,
+            group_count: 0,
+            groups,
+            ring_count: 0,
+            rings,
+        }
+    }
+}
+
+// One double bond more; how many there are then.
+pub fn push_bond(bonds: &mut [u64], count: usize, bond: DbPos) -> usize
+    requires { ⌜ maxBonds ≤ length (now bonds) ⌝ }
+    ensures { λ r. ⌜ Grows bondsAs (first count (now (bonds .entry))) (first r (now (bonds .exit))) (withBond bond) ⌝ }
+{
+    if count < MAX_BONDS {
+        bonds[count] = codes::bond_code(bond);
+        return count + 1;
+    }
+    MAX_BONDS + 1
+}
+
+// One group more.
+pub fn push_group(groups: &mut [u64], count: usize, group: Mod) -> usize
+    requires { ⌜ maxGroups ≤ length (now groups) ⌝ }
+    ensures { λ r. ⌜ Grows groupsAs (first count (now (groups .entry))) (first r (now (groups .exit))) (withGroup group) ⌝ }
+{
+    if count < MAX_GROUPS {
+        groups[count] = codes::group_code(group);
+        return count + 1;
+    }
+    MAX_GROUPS + 1
+}
+
+// One ring more.
+pub fn push_ring(rings: &mut [u64], count: usize, ring: Ring) -> usize
+    requires { ⌜ maxRings ≤ length (now rings) ⌝ }
+    ensures { λ r. ⌜ Grows ringsAs (first count (now (rings .entry))) (first r (now (rings .exit))) (withRing ring) ⌝ }
+{
+    if count < MAX_RINGS {
+        rings[count] = codes::ring_code(ring);
+        return count + 1;
+    }
+    MAX_RINGS + 1
+}
+
+// Refusal 11. The counts beside it say nothing.
+pub fn unreadable(counts: Counts) -> Counted
+    ensures { λ r. ⌜ r .refusal ≡ 11 ⌝ }
+{
+    Counted {
+        refusal: record::UNREADABLE,
+        counts,
+    }
+}
+
+// After a list or a segment: 31 where a count is over its limit.
+pub fn check_counts(counts: Counts) -> Counted
+    ensures { λ r. ⌜ Judges counts r countsOf ⌝ }
+{
+    if MAX_BONDS < counts.bonds {
+        return Counted {
+            refusal: OVER_LIMIT,
+            counts,
+        };
+    }
+    if MAX_GROUPS < counts.groups {
+        return Counted {
+            refusal: OVER_LIMIT,
+            counts,
+        };
+    }
+    if MAX_RINGS < counts.rings {
+        return Counted {
+            refusal: OVER_LIMIT,
+            counts,
+        };
+    }
+    Counted { refusal: 0, counts }
+}

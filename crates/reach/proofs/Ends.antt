@@ -1,0 +1,68 @@
+-- Laws of how far a chain is drawn as it is written: one for each way out.
+-- Assumes nothing.
+use Prim.Native.Nat.{ℕ, suc, _+_, _-_, _*_, _<_, _≤_, min}
+use native.Mathlib.Omega.{arith}
+use mathlib.Core.Path.{_≡_, refl, sym, _∙_}
+use mathlib.Core.List.{_++_, map}
+use borrow.Author.Tests.{eq-eqb, ne-eqb}
+use Rattle.record.specs.Chain.{Chain}
+use Rattle.chain.specs.declared.Role.{Role}
+use Rattle.chain.specs.Lists.{largest}
+use Rattle.chain.specs.Features.{firstDrawn, prefixEnd, literalEnd, remaining, flexibleCount, drawnCount}
+use Rattle.drawable.specs.declared.Drawn.{Drawn}
+use Rattle.drawable.specs.Drawn.{bondsDrawn, groupsDrawn, ringsDrawn, groupPin, Draws, Says, SaysUpTo}
+use Rattle.reach.specs.Reach.{bondReach, ringReach, Flexible}
+use Rattle.drawable.proofs.Lists.{largest-append}
+
+-- ---- the literal prefix
+
+module _ (x : Drawn) (b g e : ℕ) (e₁ : b ≡ largest (x .first) (map bondReach (bondsDrawn x))) (e₂ : g ≡ largest b (map groupPin (groupsDrawn x)))
+    (e₃ : e ≡ largest g (map ringReach (ringsDrawn x))) where
+  end-as : (r : Role) (d : Chain) → Draws r d x → prefixEnd r d ≡ min e (x .carbon)
+  unfolding prefixEnd
+  end-as r d w =
+      rw (← w .first, ← w .carbon, ← w .bonds, ← w .groups, ← w .rings, largest-append (x .first) (map bondReach (bondsDrawn x)) (map groupPin (groupsDrawn x) ++ map ringReach (ringsDrawn x)), largest-append (largest (x .first) (map bondReach (bondsDrawn x))) (map groupPin (groupsDrawn x)) (map ringReach (ringsDrawn x)), ← e₁, ← e₂, ← e₃)
+
+  pub prefix-inside : e < x .carbon → SaysUpTo x e prefixEnd
+  prefix-inside h = record { says = record { is = λ r d w. omega (arith, end-as r d w) }; fits = omega arith }
+
+  pub prefix-whole : x .carbon ≤ e → SaysUpTo x (x .carbon) prefixEnd
+  prefix-whole h = record { says = record { is = λ r d w. omega (arith, end-as r d w) }; fits = omega arith }
+
+pub rest-is : (x : Drawn) (e : ℕ) → SaysUpTo x e prefixEnd → Says x (x .carbon - e) remaining
+unfolding remaining
+rest-is x e s = record { is = λ r d w. rw (w .carbon, s .says .is r d w) }
+
+pub literal-whole : (x : Drawn) → x .unlocated ≡ 0 → SaysUpTo x (x .carbon) literalEnd
+unfolding literalEnd
+literal-whole x h = record { says = record { is = λ r d w. rw (← w .unlocated, eq-eqb (x .unlocated) 0 h) (w .carbon) }; fits = omega arith }
+
+pub literal-prefix : (x : Drawn) (e : ℕ) → (x .unlocated ≡ 0 → ⊥) → SaysUpTo x e prefixEnd → SaysUpTo x e literalEnd
+unfolding literalEnd
+literal-prefix x e h s = record { says = record { is = λ r d w. rw (← w .unlocated, ne-eqb (x .unlocated) 0 h) (s .says .is r d w) }; fits = s .fits }
+
+-- ---- the drawn carbons
+
+pub flexible-none : (n : ℕ) → n ≡ 0 → Flexible n 0
+flexible-none n h = record { is = rw (eq-eqb n 0 h); fits = omega arith }
+
+pub flexible-some : (n : ℕ) → (n ≡ 0 → ⊥) → n < 65536 → Flexible n (2 * n + 2)
+flexible-some n h g = record { is = rw (ne-eqb n 0 h); fits = omega arith }
+
+module _ (x : Drawn) (m e : ℕ) (f : Flexible (x .unlocated) m) (s : SaysUpTo x e literalEnd) where
+  tail-as : (r : Role) (d : Chain) → Draws r d x → flexibleCount d ≡ m
+  unfolding flexibleCount
+  tail-as r d w = rw (← w .unlocated) (sym (f .is))
+
+  parts : (r : Role) (d : Chain) → drawnCount r d ≡ suc (literalEnd r d) - firstDrawn r + flexibleCount d
+  unfolding drawnCount
+  parts r d = refl
+
+  count-as : (r : Role) (d : Chain) → Draws r d x → drawnCount r d ≡ suc e - x .first + m
+  count-as r d w = parts r d ∙ rw (tail-as r d w, ← w .first, ← s .says .is r d w)
+
+  pub count-flexible : e + 1 < x .first → Says x m drawnCount
+  count-flexible h = record { is = λ r d w. omega (arith, count-as r d w) }
+
+  pub count-both : x .first ≤ e + 1 → Says x (e + 1 - x .first + m) drawnCount
+  count-both h = record { is = λ r d w. omega (arith, count-as r d w) }

@@ -1,0 +1,41 @@
+use Rattle.reach.proofs.Ends.{prefix-inside, prefix-whole}
+use borrow.Author.Needs.{needs}
+use Rattle.reach.proofs.prefix_end.Statement.{statement}
+use Rattle.reach.proofs.prefix_end.Tie as tie
+
+cast-first : tie.Need-cast-first
+cast-first c = search needs
+
+bonds-reach-requires : tie.Need-bonds-reach-requires
+bonds-reach-requires c κs = search needs
+
+groups-reach-requires : tie.Need-groups-reach-requires
+groups-reach-requires c κs = search needs
+
+rings-reach-requires : tie.Need-rings-reach-requires
+rings-reach-requires c κs = search needs
+
+cast-if1 : tie.Need-cast-if1
+cast-if1 c = search needs
+
+cast-result : tie.Need-cast-result
+cast-result c = search needs
+
+returns : tie.Need-returns
+returns c = search prefix-inside
+
+returns-2 : tie.Need-returns-2
+returns-2 c = search prefix-whole
+
+pub prefix-end-spec : {M : Type 1} → statement M
+prefix-end-spec =
+    tie.close
+    (tie.spec
+    cast-first
+    bonds-reach-requires
+    groups-reach-requires
+    rings-reach-requires
+    cast-if1
+    cast-result
+    returns
+    returns-2)

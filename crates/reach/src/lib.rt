@@ -1,0 +1,120 @@
+// How far a chain is drawn as it is written, and how many carbons are drawn. 01, Drawing a chain.
+use drawable::Drawn;
+ghost use mathlib.Core.Path.{_≡_};
+ghost use mathlib.Core.List.{map};
+ghost use Prim.Native.Nat.{max};
+ghost use Rattle.chain.specs.Lists.{largest};
+ghost use Rattle.chain.specs.Features.{prefixEnd, literalEnd, remaining, drawnCount};
+ghost use Rattle.drawable.specs.Drawn.{bondsIn, groupsIn, ringsIn, groupPin, Says, SaysUpTo};
+ghost use Rattle.reach.specs.Reach.{bondReach, ringReach, Flexible};
+
+fn larger(a: u64, b: u64) -> u64
+    ensures { λ r. ⌜ r ≡ max a b ⌝ }
+{
+    if a < b {
+        return b;
+    }
+    a
+}
+
+// The largest of m and the carbons at which the double bonds end.
+fn bonds_reach(bonds: &[u64], count: usize, m: u64) -> u64
+    ensures { λ r. ⌜ r ≡ largest m (map bondReach (bondsIn count (now (bonds .entry)))) ⌝ }
+{
+    let n = drawable::bonds_len(bonds, count);
+    let mut reach = m;
+    let mut i = 0;
+    while i < n {
+        let bond = drawable::nth_bond(bonds, count, i);
+        reach = larger(reach, bond.pos as u64 + 1);
+        i += 1;
+    }
+    reach
+}
+
+// The largest of m and the positions of the groups.
+fn groups_reach(groups: &[u64], count: usize, m: u64) -> u64
+    ensures { λ r. ⌜ r ≡ largest m (map groupPin (groupsIn count (now (groups .entry)))) ⌝ }
+{
+    let n = drawable::groups_len(groups, count);
+    let mut reach = m;
+    let mut i = 0;
+    while i < n {
+        let group = drawable::nth_group(groups, count, i);
+        reach = larger(reach, group.pos as u64);
+        i += 1;
+    }
+    reach
+}
+
+// The largest of m and the ends of the rings.
+fn rings_reach(rings: &[u64], count: usize, m: u64) -> u64
+    ensures { λ r. ⌜ r ≡ largest m (map ringReach (ringsIn count (now (rings .entry)))) ⌝ }
+{
+    let n = drawable::rings_len(rings, count);
+    let mut reach = m;
+    let mut i = 0;
+    while i < n {
+        let ring = drawable::nth_ring(rings, count, i);
+        reach = larger(reach, ring.end as u64);
+        i += 1;
+    }
+    reach
+}
+
+// The last carbon of the literal prefix.
+pub fn prefix_end(x: Drawn) -> u16
+    ensures { λ r. ⌜ SaysUpTo x r prefixEnd ⌝ }
+{
+    let first = x.first as u64;
+    let carbon = x.carbon;
+    let bonds = bonds_reach(&x.bonds, x.bond_count, first);
+    let groups = groups_reach(&x.groups, x.group_count, bonds);
+    let reach = rings_reach(&x.rings, x.ring_count, groups);
+    if reach < carbon as u64 {
+        return reach as u16;
+    }
+    carbon
+}
+
+// R, the carbons that remain after the literal prefix.
+pub fn remaining(x: Drawn) -> u16
+    ensures { λ r. ⌜ Says x r remaining ⌝ }
+{
+    let end = prefix_end(x);
+    x.carbon - end
+}
+
+// The last literal carbon: c where every double bond is located.
+pub fn literal_end(x: Drawn) -> u16
+    ensures { λ r. ⌜ SaysUpTo x r literalEnd ⌝ }
+{
+    if x.unlocated == 0 {
+        return x.carbon;
+    }
+    prefix_end(x)
+}
+
+// The carbons of the flexible tail.
+fn flexible_count(unlocated: u16) -> u32
+    ensures { λ r. ⌜ Flexible unlocated r ⌝ }
+{
+    if unlocated == 0 {
+        return 0;
+    }
+    2 * (unlocated as u32) + 2
+}
+
+// How many carbons are drawn.
+pub fn drawn_count(x: Drawn) -> u32
+    ensures { λ r. ⌜ Says x r drawnCount ⌝ }
+{
+    let first = x.first as u32;
+    let unlocated = x.unlocated;
+    let flexible = flexible_count(unlocated);
+    let past = literal_end(x) as u32 + 1;
+    if past < first {
+        return flexible;
+    }
+    past - first + flexible
+}

@@ -1,0 +1,4 @@
+pub mod FourLaws
+pub mod OrderLaws
+pub mod Picked
+pub mod Sorted

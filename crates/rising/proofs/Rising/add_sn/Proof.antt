@@ -1,0 +1,66 @@
+use native.Mathlib.Omega.{arith}
+use Prim.Native.Nat.{_≤_, _-_, min}
+use mathlib.Core.Path.{_≡_}
+use lib.ListN.{length, take}
+use Rattle.rising.specs.Order.{placesOf, PlacesAdded}
+use Rattle.rising.proofs.OrderLaws.{sn-none, sn-here, sn-other, sn-all}
+use borrow.Author.Needs.{needs}
+use Rattle.rising.proofs.Rising.add_sn.Statement.{statement}
+use Rattle.rising.proofs.Rising.add_sn.Tie as tie
+
+abbrev Inv-loop : tie.InvT-loop
+Inv-loop count sn sns n places₀ i₀ places i = (i ≤ n) × (n ≡ min count 4) × (length sns ≡ 4) × PlacesAdded (placesOf sn 0 (take i sns)) places₀ places
+
+abbrev μ-loop : tie.MeasureT-loop
+μ-loop count sn sns n places₀ i₀ places i = n - i
+
+in-places-requires : tie.Need-in-places-requires Inv-loop μ-loop
+in-places-requires c κs = search needs
+
+loop-holds : tie.Need-loop-holds Inv-loop μ-loop
+loop-holds c = (omega arith, omega arith, search needs, sn-none _ _ _)
+
+array-read-if1 : tie.Need-array-read-if1 Inv-loop μ-loop
+array-read-if1 c = search needs
+
+push-requires : tie.Need-push-requires Inv-loop μ-loop
+push-requires c κs = search needs
+
+add-i : tie.Need-add-i Inv-loop μ-loop
+add-i c = search needs
+
+loop-less : tie.Need-loop-less Inv-loop μ-loop
+loop-less c = search needs
+
+loop-again : tie.Need-loop-again Inv-loop μ-loop
+loop-again c = (omega arith, omega arith, search needs, search sn-here)
+
+add-i-2 : tie.Need-add-i-2 Inv-loop μ-loop
+add-i-2 c = search needs
+
+loop-less-2 : tie.Need-loop-less-2 Inv-loop μ-loop
+loop-less-2 c = search needs
+
+loop-again-2 : tie.Need-loop-again-2 Inv-loop μ-loop
+loop-again-2 c = (omega arith, omega arith, search needs, search sn-other)
+
+returns : tie.Need-returns Inv-loop μ-loop
+returns c = search sn-all
+
+pub add-sn-spec : {M : Type 1} → statement M
+add-sn-spec =
+    tie.close
+    (tie.spec
+    Inv-loop
+    μ-loop
+    in-places-requires
+    loop-holds
+    array-read-if1
+    push-requires
+    add-i
+    loop-less
+    loop-again
+    add-i-2
+    loop-less-2
+    loop-again-2
+    returns)

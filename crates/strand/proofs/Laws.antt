@@ -1,0 +1,77 @@
+-- Laws of a chain that is laid down.
+-- Assumes nothing.
+use Prim.Native.Nat.{ℕ, suc, _+_, _<_, _≤_, _^_}
+use native.Mathlib.Omega.{arith}
+use mathlib.Core.Path.{_≡_, refl, ap, _∙_}
+use mathlib.Core.Bool.{Bool}
+use mathlib.Core.List.{List, [], _∷_, _++_}
+use lib.ListN.{length, length-append}
+use Rattle.emit.specs.Text.{Written}
+use Rattle.emit.proofs.Laws.{written-nil, written-append, written-length}
+use Rattle.chain.specs.declared.Role.{Role}
+use Rattle.chain.specs.declared.Role.the-variants.{Slot, Acyl, Base}
+use Rattle.chain.specs.Drawing.{carbonAtoms}
+use Rattle.drawable.specs.declared.Drawn.{Drawn}
+use Rattle.drawable.specs.Drawn.{Says, ringCount, floatCount}
+use Rattle.branches.specs.Text.{RowsPut}
+use Rattle.fragment.specs.Segment.{Segment}
+use Rattle.atoms.specs.declared.ChainAtoms.{ChainAtoms}
+use Rattle.atoms.specs.Atoms.{Counts, indices, AtomsOf}
+use Rattle.atoms.specs.Sum.{sumOf}
+use Rattle.template.specs.Request.{headCarbons}
+use Rattle.strand.specs.Strand.{headCount, Indexed, rooms, StrandOf, FiguresOf}
+
+-- ---- the template's carbons
+
+pub base-heads : {xs ys zs : List ℕ} {at p q : ℕ} → length xs < 2 ^ 64 → Written xs at (1 ∷ []) ys p → Written ys p (0 ∷ []) zs q → Written xs at (1 ∷ 0 ∷ []) zs q
+base-heads g u w = written-append g u w
+
+module _ (r : Role) where
+  pub heads-slot : (xs : List ℕ) (at : ℕ) → at < 2 ^ 64 → r ≡ Slot → Written xs at (headCarbons r) xs at
+  heads-slot xs at h e = rw e (written-nil xs at h)
+
+  pub heads-acyl : (xs : List ℕ) (at : ℕ) → at < 2 ^ 64 → r ≡ Acyl → Written xs at (headCarbons r) xs at
+  heads-acyl xs at h e = rw e (written-nil xs at h)
+
+  pub heads-base : {xs ys : List ℕ} {at p : ℕ} → r ≡ Base → Written xs at (1 ∷ 0 ∷ []) ys p → Written xs at (headCarbons r) ys p
+  heads-base e w = rw e w
+
+-- ---- the indices
+
+indices-length : (n : ℕ) (l : List ℕ) → length (indices n l) ≡ length l
+indices-length n [] = refl
+indices-length n (i ∷ l) = ap suc (indices-length n l)
+
+pub indexed : {ρ : Role} {first at p h : ℕ} {x : Drawn} {xs ys zs : List ℕ} {n : ChainAtoms} → length xs < 2 ^ 64 → Counts 2 (headCount ρ) h → Written xs at (headCarbons ρ) ys p
+    → AtomsOf first x ys p zs n
+    → Indexed ρ first x xs at zs (record { at = n .at; count = h + n .count; flexible = n .flexible; floats = n .floats; end = n .end })
+indexed {ρ} {first} g k u w =
+    record {
+      numbers =
+          λ d q s e.
+          let a = w .are ρ d q s e in
+          record {
+            written = written-append g u (w .written ρ d q s e);
+            counted = omega (arith, k .is, a .count, length-append (headCarbons ρ) (indices first (carbonAtoms ρ d 0)), indices-length first (carbonAtoms ρ d 0));
+            flexes = a .flexible;
+            floating = a .floats;
+            ends = a .end;
+          };
+      size = w .size ∙ written-length u;
+    }
+
+-- ---- the chain
+
+pub strand-laid : {ρ : Role} {first l at used row : ℕ} {x : Drawn} {xs ys zs xs′ ys′ zs′ : List ℕ} {p q : ℕ} {n : ChainAtoms}
+    → Segment x l xs at xs′ p → Indexed ρ first x ys used ys′ n → RowsPut x zs row zs′ q
+    → StrandOf ρ first l x (rooms xs ys zs) at used row (rooms xs′ ys′ zs′) (record { at = p; used = n .at; rows = q; count = n .count; flexible = n .flexible; floats = n .floats; end = n .end })
+strand-laid {ρ} s i r =
+    record {
+      laid = λ d k h. record { text = s .text ρ d (k .draws) (k .readable) h; numbers = i .numbers d (k .draws) (k .readable) (k .drawn); rows = r .rows ρ d (k .draws) };
+      sizes = record { text = s .size; index = i .size; rows = r .size };
+    }
+
+pub figures-are : {x : Drawn} {t f r : ℕ} → Says x t sumOf → Says x f floatCount → Says x r ringCount
+    → FiguresOf x (record { acyl = x .acyl; unlocated = x .unlocated; total = t; «float_count» = f; rings = r })
+figures-are s f r =
+    record { are = λ ρ d w. record { acyl = w .acyl; unlocated = w .unlocated; total = s .is ρ d w; floats = f .is ρ d w; rings = r .is ρ d w } }

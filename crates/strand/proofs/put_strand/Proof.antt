@@ -1,0 +1,41 @@
+use borrow.Author.Needs.{needs}
+use Rattle.strand.proofs.Laws.{strand-laid}
+use Rattle.strand.proofs.put_strand.Statement.{statement}
+use Rattle.strand.proofs.put_strand.Tie as tie
+
+chain-tokens-requires : tie.Need-chain-tokens-requires
+chain-tokens-requires c κs = search needs
+
+build-chain-segment-requires : tie.Need-build-chain-segment-requires
+build-chain-segment-requires c κs = search needs
+
+put-indices-requires : tie.Need-put-indices-requires
+put-indices-requires c κs = search needs
+
+put-rows-requires : tie.Need-put-rows-requires
+put-rows-requires c κs = search needs
+
+same-length : tie.Need-same-length
+same-length c = search needs
+
+same-length-2 : tie.Need-same-length-2
+same-length-2 c = search needs
+
+same-length-3 : tie.Need-same-length-3
+same-length-3 c = search needs
+
+returns : tie.Need-returns
+returns c = search strand-laid
+
+pub put-strand-spec : {M : Type 1} → statement M
+put-strand-spec =
+    tie.close
+    (tie.spec
+    chain-tokens-requires
+    build-chain-segment-requires
+    put-indices-requires
+    put-rows-requires
+    same-length
+    same-length-2
+    same-length-3
+    returns)

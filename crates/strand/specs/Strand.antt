@@ -1,0 +1,86 @@
+-- What a chain leaves that is laid down at its place. Assumes nothing.
+use Prim.Native.Nat.{ℕ, _≤_}
+use mathlib.Core.Path.{_≡_}
+use mathlib.Core.List.{List, [], _∷_, _++_}
+use lib.ListN.{length}
+use Rattle.emit.specs.Text.{Written}
+use Rattle.record.specs.Chain.{Chain}
+use Rattle.reading.specs.Piece.{show}
+use Rattle.reading.specs.Chain.{chainEnd}
+use Rattle.reading.specs.Template.{chain, itemPieces}
+use Rattle.chain.specs.declared.Role.{Role}
+use Rattle.chain.specs.Features.{isAcyl, floating, drawnCount}
+use Rattle.chain.specs.Drawing.{chainDrawn, carbons, carbonAtoms, flexibleAtom, atomsEnd}
+use Rattle.drawable.specs.declared.Drawn.{Drawn}
+use Rattle.drawable.specs.Drawn.{Draws}
+use Rattle.branches.specs.Text.{rowsIn}
+use Rattle.fragment.specs.Segment.{Readable}
+use Rattle.atoms.specs.declared.ChainAtoms.{ChainAtoms}
+use Rattle.atoms.specs.Atoms.{indices}
+use Rattle.atoms.specs.Sum.{sumOf}
+use Rattle.template.specs.Request.{headCarbons}
+use Rattle.placed.specs.Fragment.{Carries}
+use Rattle.strand.specs.declared.Strand.{Strand}
+use Rattle.strand.specs.declared.Figures.{Figures}
+
+-- ---- the indices
+
+abbrev pub headCount : Role → ℕ
+headCount ρ = length (headCarbons ρ)
+
+-- those of a chain whose first atom is n: the template's carbons, and those that are drawn
+abbrev pub indexesOf : Role → Chain → ℕ → List ℕ
+indexesOf ρ d n = headCarbons ρ ++ indices n (carbonAtoms ρ d 0)
+
+-- the numbers of a chain, counted from its first atom; its indices are written at a place
+pub record Numbers (ρ : Role) (d : Chain) (first : ℕ) (xs : List ℕ) (at : ℕ) (ys : List ℕ) (next count flexible floats end : ℕ) : Type 0 where
+  pub written : Written xs at (indexesOf ρ d first) ys next
+  pub counted : count ≡ length (indexesOf ρ d first)
+  pub flexes : flexible ≡ flexibleAtom ρ d 0
+  pub floating : floats ≡ chainEnd 0 (carbons ρ d)
+  pub ends : end ≡ atomsEnd ρ d 0
+
+-- those of every chain that x draws
+pub record Indexed (ρ : Role) (first : ℕ) (x : Drawn) (xs : List ℕ) (at : ℕ) (ys : List ℕ) (n : ChainAtoms) : Type 0 where
+  pub numbers : (d : Chain) → Draws ρ d x → Readable d → drawnCount ρ d ≤ 256 → Numbers ρ d first xs at ys (n .at) (n .count) (n .flexible) (n .floats) (n .end)
+  pub size : length ys ≡ length xs
+
+-- ---- a chain that is laid down
+
+-- the slices: of the line, of the indices and of the rows
+pub record Rooms : Type 0 where
+  pub text : List ℕ
+  pub index : List ℕ
+  pub rows : List ℕ
+
+abbrev pub rooms : List ℕ → List ℕ → List ℕ → Rooms
+rooms a b c = record { text = a; index = b; rows = c }
+
+pub record Sizes (x y : Rooms) : Type 0 where
+  pub text : length (y .text) ≡ length (x .text)
+  pub index : length (y .index) ≡ length (x .index)
+  pub rows : length (y .rows) ≡ length (x .rows)
+
+-- its text with labels from l on, its indices and the rows of its floating groups, each written at a place
+pub record Laid (ρ : Role) (d : Chain) (first l : ℕ) (xs : Rooms) (at used row : ℕ) (ys : Rooms) (s : Strand) : Type 0 where
+  pub text : Written (xs .text) at (show (itemPieces l (chain (chainDrawn ρ d)))) (ys .text) (s .at)
+  pub numbers : Numbers ρ d first (xs .index) used (ys .index) (s .used) (s .count) (s .flexible) (s .floats) (s .end)
+  pub rows : Written (xs .rows) row (rowsIn (floating d)) (ys .rows) (s .rows)
+
+-- those of every chain that x carries
+pub record StrandOf (ρ : Role) (first l : ℕ) (x : Drawn) (xs : Rooms) (at used row : ℕ) (ys : Rooms) (s : Strand) : Type 0 where
+  pub laid : (d : Chain) → Carries ρ d x → l ≤ 247 → Laid ρ d first l xs at used row ys s
+  pub sizes : Sizes xs ys
+
+-- ---- what is kept beside
+
+pub record FiguresAre (r : Role) (d : Chain) (f : Figures) : Type 0 where
+  pub acyl : f .acyl ≡ isAcyl r (d .prefix)
+  pub unlocated : f .unlocated ≡ d .unlocated
+  pub total : f .total ≡ sumOf r d
+  pub floats : f .«float_count» ≡ length (floating d)
+  pub rings : f .rings ≡ length (d .rings)
+
+-- of every chain that x draws
+pub record FiguresOf (x : Drawn) (f : Figures) : Type 0 where
+  pub are : (r : Role) (d : Chain) → Draws r d x → FiguresAre r d f

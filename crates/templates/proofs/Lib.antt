@@ -1,0 +1,5 @@
+pub mod Built
+pub mod Templates
+pub mod Classes
+pub mod Small
+pub mod Fits

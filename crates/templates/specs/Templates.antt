@@ -1,0 +1,53 @@
+-- What a template leaves in the line and the builder. Assumes nothing.
+use Prim.Native.Nat.{ℕ}
+use mathlib.Core.Path.{_≡_}
+use mathlib.Core.List.{List, map}
+use Rattle.emit.specs.Text.{Written}
+use Rattle.record.specs.Chain.{Chain}
+use Rattle.reading.specs.Piece.{show}
+use Rattle.reading.specs.Template.{templatePieces}
+use Rattle.chain.specs.declared.Role.{Role}
+use Rattle.chain.specs.declared.Role.the-variants.{Slot}
+use Rattle.drawable.specs.declared.Chains.{Chains}
+use Rattle.template.specs.Template.{Element}
+use Rattle.template.specs.Request as request
+use Rattle.template.specs.Request.{allItems, placedFrom, tailPart}
+use Rattle.template.specs.Built.{atomsFrom, variablesFrom, labelsFrom}
+use Rattle.placed.specs.Fragment.{Stood, noted, indexList, rowsOf, gathered}
+use Rattle.strand.specs.Strand.{Rooms, Sizes}
+use Rattle.builder.specs.declared.Builder.{Builder}
+use Rattle.builder.specs.Build.{Counts, Fits}
+
+-- a template of slots alone
+abbrev pub allSlots : ℕ → Role
+allSlots sn = Slot
+
+-- what a template leads to can be kept
+abbrev pub FitsAll : List ℕ → List Chain → List Element → Type 0
+FitsAll t ds es = Fits (atomsFrom t ds 0 es) (variablesFrom ds 0 es) (labelsFrom ds 10 es) (map noted (placedFrom t ds 0 0 es))
+
+-- a text, and the indices and rows of its chains, are written from the first places of the slices on, and the builder then has these numbers
+pub record BuiltBy (ts : List ℕ) (n v l : ℕ) (cs : List request.Placed) (xs ys : Rooms) (b : Builder) : Type 0 where
+  pub text : Written (xs .text) 0 ts (ys .text) (b .at)
+  pub index : Written (xs .index) 0 (gathered indexList cs) (ys .index) (b .used)
+  pub rows : Written (xs .rows) 0 (gathered rowsOf cs) (ys .rows) (b .rows)
+  pub counts : Counts b n v l (map noted cs)
+
+-- some elements of a template
+abbrev pub Built : List ℕ → List Chain → List Element → Rooms → Rooms → Builder → Type 0
+Built t ds es xs ys b = BuiltBy (show (templatePieces 10 (allItems t ds es))) (atomsFrom t ds 0 es) (variablesFrom ds 0 es) (labelsFrom ds 10 es) (placedFrom t ds 0 0 es) xs ys b
+
+-- a template without a tail
+pub record Tailless (es : List Element) (ρ : ℕ → Role) (x : Chains) (xs ys : Rooms) (b : Builder) : Type 0 where
+  pub sizes : Sizes xs ys
+  pub built : (t : List ℕ) (ds : List Chain) → Stood ρ ds x → FitsAll t ds es → Built t ds es xs ys b
+
+-- the tail reads by itself, and has k atoms
+pub record TailOf (t : List ℕ) (k : ℕ) : Type 0 where
+  pub shown : show (tailPart t .pieces) ≡ t
+  pub size : tailPart t .size ≡ k
+
+-- a template with a tail
+pub record Tailed (t : List ℕ) (k : ℕ) (es : List Element) (ρ : ℕ → Role) (x : Chains) (xs ys : Rooms) (b : Builder) : Type 0 where
+  pub sizes : Sizes xs ys
+  pub built : (ds : List Chain) → TailOf t k → Stood ρ ds x → FitsAll t ds es → Built t ds es xs ys b
