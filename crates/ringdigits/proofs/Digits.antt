@@ -1,15 +1,15 @@
 -- Laws of the digits: each way through the code as a case of the definition.
 use Prim.Native.Nat.{ℕ, _+_, _≤_, _<_}
 use native.Mathlib.Numerals.{add-one}
-use native.Mathlib.Omega.{arith}
 use mathlib.Core.Path.{_≡_, sym, _∙_}
 use mathlib.Core.Bool.{true, false}
-use mathlib.Core.List.{List, map}
-use lib.ListN.{length, drop, getD, set, length-map, drop-of-length-le}
+use mathlib.Core.List.{List}
+use lib.ListN.{length, drop, getD, set, drop-of-length-le}
 use lib.Seq.{drop-cons}
 use lib.Dec.{eqb, leb}
 use borrow.Author.Tests.{eq-eqb, ne-eqb, le-leb, lt-leb}
-use Rattle.ringdigits.specs.declared.Rings.{Rings}
+use Rattle.ringdigits.specs.declared.Atoms.{Atoms}
+use Rattle.ringdigits.specs.Digits.{ringsOf}
 use Rattle.ringdigits.specs.Grammar.{bonded, clashes, withDigit, noneOpen}
 use Rattle.reading.specs.Lexer.{within}
 
@@ -23,52 +23,47 @@ pub above-low : (x low high : ℕ) → low ≤ x → leb x high ≡ within low h
 unfolding within
 above-low x low high h = rw (le-leb low x h)
 
--- an array in a struct stands under `map`
-pub length-mapped : {X Y : Type 0} (f : X → Y) (l : List X) (n : ℕ) → length (map f l) ≡ n → length l ≡ n
-length-mapped f l n e = sym (length-map l f) ∙ e
+-- ---- a digit on the current atom
 
-module _ (d : ℕ) (r : Rings) where
-  pub clash-unopened : getD (r .opened) d 0 ≡ 0 → false ≡ clashes d r
+module _ (d : ℕ) (a : Atoms) (opened joined : List ℕ) where
+  pub clash-unopened : getD opened d 0 ≡ 0 → false ≡ clashes d (ringsOf a opened joined)
   unfolding clashes
-  clash-unopened e = rw (eq-eqb (getD (r .opened) d 0) 0 e)
+  clash-unopened e = rw (eq-eqb (getD opened d 0) 0 e)
 
-  pub digit-opens : getD (r .opened) d 0 ≡ 0
-      → record { last = r .last; current = r .current; parent = r .parent; opened = set (r .opened) d (r .current); joined = r .joined } ≡ withDigit d r
+  pub digit-opens : getD opened d 0 ≡ 0 → ringsOf a (set opened d (a .current)) joined ≡ withDigit d (ringsOf a opened joined)
   unfolding withDigit
-  digit-opens e = rw (eq-eqb (getD (r .opened) d 0) 0 e)
+  digit-opens e = rw (eq-eqb (getD opened d 0) 0 e)
 
-  module _ (o : getD (r .opened) d 0 ≡ 0 → ⊥) where
-    pub digit-closes : (i : ℕ) → i ≡ getD (r .opened) d 0
-        → record { last = r .last; current = r .current; parent = r .parent; opened = set (r .opened) d 0; joined = set (r .joined) i (r .current) } ≡ withDigit d r
+  module _ (o : getD opened d 0 ≡ 0 → ⊥) where
+    pub digit-closes : (i : ℕ) → i ≡ getD opened d 0 → ringsOf a (set opened d 0) (set joined i (a .current)) ≡ withDigit d (ringsOf a opened joined)
     unfolding withDigit
-    digit-closes i e = rw (e, ne-eqb (getD (r .opened) d 0) 0 o)
+    digit-closes i e = rw (e, ne-eqb (getD opened d 0) 0 o)
 
-    pub clash-self : getD (r .opened) d 0 ≡ r .current → true ≡ clashes d r
+    pub clash-self : getD opened d 0 ≡ a .current → true ≡ clashes d (ringsOf a opened joined)
     unfolding clashes bonded
-    clash-self e = rw (ne-eqb (getD (r .opened) d 0) 0 o, eq-eqb (getD (r .opened) d 0) (r .current) e)
+    clash-self e = rw (ne-eqb (getD opened d 0) 0 o, eq-eqb (getD opened d 0) (a .current) e)
 
-    module _ (s : getD (r .opened) d 0 ≡ r .current → ⊥) where
-      pub clash-parent : getD (r .opened) d 0 ≡ r .parent → true ≡ clashes d r
+    module _ (s : getD opened d 0 ≡ a .current → ⊥) where
+      pub clash-parent : getD opened d 0 ≡ a .parent → true ≡ clashes d (ringsOf a opened joined)
       unfolding clashes bonded
-      clash-parent e =
-          rw (ne-eqb (getD (r .opened) d 0) 0 o, ne-eqb (getD (r .opened) d 0) (r .current) s, eq-eqb (getD (r .opened) d 0) (r .parent) e)
+      clash-parent e = rw (ne-eqb (getD opened d 0) 0 o, ne-eqb (getD opened d 0) (a .current) s, eq-eqb (getD opened d 0) (a .parent) e)
 
-      pub clash-joined : (i : ℕ) → (getD (r .opened) d 0 ≡ r .parent → ⊥) → i ≡ getD (r .opened) d 0 → eqb (getD (r .joined) i 0) (r .current) ≡ clashes d r
+      pub clash-joined : (i : ℕ) → (getD opened d 0 ≡ a .parent → ⊥) → i ≡ getD opened d 0
+          → eqb (getD joined i 0) (a .current) ≡ clashes d (ringsOf a opened joined)
       unfolding clashes bonded
-      clash-joined i p e =
-          rw (e, ne-eqb (getD (r .opened) d 0) 0 o, ne-eqb (getD (r .opened) d 0) (r .current) s, ne-eqb (getD (r .opened) d 0) (r .parent) p)
+      clash-joined i p e = rw (e, ne-eqb (getD opened d 0) 0 o, ne-eqb (getD opened d 0) (a .current) s, ne-eqb (getD opened d 0) (a .parent) p)
 
 -- ---- no digit is open
 
-module _ (bs : List ℕ) (i : ℕ) (v : noneOpen bs ≡ noneOpen (drop i bs)) (l : length bs ≡ 10) where
-  pub one-open : i < 10 → (getD bs i 0 ≡ 0 → ⊥) → false ≡ noneOpen bs
+module _ (bs : List ℕ) (i : ℕ) (v : noneOpen bs ≡ noneOpen (drop i bs)) where
+  pub one-open : i < length bs → (getD bs i 0 ≡ 0 → ⊥) → false ≡ noneOpen bs
   unfolding noneOpen
-  one-open h e = sym (v ∙ rw (drop-cons bs i 0 (omega arith), ne-eqb (getD bs i 0) 0 e))
+  one-open h e = sym (v ∙ rw (drop-cons bs i 0 h, ne-eqb (getD bs i 0) 0 e))
 
-  pub not-open : i < 10 → getD bs i 0 ≡ 0 → noneOpen bs ≡ noneOpen (drop (i + 1) bs)
+  pub not-open : i < length bs → getD bs i 0 ≡ 0 → noneOpen bs ≡ noneOpen (drop (i + 1) bs)
   unfolding noneOpen
-  not-open h e = v ∙ rw (add-one i, drop-cons bs i 0 (omega arith), eq-eqb (getD bs i 0) 0 e)
+  not-open h e = v ∙ rw (add-one i, drop-cons bs i 0 h, eq-eqb (getD bs i 0) 0 e)
 
-  pub all-shut : 10 ≤ i → true ≡ noneOpen bs
+  pub all-shut : length bs ≤ i → true ≡ noneOpen bs
   unfolding noneOpen
-  all-shut h = sym (v ∙ rw (drop-of-length-le bs {i = i} (omega arith)))
+  all-shut h = sym (v ∙ rw (drop-of-length-le bs {i = i} h))

@@ -11,8 +11,7 @@ use lib.Dec.{eqb}
 use borrow.Author.Tests.{not-true, not-false}
 use Rattle.reading.specs.Lexer.{within}
 use Rattle.reading.proofs.ShowLex.{within-both}
-use Rattle.ringdigits.specs.declared.Rings.{Rings}
-use Rattle.ringdigits.specs.Grammar.{clashes, withDigit, State, wrong, stands, whole, closed, digitOr, step, done, scan}
+use Rattle.ringdigits.specs.Grammar.{Rings, clashes, withDigit, State, wrong, stands, whole, closed, digitOr, step, done, scan}
 use Rattle.ringdigits.specs.Digits.{Digits, IsDigit, PastDigits}
 
 -- ---- one byte and no byte
@@ -54,7 +53,7 @@ pub record InDigits (s : List ℕ) (at : ℕ) (q₀ : Rings) (i : ℕ) (q : Ring
   pub within : i ≤ length s
   pub few : q .last ≤ i
 
-pub digits-first : (s : List ℕ) (at : ℕ) (q : Rings) → Digits s at q → InDigits s at q at q
+pub digits-first : (s : List ℕ) (at : ℕ) (q : Rings) → Digits s at (q .last) → InDigits s at q at q
 digits-first s at q h = record { same = λ stk. refl; least = omega arith; within = h .within; few = h .few }
 
 pub a-digit : (x : ℕ) (a : Bool) → a ≡ within 49 57 x → not a ≡ false → IsDigit x

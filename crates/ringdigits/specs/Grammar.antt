@@ -9,12 +9,18 @@ use mathlib.Core.Bool.{Bool, true, false, not, cond, _||_, _&&_}
 use mathlib.Core.List.{List, [], _∷_}
 use lib.ListN.{length, getD, set, replicate}
 use lib.Dec.{eqb, ltb}
-use Rattle.ringdigits.specs.declared.Rings.{Rings}
 use Rattle.reading.specs.Lexer.{memb, within, organic, marks, bracketed, pairs}
 
 -- ---- the atoms and digits so far
+
 -- `Rings` counts the atoms of the tail from 1, atom 0 being the one that the tail hangs on. It has the last atom; the current one; the one
--- that this joined; by digit the atom on which it is open, 0 for none; and by atom the last one that a digit joined to it.
+-- that this joined; by digit the atom on which it is open, 0 for none; and by atom the last one that a digit joined to it
+pub record Rings : Type 0 where
+  pub last : ℕ
+  pub current : ℕ
+  pub parent : ℕ
+  pub opened : List ℕ
+  pub joined : List ℕ
 
 abbrev pub noRings : Rings
 noRings = record { last = 0; current = 0; parent = 0; opened = replicate 10 0; joined = replicate 256 0 }

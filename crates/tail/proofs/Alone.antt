@@ -22,10 +22,9 @@ use Rattle.reading.proofs.OpenLabels.{lookup-same, lookup-other, lookup-removed
 use Rattle.reading.proofs.Frame.{EachOf, EachLabel, each-label-append}
 use Rattle.reading.proofs.LexShow.{feed-digit, feed-inside, feed-bracket-end, feed-ended, feed-second, begin-mark, true-T, or-both}
 use Rattle.reading.proofs.ShowLex.{within-both, and-both}
-use Rattle.ringdigits.specs.declared.Rings.{Rings}
 use Rattle.tailatom.proofs.Bytes.{or-false}
 use Rattle.ringdigits.proofs.Scan.{digit-last, scan-wrong}
-use Rattle.ringdigits.specs.Grammar.{noRings, withAtom, bonded, clashes, withDigit, noneOpen, State, wrong, stands, opening, afterBond, whole, closed, letter, inside, atomBegins, bondOrAtom, branchCloses, branchOpens, goesOn, digitOr, bracketOn, step, finished, done, scan, tailAtoms, isTail}
+use Rattle.ringdigits.specs.Grammar.{Rings, noRings, withAtom, bonded, clashes, withDigit, noneOpen, State, wrong, stands, opening, afterBond, whole, closed, letter, inside, atomBegins, bondOrAtom, branchCloses, branchOpens, goesOn, digitOr, bracketOn, step, finished, done, scan, tailAtoms, isTail}
 
 -- ---- the same atoms and digits
 

@@ -19,8 +19,7 @@ use Rattle.reading.proofs.Frame.{EachOf, EachLabel, each-label-split}
 use Rattle.reading.proofs.LexShow.{onFed-ended, lex-show}
 use Rattle.reading.proofs.ShowLex.{within-both}
 use Rattle.reading.proofs.Part.{none≢some, PartFrom, part-from}
-use Rattle.ringdigits.specs.declared.Rings.{Rings}
-use Rattle.ringdigits.specs.Grammar.{noRings, withAtom, bonded, clashes, withDigit, noneOpen, Place, State, wrong, stands, opening, whole, inside, atomBegins, bondOrAtom, branchCloses, branchOpens, goesOn, digitOr, bracketOn, step, finished, done, scan, tailAtoms, isTail}
+use Rattle.ringdigits.specs.Grammar.{Rings, noRings, withAtom, bonded, clashes, withDigit, noneOpen, Place, State, wrong, stands, opening, whole, inside, atomBegins, bondOrAtom, branchCloses, branchOpens, goesOn, digitOr, bracketOn, step, finished, done, scan, tailAtoms, isTail}
 use Rattle.tail.proofs.Alone.{openOn, Like, Pending, Sim, at-opening, at-bond, at-closed, at-letter, at-whole, at-inside, lastOf, Takes, May, takes, like-start, second-labels, false≢true, Plain, deep, TailPart}
 
 -- ---- what a tail's pieces are

@@ -8,19 +8,29 @@ use lib.ListN.{length, drop, getD}
 use lib.Dec.{eqb}
 use borrow.Author.Tests.{lt-ltb, le-ltb, eq-eqb, ne-eqb, le-leb, lt-leb, not-true, not-false}
 use Rattle.reading.specs.Lexer.{within}
-use Rattle.ringdigits.specs.declared.Rings.{Rings}
+use Rattle.ringdigits.specs.declared.Ran.{Ran}
 use Rattle.tailatom.specs.declared.Found.{Found}
 use Rattle.tailatom.specs.declared.Found.the-variants.{Next, Nothing}
-use Rattle.ringdigits.specs.declared.Ran.{Ran}
-use Rattle.ringdigits.specs.Grammar.{noRings, withAtom, backTo, noneOpen, stands, opening, whole, closed, branchCloses, branchOpens, goesOn, step, finished, done, scan, tailAtoms, isTail}
+use Rattle.ringdigits.specs.Grammar.{Rings, noRings, withAtom, backTo, noneOpen, stands, opening, whole, closed, branchCloses, branchOpens, goesOn, step, finished, done, scan, tailAtoms, isTail}
 use Rattle.tail.specs.Contract.{Room, AtomRead, RunRead}
-use Rattle.ringdigits.specs.Digits.{Digits, resumed, Bounds, PastDigits}
+use Rattle.ringdigits.specs.Digits.{ringsOf, Outcome, outcomeOf, Digits, resumed, Bounds, PastDigits}
 use Rattle.tailatom.specs.Atom.{PastBond, PastAtom}
 use Rattle.ringdigits.proofs.Scan.{scan-at, scan-end, wrong-at, same-at}
 
 -- ---- an atom with its digits
 
-module _ (s : List ℕ) (at : ℕ) (q : Rings) (room : Room s at q) (from : ℕ) (b : PastBond s at from) (f : Found) (a : PastAtom s from f) where
+module _ (s : List ℕ) (from : ℕ) (f : Found) (a : PastAtom s from f) (p : ℕ) (e : f ≡ Next p) where
+  bounds-of : (from < p) × (p ≤ length s)
+  bounds-of = rw e at (a .passed)
+
+  module _ (at last : ℕ) (room : Room s at last) (b : PastBond s at from) where
+    pub atom-fits : last + 1 < 256
+    atom-fits = omega (arith, bounds-of .0, bounds-of .1, room .few, room .short, b .least)
+
+    pub digits-fit : Digits s p (last + 1)
+    digits-fit = record { within = bounds-of .1; few = omega (arith, bounds-of .0, room .few, b .least) }
+
+module _ (s : List ℕ) (at : ℕ) (q : Rings) (room : Room s at (q .last)) (from : ℕ) (b : PastBond s at from) (f : Found) (a : PastAtom s from f) where
   pub atom-missing : f ≡ Nothing → AtomRead s at q (record { ok = false; next = at; rings = q })
   atom-missing e =
       record {
@@ -29,48 +39,34 @@ module _ (s : List ℕ) (at : ℕ) (q : Rings) (room : Room s at q) (from : ℕ)
         bounds = record { within = room .within; few = room .few };
       }
 
-  module _ (p : ℕ) (e : f ≡ Next p) where
-    bounds-of : (from < p) × (p ≤ length s)
-    bounds-of = rw e at (a .passed)
-
-    pub atom-fits : q .last < 255
-    atom-fits = omega (arith, bounds-of .0, bounds-of .1, room .few, room .short, b .least)
-
-    module _ (m : Rings) (w : m ≡ withAtom q) where
-      pub digits-fit : Digits s p m
-      digits-fit = record { within = bounds-of .1; few = omega (arith, bounds-of .0, ap (λ (z : Rings). z .last) w, room .few, b .least) }
-
-      pub atom-read : (r : Ran) → PastDigits s p m r → AtomRead s at q r
-      atom-read r d =
-          record {
-            same = λ stk. b .same stk q ∙ ((rw e at (a .same stk q)) ∙ (ap (λ (z : Rings). scan (stands whole stk z) (drop p s)) (sym w) ∙ d .same stk));
-            moves = λ z. omega (arith, bounds-of .0, b .least, d .least);
-            bounds = d .bounds;
-          }
+  pub atom-read : (p : ℕ) (e : f ≡ Next p) (r : Outcome) → PastDigits s p (withAtom q) r → AtomRead s at q r
+  atom-read p e r d =
+      record {
+        same = λ stk. b .same stk q ∙ ((rw e at (a .same stk q)) ∙ d .same stk);
+        moves = λ z. omega (arith, bounds-of s from f a p e .0, b .least, d .least);
+        bounds = d .bounds;
+      }
 
 -- ---- a run
 
 -- the loop's invariant: the first atom came to r₀, and what was read so far to r
-pub record InRun (s : List ℕ) (at depth : ℕ) (r₀ r : Ran) : Type 0 where
+pub record InRun (s : List ℕ) (at depth : ℕ) (r₀ r : Outcome) : Type 0 where
   pub same : (stk : List ℕ) → length stk + depth ≡ 16 → resumed s stk r₀ ≡ resumed s stk r
   pub moves : r .ok ≡ true → at < r .next
   pub bounds : Bounds s r
 
-pub run-first : (s : List ℕ) (at depth : ℕ) (q : Rings) (r : Ran) → AtomRead s at q r → InRun s at depth r r
+pub run-first : (s : List ℕ) (at depth : ℕ) (q : Rings) (r : Outcome) → AtomRead s at q r → InRun s at depth r r
 run-first s at depth q r d = record { same = λ stk h. refl; moves = d .moves; bounds = d .bounds }
 
 -- what is left to be read, and whether anything is
-abbrev pub left : List ℕ → Ran → ℕ
-left s r = cond (r .ok) (suc (length s - r .next)) 0
+abbrev pub left : List ℕ → Bool → ℕ → ℕ
+left s ok next = cond ok (suc (length s - next)) 0
 
-left-less : (s : List ℕ) (r : Ran) (i : ℕ) → i ≤ length s → (r .ok ≡ true → i < r .next) → r .next ≤ length s → left s r < suc (length s - i)
-left-less s r i h g w = go (r .ok) g
-  where
-    go : (b : Bool) → (b ≡ true → i < r .next) → cond b (suc (length s - r .next)) 0 < suc (length s - i)
-    go true g′ = omega (arith, g′ refl)
-    go false g′ = omega arith
+left-less : (s : List ℕ) (ok : Bool) (next i : ℕ) → i ≤ length s → (ok ≡ true → i < next) → next ≤ length s → left s ok next < suc (length s - i)
+left-less s true next i h g w = omega (arith, g refl)
+left-less s false next i h g w = omega arith
 
-module _ (s : List ℕ) (at depth : ℕ) (q : Rings) (r₀ r : Ran) (d₀ : AtomRead s at q r₀) (v : InRun s at depth r₀ r) where
+module _ (s : List ℕ) (at depth : ℕ) (q : Rings) (r₀ r : Outcome) (d₀ : AtomRead s at q r₀) (v : InRun s at depth r₀ r) where
   so-far : (stk : List ℕ) → length stk + depth ≡ 16 → scan (stands opening stk q) (drop at s) ≡ resumed s stk r
   so-far stk h = d₀ .same stk ∙ v .same stk h
 
@@ -89,96 +85,99 @@ module _ (s : List ℕ) (at depth : ℕ) (q : Rings) (r₀ r : Ran) (d₀ : Atom
   pub run-closes : getD s (r .next) 0 ≡ 41 → RunRead s at depth q r
   run-closes e = record { same = so-far; moves = v .moves; stops = λ f h. e; bounds = v .bounds }
 
-  module _ (room : Room s at q) (e : r .ok ≡ true) (n : r .next ≡ length s → ⊥) where
-    inside-text : r .next < length s
-    inside-text = omega (arith, v .bounds .within)
+-- The run goes on. What was read so far is taken apart as the code has it, into its answer and the two arrays
+module _ (s : List ℕ) (at depth : ℕ) (r : Ran) (o j : List ℕ) (r₀ : Outcome) (v : InRun s at depth r₀ (outcomeOf r o j)) (e : r .ok ≡ true) (n : r .next ≡ length s → ⊥) where
+  inside-text : r .next < length s
+  inside-text = omega (arith, v .bounds .within)
 
-    pub room-next : Room s (r .next) (r .rings)
-    room-next = record { within = v .bounds .within; short = room .short; few = v .bounds .few }
+  pub room-next : length s ≤ 255 → Room s (r .next) (r .atoms .last)
+  room-next h = record { within = v .bounds .within; short = h; few = v .bounds .few }
 
-    pub room-inner : Room s (r .next + 1) (r .rings)
-    room-inner = record { within = omega (arith, inside-text); short = room .short; few = omega (arith, v .bounds .few) }
+  pub room-inner : length s ≤ 255 → Room s (r .next + 1) (r .atoms .last)
+  room-inner h = record { within = omega (arith, inside-text); short = h; few = omega (arith, v .bounds .few) }
 
-    going : (stk : List ℕ) → length stk + depth ≡ 16 → resumed s stk r₀ ≡ scan (stands closed stk (r .rings)) (drop (r .next) s)
-    going stk h = v .same stk h ∙ rw e
+  going : (stk : List ℕ) → length stk + depth ≡ 16 → resumed s stk r₀ ≡ scan (stands closed stk (ringsOf (r .atoms) o j)) (drop (r .next) s)
+  going stk h = v .same stk h ∙ rw e
 
-    module _ (m : getD s (r .next) 0 ≡ 41 → ⊥) where
-      pub run-atom : (r′ : Ran) → (getD s (r .next) 0 ≡ 40 → ⊥) → AtomRead s (r .next) (r .rings) r′ → InRun s at depth r₀ r′
-      unfolding step goesOn
-      run-atom r′ o d =
+  module _ (m : getD s (r .next) 0 ≡ 41 → ⊥) where
+    pub run-atom : (r′ : Outcome) → (getD s (r .next) 0 ≡ 40 → ⊥) → AtomRead s (r .next) (ringsOf (r .atoms) o j) r′ → InRun s at depth r₀ r′
+    unfolding step goesOn
+    run-atom r′ b d =
+        record {
+          same = λ stk h. going stk h
+              ∙ (same-at (stands closed stk (ringsOf (r .atoms) o j)) (stands opening stk (ringsOf (r .atoms) o j)) s (r .next) inside-text
+              (rw (ne-eqb (getD s (r .next) 0) 41 m, ne-eqb (getD s (r .next) 0) 40 b))
+              ∙ d .same stk);
+          moves = λ f. omega (arith, v .moves e, d .moves f);
+          bounds = d .bounds;
+        }
+
+    pub less-atom : (r′ : Ran) (o′ j′ : List ℕ) → AtomRead s (r .next) (ringsOf (r .atoms) o j) (outcomeOf r′ o′ j′) → left s (r′ .ok) (r′ .next) < left s (r .ok) (r .next)
+    less-atom r′ o′ j′ d = rw e (left-less s (r′ .ok) (r′ .next) (r .next) (v .bounds .within) (d .moves) (d .bounds .within))
+
+    module _ (b : getD s (r .next) 0 ≡ 40) where
+      pub too-deep : (q : Rings) → depth ≡ 0 → AtomRead s at q r₀ → RunRead s at depth q (record { ok = false; next = r .next; rings = ringsOf (r .atoms) o j })
+      unfolding step goesOn branchOpens
+      too-deep q z d₀ =
           record {
-            same = λ stk h. going stk h
-                ∙ (same-at (stands closed stk (r .rings)) (stands opening stk (r .rings)) s (r .next) inside-text
-                (rw (ne-eqb (getD s (r .next) 0) 41 m, ne-eqb (getD s (r .next) 0) 40 o))
-                ∙ d .same stk);
-            moves = λ f. omega (arith, v .moves e, d .moves f);
-            bounds = d .bounds;
+            same = λ stk h. d₀ .same stk ∙ going stk h
+                ∙ wrong-at (stands closed stk (ringsOf (r .atoms) o j)) s (r .next) inside-text
+                (rw (ne-eqb (getD s (r .next) 0) 41 m, eq-eqb (getD s (r .next) 0) 40 b, le-ltb (length stk) 16 (omega arith)));
+            moves = λ f. let y : _≡_ {A = ℕ} 0 1 = cc in absurd (omega arith);
+            stops = λ f. let y : _≡_ {A = ℕ} 0 1 = cc in absurd (omega arith);
+            bounds = record { within = v .bounds .within; few = v .bounds .few };
           }
 
-      pub less-atom : (r′ : Ran) → AtomRead s (r .next) (r .rings) r′ → left s r′ < left s r
-      less-atom r′ d = rw e (left-less s r′ (r .next) (v .bounds .within) (d .moves) (d .bounds .within))
-
-      module _ (o : getD s (r .next) 0 ≡ 40) where
-        pub too-deep : depth ≡ 0 → RunRead s at depth q (record { ok = false; next = r .next; rings = r .rings })
+      -- the run in the branch, and what it leaves
+      module _ (z : depth ≡ 0 → ⊥) (i : Ran) (o′ j′ : List ℕ) (d : RunRead s (r .next + 1) (depth - 1) (ringsOf (r .atoms) o j) (outcomeOf i o′ j′)) where
+        into : (stk : List ℕ) → length stk + depth ≡ 16 → resumed s stk r₀ ≡ resumed s (r .atoms .current ∷ stk) (outcomeOf i o′ j′)
         unfolding step goesOn branchOpens
-        too-deep z =
+        into stk h =
+            going stk h
+            ∙ (scan-at (stands closed stk (ringsOf (r .atoms) o j)) s (r .next) inside-text
+            ∙ (rw (ne-eqb (getD s (r .next) 0) 41 m, eq-eqb (getD s (r .next) 0) 40 b, lt-ltb (length stk) 16 (omega arith))
+            (d .same (r .atoms .current ∷ stk) (omega arith))))
+
+        pub branch-cut : (q : Rings) → i .next ≡ length s → AtomRead s at q r₀
+            → RunRead s at depth q (record { ok = false; next = i .next; rings = ringsOf (i .atoms) o′ j′ })
+        unfolding done finished
+        branch-cut q w d₀ =
             record {
-              same = λ stk h. d₀ .same stk ∙ going stk h
-                  ∙ wrong-at (stands closed stk (r .rings)) s (r .next) inside-text
-                  (rw (ne-eqb (getD s (r .next) 0) 41 m, eq-eqb (getD s (r .next) 0) 40 o, le-ltb (length stk) 16 (omega arith)));
+              same = λ stk h. d₀ .same stk ∙ into stk h
+                  ∙ rw (scan-end (stands closed (r .atoms .current ∷ stk) (ringsOf (i .atoms) o′ j′)) s (i .next) w) (never (i .ok));
               moves = λ f. let y : _≡_ {A = ℕ} 0 1 = cc in absurd (omega arith);
               stops = λ f. let y : _≡_ {A = ℕ} 0 1 = cc in absurd (omega arith);
-              bounds = record { within = v .bounds .within; few = v .bounds .few };
+              bounds = record { within = d .bounds .within; few = d .bounds .few };
             }
+          where
+            never : (b : Bool) → _≡_ {A = ℕ} (cond b 0 0) 0
+            never true = refl
+            never false = refl
 
-        module _ (z : depth ≡ 0 → ⊥) (i : Ran) (d : RunRead s (r .next + 1) (depth - 1) (r .rings) i) where
-          into : (stk : List ℕ) → length stk + depth ≡ 16 → resumed s stk r₀ ≡ resumed s (r .rings .current ∷ stk) i
-          unfolding step goesOn branchOpens
-          into stk h =
-              going stk h
-              ∙ (scan-at (stands closed stk (r .rings)) s (r .next) inside-text
-              ∙ (rw (ne-eqb (getD s (r .next) 0) 41 m, eq-eqb (getD s (r .next) 0) 40 o, lt-ltb (length stk) 16 (omega arith))
-              (d .same (r .rings .current ∷ stk) (omega arith))))
+        module _ (w : i .next ≡ length s → ⊥) where
+          inner-inside : i .next < length s
+          inner-inside = omega (arith, d .bounds .within)
 
-          pub branch-cut : i .next ≡ length s → RunRead s at depth q (record { ok = false; next = i .next; rings = r .rings })
-          unfolding done finished
-          branch-cut w =
+          pub branch-done : InRun s at depth r₀ (record { ok = i .ok; next = i .next + 1; rings = backTo (r .atoms .current) (ringsOf (i .atoms) o′ j′) })
+          unfolding step goesOn branchCloses
+          branch-done =
               record {
-                same = λ stk h. d₀ .same stk ∙ into stk h ∙ rw (scan-end (stands closed (r .rings .current ∷ stk) (i .rings)) s (i .next) w) (never (i .ok));
-                moves = λ f. let y : _≡_ {A = ℕ} 0 1 = cc in absurd (omega arith);
-                stops = λ f. let y : _≡_ {A = ℕ} 0 1 = cc in absurd (omega arith);
-                bounds = record { within = d .bounds .within; few = omega (arith, v .bounds .few, v .bounds .within) };
+                same = λ stk h. into stk h ∙ out stk (i .ok) (d .stops);
+                moves = λ f. omega (arith, v .moves e, d .moves f);
+                bounds = record { within = omega (arith, inner-inside); few = omega (arith, d .bounds .few) };
               }
             where
-              never : (b : Bool) → _≡_ {A = ℕ} (cond b 0 0) 0
-              never true = refl
-              never false = refl
+              out : (stk : List ℕ) (b : Bool) → (b ≡ true → i .next < length s → getD s (i .next) 0 ≡ 41)
+                  → cond b (scan (stands closed (r .atoms .current ∷ stk) (ringsOf (i .atoms) o′ j′)) (drop (i .next) s)) 0
+                  ≡ cond b (scan (stands closed stk (backTo (r .atoms .current) (ringsOf (i .atoms) o′ j′))) (drop (i .next + 1) s)) 0
+              out stk true g =
+                  scan-at (stands closed (r .atoms .current ∷ stk) (ringsOf (i .atoms) o′ j′)) s (i .next) inner-inside
+                  ∙ rw (eq-eqb (getD s (i .next) 0) 41 (g refl inner-inside))
+              out stk false g = refl
 
-          module _ (w : i .next ≡ length s → ⊥) (k : Rings) (x : k ≡ backTo (r .rings .current) (i .rings)) where
-            inner-inside : i .next < length s
-            inner-inside = omega (arith, d .bounds .within)
-
-            pub branch-done : InRun s at depth r₀ (record { ok = i .ok; next = i .next + 1; rings = k })
-            unfolding step goesOn branchCloses
-            branch-done =
-                record {
-                  same = λ stk h. into stk h ∙ out stk (i .ok) (d .stops);
-                  moves = λ f. omega (arith, v .moves e, d .moves f);
-                  bounds = record { within = omega (arith, inner-inside); few = omega (arith, ap (λ (y : Rings). y .last) x, d .bounds .few) };
-                }
-              where
-                out : (stk : List ℕ) (b : Bool) → (b ≡ true → i .next < length s → getD s (i .next) 0 ≡ 41)
-                    → cond b (scan (stands closed (r .rings .current ∷ stk) (i .rings)) (drop (i .next) s)) 0 ≡ cond b (scan (stands closed stk k) (drop (i .next + 1) s)) 0
-                out stk true g =
-                    scan-at (stands closed (r .rings .current ∷ stk) (i .rings)) s (i .next) inner-inside
-                    ∙ rw (eq-eqb (getD s (i .next) 0) 41 (g refl inner-inside), x)
-                out stk false g = refl
-
-            pub less-branch : left s (record { ok = i .ok; next = i .next + 1; rings = k }) < left s r
-            less-branch =
-                rw e
-                (left-less s (record { ok = i .ok; next = i .next + 1; rings = k }) (r .next) (v .bounds .within)
-                (λ f. omega (arith, d .moves f)) (omega (arith, inner-inside)))
+          pub less-branch : left s (i .ok) (i .next + 1) < left s (r .ok) (r .next)
+          less-branch =
+              rw e (left-less s (i .ok) (i .next + 1) (r .next) (v .bounds .within) (λ f. omega (arith, d .moves f)) (omega (arith, inner-inside)))
 
 -- ---- the whole tail
 
@@ -195,16 +194,14 @@ module _ (s : List ℕ) (h : length s ≡ 0 → ⊥) where
   unfolding tailAtoms within
   tail-long g = rw (le-leb 1 (length s) (omega arith), lt-leb (length s) 255 g)
 
-  module _ (g : length s ≤ 255) (q : Rings) (e : q ≡ noRings) where
-    pub room-first : Room s 0 q
-    room-first = record { within = omega arith; short = g; few = omega (arith, ap (λ (z : Rings). z .last) e) }
+  module _ (g : length s ≤ 255) where
+    pub room-first : Room s 0 0
+    room-first = record { within = omega arith; short = g; few = omega arith }
 
-    module _ (r : Ran) (d : RunRead s 0 16 q r) where
-      starts : tailAtoms s ≡ resumed s [] r
+    module _ (r : Ran) (o j : List ℕ) (d : RunRead s 0 16 noRings (outcomeOf r o j)) where
+      starts : tailAtoms s ≡ resumed s [] (outcomeOf r o j)
       unfolding tailAtoms within
-      starts =
-          rw (le-leb 1 (length s) (omega arith), le-leb (length s) 255 g)
-          (ap (λ (z : Rings). scan (stands opening [] z) s) (sym e) ∙ d .same [] (omega arith))
+      starts = rw (le-leb 1 (length s) (omega arith), le-leb (length s) 255 g) (d .same [] (omega arith))
 
       pub tail-wrong : not (r .ok) ≡ true → 0 ≡ tailAtoms s
       tail-wrong f = sym (starts ∙ rw (not-true (r .ok) f))
@@ -216,16 +213,16 @@ module _ (s : List ℕ) (h : length s ≡ 0 → ⊥) where
             sym
             (starts
             ∙ rw (not-false (r .ok) f)
-            (wrong-at (stands closed [] (r .rings)) s (r .next) w (rw (eq-eqb (getD s (r .next) 0) 41 (d .stops (not-false (r .ok) f) w)))))
+            (wrong-at (stands closed [] (ringsOf (r .atoms) o j)) s (r .next) w (rw (eq-eqb (getD s (r .next) 0) 41 (d .stops (not-false (r .ok) f) w)))))
 
-        module _ (w : length s ≤ r .next) (b : Bool) (x : b ≡ noneOpen (r .rings .opened)) where
-          ends-so : tailAtoms s ≡ cond b (r .rings .last) 0
+        module _ (w : length s ≤ r .next) (b : Bool) (x : b ≡ noneOpen o) where
+          ends-so : tailAtoms s ≡ cond b (r .atoms .last) 0
           unfolding done finished
           ends-so =
-              starts ∙ rw (not-false (r .ok) f, x) (scan-end (stands closed [] (r .rings)) s (r .next) (omega (arith, d .bounds .within)))
+              starts ∙ rw (not-false (r .ok) f, x) (scan-end (stands closed [] (ringsOf (r .atoms) o j)) s (r .next) (omega (arith, d .bounds .within)))
 
           pub tail-open : not b ≡ true → 0 ≡ tailAtoms s
           tail-open g = sym (ends-so ∙ rw (not-true b g))
 
-          pub tail-ends : not b ≡ false → r .rings .last ≡ tailAtoms s
+          pub tail-ends : not b ≡ false → r .atoms .last ≡ tailAtoms s
           tail-ends g = sym (ends-so ∙ rw (not-false b g))

@@ -1,15 +1,15 @@
 -- Laws of the tests on a byte: each way through the code as a case of the definition.
 use Prim.Native.Nat.{ℕ, _+_, _≤_, _<_}
 use native.Mathlib.Numerals.{add-one}
-use mathlib.Core.Path.{_≡_, refl, sym, _∙_}
+use mathlib.Core.Path.{_≡_, refl, sym, ap, _∙_}
 use mathlib.Core.Bool.{Bool, true, false, _||_}
-use mathlib.Core.List.{List, [], _∷_}
+use mathlib.Core.List.{List, [], _∷_, _++_}
 use lib.ListN.{length, drop, getD, drop-of-length-le}
 use lib.Seq.{drop-cons}
 use lib.Dec.{eqb}
 use borrow.Author.Tests.{eq-eqb, ne-eqb}
 use Rattle.reading.specs.Ascii.{ascii}
-use Rattle.reading.specs.Lexer.{memb, within, bracketed, pairs}
+use Rattle.reading.specs.Lexer.{memb, within, organic, bracketed, pairs}
 
 -- ---- a byte among some
 
@@ -25,6 +25,33 @@ module _ (b : ℕ) (bs : List ℕ) (i : ℕ) (v : memb b bs ≡ memb b (drop i b
   pub among-none : length bs ≤ i → false ≡ memb b bs
   unfolding memb
   among-none h = sym (v ∙ rw (drop-of-length-le bs {i = i} h))
+
+-- ---- a letter: the capitals first, then the rest
+
+memb-append : (x : ℕ) (xs ys : List ℕ) → memb x (xs ++ ys) ≡ (memb x xs || memb x ys)
+unfolding memb
+memb-append x [] ys = refl
+memb-append x (y ∷ xs) ys = go (eqb x y) (memb-append x xs ys)
+  where
+    go : (b : Bool) → memb x (xs ++ ys) ≡ (memb x xs || memb x ys) → (b || memb x (xs ++ ys)) ≡ ((b || memb x xs) || memb x ys)
+    go true h = refl
+    go false h = h
+
+-- B C N O P S F I, and b c n o s p *
+abbrev capitals : List ℕ
+capitals = 66 ∷ 67 ∷ 78 ∷ 79 ∷ 80 ∷ 83 ∷ 70 ∷ 73 ∷ []
+
+abbrev others : List ℕ
+others = 98 ∷ 99 ∷ 110 ∷ 111 ∷ 115 ∷ 112 ∷ 42 ∷ []
+
+module _ (x : ℕ) (a : Bool) (e : a ≡ memb x capitals) where
+  pub letter-capital : a ≡ true → true ≡ memb x organic
+  unfolding organic ascii
+  letter-capital f = sym (memb-append x capitals others ∙ ap (λ (z : Bool). z || memb x others) (sym e ∙ f))
+
+  pub letter-other : (b : Bool) → a ≡ false → b ≡ memb x others → b ≡ memb x organic
+  unfolding organic ascii
+  letter-other b f g = g ∙ sym (memb-append x capitals others ∙ ap (λ (z : Bool). z || memb x others) (sym e ∙ f))
 
 -- ---- what may stand in a bracket
 

@@ -7,10 +7,9 @@ use mathlib.Core.List.{List}
 use lib.ListN.{length, drop, getD}
 use borrow.Author.Tests.{eq-eqb, ne-eqb, le-leb, lt-leb, not-true, not-false}
 use Rattle.reading.specs.Lexer.{memb, within, organic, marks, bracketed, pairs}
-use Rattle.ringdigits.specs.declared.Rings.{Rings}
 use Rattle.tailatom.specs.declared.Found.{Found}
 use Rattle.tailatom.specs.declared.Found.the-variants.{Next, Nothing}
-use Rattle.ringdigits.specs.Grammar.{withAtom, stands, opening, afterBond, whole, letter, inside, atomBegins, bondOrAtom, bracketOn, step, done, scan}
+use Rattle.ringdigits.specs.Grammar.{Rings, withAtom, stands, opening, afterBond, whole, letter, inside, atomBegins, bondOrAtom, bracketOn, step, done, scan}
 use Rattle.tailatom.specs.Atom.{PastBond, Passed, PastBracket, PastAtom}
 use Rattle.ringdigits.proofs.Scan.{scan-at, scan-end, wrong-at, same-at}
 

@@ -4,8 +4,7 @@ use Prim.Native.Nat.{ℕ, _≤_, _<_}
 use mathlib.Core.Path.{_≡_}
 use mathlib.Core.List.{List}
 use lib.ListN.{length, drop}
-use Rattle.ringdigits.specs.declared.Rings.{Rings}
-use Rattle.ringdigits.specs.Grammar.{stands, opening, afterBond, whole, inside, withAtom, scan}
+use Rattle.ringdigits.specs.Grammar.{Rings, stands, opening, afterBond, whole, inside, withAtom, scan}
 use Rattle.tailatom.specs.declared.Found.{Found}
 use Rattle.tailatom.specs.declared.Found.the-variants.{Next, Nothing}
 

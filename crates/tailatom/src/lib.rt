@@ -43,11 +43,15 @@ fn is_bond(b: u8) -> bool
     is_among(b, b"-=#/\\")
 }
 
-// The atoms of one letter; C and B may also be the first of two.
+// The atoms of one letter; C and B may also be the first of two. They stand in two short lists, since each of these is compiled to one test,
+// and one long list to a loop.
 fn is_letter(b: u8) -> bool
     ensures { λ r. ⌜ r ≡ memb b organic ⌝ }
 {
-    is_among(b, b"BCNOPSFIbcnosp*")
+    if is_among(b, b"BCNOPSFI") {
+        return true;
+    }
+    is_among(b, b"bcnosp*")
 }
 
 // What may stand in a bracket.

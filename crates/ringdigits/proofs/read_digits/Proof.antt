@@ -1,15 +1,16 @@
 use borrow.Author.Needs.{needs}
 use Prim.Native.Nat.{_-_}
 use lib.ListN.{length}
+use Rattle.ringdigits.specs.Digits.{ringsOf}
 use Rattle.ringdigits.proofs.Scan.{InDigits, digits-first, a-digit, digits-over, digit-clash, digit-on, digits-end}
 use Rattle.ringdigits.proofs.read_digits.Statement.{statement}
 use Rattle.ringdigits.proofs.read_digits.Tie as tie
 
 abbrev Inv-loop : tie.InvT-loop
-Inv-loop s at rings₀ i₀ rings i = InDigits s at rings₀ i rings
+Inv-loop s at opened₀ joined₀ atoms i₀ opened joined i = InDigits s at (ringsOf atoms opened₀ joined₀) i (ringsOf atoms opened joined)
 
 abbrev μ-loop : tie.MeasureT-loop
-μ-loop s at rings₀ i₀ rings i = length s - i
+μ-loop s at opened₀ joined₀ atoms i₀ opened joined i = length s - i
 
 loop-holds : tie.Need-loop-holds Inv-loop μ-loop
 loop-holds c = search digits-first
@@ -26,14 +27,14 @@ returns c = search digits-over
 digit-requires : tie.Need-digit-requires Inv-loop μ-loop
 digit-requires c κs = search a-digit
 
-clashes-requires : tie.Need-clashes-requires Inv-loop μ-loop
-clashes-requires c κs = search needs
+digit-clashes-requires : tie.Need-digit-clashes-requires Inv-loop μ-loop
+digit-clashes-requires c κs = search needs
 
 returns-2 : tie.Need-returns-2 Inv-loop μ-loop
 returns-2 c = search digit-clash
 
-with-digit-requires : tie.Need-with-digit-requires Inv-loop μ-loop
-with-digit-requires c κs = search needs
+put-digit-requires : tie.Need-put-digit-requires Inv-loop μ-loop
+put-digit-requires c κs = search needs
 
 add-i : tie.Need-add-i Inv-loop μ-loop
 add-i c = search needs
@@ -58,9 +59,9 @@ read-digits-spec =
     is-ring-digit-requires
     returns
     digit-requires
-    clashes-requires
+    digit-clashes-requires
     returns-2
-    with-digit-requires
+    put-digit-requires
     add-i
     loop-less
     loop-again

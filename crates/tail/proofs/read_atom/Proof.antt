@@ -18,8 +18,8 @@ enum-told c = search needs
 returns : tie.Need-returns
 returns c = search atom-missing
 
-with-atom-requires : tie.Need-with-atom-requires
-with-atom-requires c κs = search atom-fits
+add-new : tie.Need-add-new
+add-new c = search atom-fits
 
 read-digits-requires : tie.Need-read-digits-requires
 read-digits-requires c κs = search digits-fit
@@ -36,6 +36,6 @@ read-atom-spec =
     enum-known-next
     enum-told
     returns
-    with-atom-requires
+    add-new
     read-digits-requires
     returns-2)

@@ -9,9 +9,6 @@ returns c = search tail-empty
 returns-2 : tie.Need-returns-2
 returns-2 c = search tail-long
 
-new-requires : tie.Need-new-requires
-new-requires c κs = search needs
-
 read-run-requires : tie.Need-read-run-requires
 read-run-requires c κs = search room-first
 
@@ -39,7 +36,6 @@ tail-atoms-spec =
     (tie.spec
     returns
     returns-2
-    new-requires
     read-run-requires
     returns-3
     returns-4

@@ -1,7 +1,7 @@
 use Rattle.ringdigits.proofs.Digits.{clash-unopened, clash-self, clash-parent, clash-joined}
 use borrow.Author.Needs.{needs}
-use Rattle.ringdigits.proofs.Rings.clashes.Statement.{statement}
-use Rattle.ringdigits.proofs.Rings.clashes.Tie as tie
+use Rattle.ringdigits.proofs.digit_clashes.Statement.{statement}
+use Rattle.ringdigits.proofs.digit_clashes.Tie as tie
 
 element-copy-out-a : tie.Need-element-copy-out-a
 element-copy-out-a c = search needs
@@ -24,8 +24,8 @@ element-copy-out-result c = search needs
 returns-4 : tie.Need-returns-4
 returns-4 c = search clash-joined
 
-pub clashes-spec : {M : Type 1} → statement M
-clashes-spec =
+pub digit-clashes-spec : {M : Type 1} → statement M
+digit-clashes-spec =
     tie.close
     (tie.spec
     element-copy-out-a
