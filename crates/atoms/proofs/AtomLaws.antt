@@ -7,11 +7,10 @@ use mathlib.Core.Path.{_≡_, refl, sym, ap, _∙_}
 use mathlib.Core.Bool.{Bool, true, false, cond, _||_}
 use mathlib.Core.List.{List, [], _∷_, _++_, map}
 use lib.Dec.{eqb, leb}
-use lib.ListN.{length, drop, getD, length-append}
+use lib.ListN.{length, drop, getD, length-append, List·getD-map}
 use borrow.Author.Tests.{eq-eqb, ne-eqb, leb-true, leb-false}
 use Rattle.emit.specs.Text.{Written}
-use Rattle.groups.specs.declared.Row.{Row}
-use Rattle.groups.specs.Groups.{Entry, entries, blank, entryAt, entryOf, RowIs}
+use Rattle.groups.specs.Groups.{Entry, entries, blank, entryAt}
 use Rattle.groups.proofs.Laws.{every, every-at}
 use Rattle.record.specs.declared.Mod.{Mod}
 use Rattle.record.specs.declared.Ring.{Ring as Closed}
@@ -19,14 +18,13 @@ use Rattle.reading.specs.Part.{Part, partOf}
 use Rattle.reading.specs.Chain.{Carbon, partsEnd, bridgeEnd, carbonEnd, chainEnd, floatEnd}
 use Rattle.chain.specs.Lists.{only, valuesFrom}
 use Rattle.chain.specs.Drawing.{orNone, branchPart, branches}
-use Rattle.drawable.specs.declared.Drawn.{Drawn}
-use Rattle.drawable.specs.Drawn.{Length, noGroup, groupsDrawn}
+use Rattle.drawable.proofs.Parts.{groups-few, floats-few}
+use Rattle.drawable.specs.Drawn.{Drawn, groupsIn, groupsPart, floatsPart, Length, noGroup, groupsDrawn}
 use Rattle.fragment.specs.Text.{sitting, carbonylOf, carbonOf}
 use Rattle.carbons.specs.ByCarbon.{groupOn, ringOn, carbonylOn, busyAt, Busy}
 use Rattle.atoms.specs.Atoms.{Counts, bridgedAt, carbonSize, bareSize, starts, literalOf, indices, Numbered, LiteralNumbers}
 use Rattle.atoms.specs.Index.{indexFrom}
-use Rattle.carbons.specs.declared.ChainTokens.{ChainTokens}
-use Rattle.carbons.specs.Tokens.{TokensOf}
+use Rattle.carbons.specs.Tokens.{ChainTokens, TokensOf}
 use Rattle.carbons.proofs.TokenLaws.{length-values}
 use Rattle.fragment.proofs.RangeLaws.{or-left, or-right, no-groups, no-carbonyl, zero-false}
 use Rattle.carbons.proofs.Fronts.{next-of, none-left}
@@ -92,11 +90,21 @@ row-small row = go (leb (suc row) (length entries)) refl
     go true e = leb-true (getD entries row blank .atoms) 5 (every-at small entries row blank table-small (leb-true (suc row) (length entries) e))
     go false e = rw (past entries row (omega (arith, leb-false (suc row) (length entries) e))) (omega arith)
 
-pub branch-counted : {g : Row} (row : ℕ) → RowIs row g → Counts 5 (branchPart row .size) (g .atoms)
-unfolding entryOf
-branch-counted row w =
-    let e = ap (λ (e : Entry). e .atoms) (w .entry-is) in
-    record { is = e ∙ sym (branch-size row); few = omega (arith, e, row-small row) }
+abbrev atomsIn : Entry → ℕ
+atomsIn e = e .atoms
+
+-- the atoms of each row, as the table has them
+pub branch-told : (l : List ℕ) (row n : ℕ) → map atomsIn entries ≡ l → n ≡ getD l row 0 → Counts 5 (branchPart row .size) n
+unfolding entryAt
+branch-told l row n t e =
+    let same : n ≡ entryAt row .atoms = e ∙ (rw (← t) (List·getD-map atomsIn entries row blank)) in
+    record { is = same ∙ sym (branch-size row); few = omega (arith, same, row-small row) }
+
+pub branch-past : (row : ℕ) → 17 ≤ row → Counts 5 (branchPart row .size) 0
+unfolding entryAt entries
+branch-past row h =
+    let none : entryAt row .atoms ≡ 0 = rw (past entries row h) in
+    record { is = sym (branch-size row ∙ none); few = omega arith }
 
 -- ---- the groups of a carbon
 
@@ -199,6 +207,17 @@ literal-few : (x : Drawn) (t : ChainTokens) → TokensOf x t → length (literal
 unfolding literalOf
 literal-few x t w =
     omega (arith, w .first, w .room, length-values (carbonOf (x .acyl) (t .bonds) (groupsDrawn x)) (t .first) (suc (t .last) - t .first))
+
+-- groups that stand in the part of a chain
+pub groups-short : {gs : List ℕ} (l : List ℕ) → gs ≡ groupsPart l → length gs ≤ 18
+groups-short l e = rw e (groups-few l)
+
+pub counts-there : (acyl : Bool) (n b k m : ℕ) (gs l : List ℕ) → gs ≡ groupsPart l → Counts 93 (carbonSize acyl (groupsIn n gs) b k) m
+    → Counts 93 (carbonSize acyl (groupsIn n (groupsPart l)) b k) m
+counts-there acyl n b k m gs l e c = rw e at c
+
+pub floats-short : {gs : List ℕ} (l : List ℕ) → gs ≡ floatsPart l → length gs ≤ 18
+floats-short l e = rw e (floats-few l)
 
 -- of the carbons cs, the indices of `count` are written, and `rest` are left, the first of them atom `next`
 pub record Numbering (first : ℕ) (cs : List Carbon) (xs : List ℕ) (at : ℕ) (ys : List ℕ) (p count next : ℕ) (rest : List Carbon) : Type 0 where

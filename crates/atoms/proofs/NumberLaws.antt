@@ -19,11 +19,10 @@ use Rattle.chain.specs.Lists.{valuesFrom}
 use Rattle.chain.specs.Features.{firstDrawn, literalEnd, flexibleCount, drawnCount, floating}
 use Rattle.chain.specs.Bonds.{bondAt, markOf}
 use Rattle.chain.specs.Drawing.{branchPart, branches, bare, pairs, flexible, literal, carbons, floats, carbonAtoms, flexibleAtom, atomsEnd}
-use Rattle.drawable.specs.declared.Drawn.{Drawn}
-use Rattle.drawable.specs.Drawn.{Length, noGroup, floatsDrawn, Draws}
-use Rattle.carbons.specs.declared.ChainTokens.{ChainTokens}
+use Rattle.drawable.specs.declared.Shape.{Shape}
+use Rattle.drawable.specs.Drawn.{Drawn, groupsIn, floatsPart, drawnOf, Length, noGroup, floatsDrawn, Draws}
 use Rattle.atoms.specs.declared.Numbers.{Numbers}
-use Rattle.carbons.specs.Tokens.{TokensOf}
+use Rattle.carbons.specs.Tokens.{ChainTokens, TokensOf}
 use Rattle.fragment.specs.Segment.{Readable}
 use Rattle.atoms.specs.Atoms.{Counts, starts, tailCount, literalOf, indices, ups, Numbered, LiteralNumbers, TailNumbers, AtomsAre, AtomsOf}
 use Rattle.atoms.specs.Index.{indexFrom}
@@ -244,12 +243,12 @@ module _ (r : Role) (d : read.Chain) (x : Drawn) (t : ChainTokens) (w : Draws r 
       = tail-after (literalOf x t) (markOf (bondAt r d (literalEnd r d))) (x .unlocated) g n v (fits l n h) in
       rw (literal-same, w .unlocated) at q
 
-pub chain-numbered : {first : ℕ} {xs ys zs : List ℕ} {at : ℕ} (x : Drawn) (t : ChainTokens) (l a : Numbers) (e : ℕ) → length xs < 2 ^ 64 → TokensOf x t
+all-numbered : {first : ℕ} {xs ys zs : List ℕ} {at : ℕ} (x : Drawn) (t : ChainTokens) (l a : Numbers) (e : ℕ) → length xs < 2 ^ 64 → TokensOf x t
     → LiteralNumbers first x t xs at ys l → TailNumbers first (x .unlocated) ys l zs a
     → Counts (a .next + 108) (floatEnd (a .next) (branches (floatsDrawn x))) e
     → AtomsOf first x xs at zs (record { at = a .at; count = a .count; flexible = l .next; floats = a .next; end = e })
 unfolding flexibleAtom atomsEnd floats
-chain-numbered {first} {xs} {ys} {zs} {at} x t l a e g k u v c =
+all-numbered {first} {xs} {ys} {zs} {at} x t l a e g k u v c =
     record {
       are =
           λ r d w s h.
@@ -268,3 +267,10 @@ chain-numbered {first} {xs} {ys} {zs} {at} x t l a e g k u v c =
       room = omega (arith, v .count);
       few = omega (arith, c .few, v .next, v .count, u .few, u .room);
     }
+
+-- where the floating groups stand in the part of a chain
+pub chain-numbered : {first : ℕ} {xs ys zs fs : List ℕ} {at : ℕ} (x : Shape) (part : List ℕ) (t : ChainTokens) (l a : Numbers) (e : ℕ) → length xs < 2 ^ 64
+    → TokensOf (drawnOf x part) t → LiteralNumbers first (drawnOf x part) t xs at ys l → TailNumbers first (x .unlocated) ys l zs a → fs ≡ floatsPart part
+    → Counts (a .next + 108) (floatEnd (a .next) (branches (groupsIn (x .«float_count») fs))) e
+    → AtomsOf first (drawnOf x part) xs at zs (record { at = a .at; count = a .count; flexible = l .next; floats = a .next; end = e })
+chain-numbered x part t l a e g k u v f c = all-numbered (drawnOf x part) t l a e g k u v (rw f at c)

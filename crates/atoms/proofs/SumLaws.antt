@@ -10,8 +10,7 @@ use Rattle.record.specs.declared.Bridge.{Bridge}
 use Rattle.record.specs.declared.Bridge.the-variants.{Epoxide, Carbocycle}
 use Rattle.record.proofs.Sound.{Sound, RingSound, Spans, Every, Reduced}
 use Rattle.chain.specs.Features.{remaining}
-use Rattle.drawable.specs.declared.Drawn.{Drawn}
-use Rattle.drawable.specs.Drawn.{Says}
+use Rattle.drawable.specs.Drawn.{Drawn, Says}
 use Rattle.fragment.specs.Segment.{RingsOn, Readable}
 use Rattle.atoms.specs.Sum.{sumOf}
 

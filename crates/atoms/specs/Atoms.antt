@@ -15,9 +15,8 @@ use Rattle.chain.specs.Features.{drawnCount}
 use Rattle.chain.specs.Bonds.{bridged}
 use Rattle.chain.specs.Drawing.{branches, carbonAtoms, flexibleAtom, atomsEnd}
 use Rattle.chain.specs.Drawing as draw
-use Rattle.drawable.specs.declared.Drawn.{Drawn}
-use Rattle.drawable.specs.Drawn.{groupsDrawn, Draws}
-use Rattle.carbons.specs.declared.ChainTokens.{ChainTokens}
+use Rattle.drawable.specs.Drawn.{Drawn, groupsDrawn, Draws}
+use Rattle.carbons.specs.Tokens.{ChainTokens}
 use Rattle.atoms.specs.declared.Numbers.{Numbers}
 use Rattle.atoms.specs.declared.ChainAtoms.{ChainAtoms}
 use Rattle.atoms.specs.Index.{indexFrom}

@@ -1,25 +1,38 @@
 // The atoms of a chain: the index of each carbon, written into a lent slice; and, counted from its first, the atoms of the flexible tail and of
 // the floating groups, and how many there are in all. The groups are gone through only at carbons that carry one.
 use carbons::CARBON_ROOM;
-use drawable::Drawn;
+use drawable::Shape;
 ghost use mathlib.Core.Path.{_≡_};
 ghost use Prim.Native.Nat.{_+_, _≤_, min};
 ghost use lib.ListN.{length};
 ghost use Rattle.reading.specs.Chain.{partsEnd, bridgeEnd, floatEnd};
 ghost use Rattle.chain.specs.Drawing.{branchPart, branches};
-ghost use Rattle.drawable.specs.Drawn.{groupsIn, Says};
+ghost use Rattle.drawable.specs.Drawn.{groupsIn, drawnOf, Says};
 ghost use Rattle.fragment.specs.Text.{sitting, carbonylOf};
 ghost use Rattle.carbons.specs.Tokens.{tokens, TokensOf};
 ghost use Rattle.atoms.specs.Atoms.{Counts, carbonSize, bareSize, bridgedAt, tailCount, LiteralNumbers, TailNumbers, AtomsOf};
 ghost use Rattle.atoms.specs.Index.{inRoom, indexFrom};
 ghost use Rattle.atoms.specs.Sum.{sumOf};
 
+// The atoms of the branch of each row of the group table, alone: the code lays out a whole table each time it looks into one. One computed
+// test ties them to the table.
+const BRANCH_ATOMS: [u8; 17] = [2, 1, 1, 1, 1, 1, 3, 2, 1, 2, 1, 1, 1, 2, 5, 5, 3];
+
+fn wide(n: u8) -> u16
+    ensures { λ r. ⌜ r ≡ n ⌝ }
+{
+    n as u16
+}
+
 // The atoms of a group's branch.
-fn branch_atoms(row: u8) -> u16
+pub fn branch_atoms(row: u8) -> u16
     ensures { λ r. ⌜ Counts 5 (branchPart row .size) r ⌝ }
 {
-    let group = groups::row_at(row);
-    group.atoms as u16
+    if row < groups::ROW_COUNT {
+        let at = row as usize;
+        return wide(BRANCH_ATOMS[at]);
+    }
+    0
 }
 
 // The atoms of the groups of carbon k.
@@ -112,20 +125,22 @@ struct Numbers {
     next: u16,
 }
 
-// The literal carbons.
+// The literal carbons: of what a chain has only its groups are looked at.
 fn number_range<'a>(
     index: &mut [u16],
     at: usize,
     first: u32,
-    x: Drawn,
+    x: Shape,
+    part: &'a [u64],
     from: u16,
     last: u16,
     bonds: &'a [u8],
     busy: &'a [u8],
 ) -> Numbers
-    requires { ⌜ TokensOf x (tokens from last (now bonds) (now busy)) ⌝ }
-    ensures { λ r. ⌜ LiteralNumbers first x (tokens from last (now (bonds .entry)) (now (busy .entry))) (now (index .entry)) at (now (index .exit)) r ⌝ }
+    requires { ⌜ TokensOf (drawnOf x (now part)) (tokens from last (now bonds) (now busy)) ⌝ }
+    ensures { λ r. ⌜ LiteralNumbers first (drawnOf x (now (part .entry))) (tokens from last (now (bonds .entry)) (now (busy .entry))) (now (index .entry)) at (now (index .exit)) r ⌝ }
 {
+    let groups = drawable::groups_part(part);
     let mut p = at;
     let mut count = 0;
     let mut next = 0;
@@ -140,7 +155,7 @@ fn number_range<'a>(
             k += 1;
             continue;
         }
-        next += busy_atoms(x.acyl, &x.groups, x.group_count, k, bond);
+        next += busy_atoms(x.acyl, groups, x.group_count, k, bond);
         k += 1;
     }
     Numbers { at: p, count, next }
@@ -210,19 +225,20 @@ pub fn number_chain<'a>(
     index: &mut [u16],
     at: usize,
     first: u32,
-    x: Drawn,
+    x: Shape,
+    part: &'a [u64],
     from: u16,
     last: u16,
     bonds: &'a [u8],
     busy: &'a [u8],
 ) -> ChainAtoms
-    requires { ⌜ TokensOf x (tokens from last (now bonds) (now busy)) ⌝ }
-    ensures { λ r. ⌜ AtomsOf first x (now (index .entry)) at (now (index .exit)) r ⌝ }
+    requires { ⌜ TokensOf (drawnOf x (now part)) (tokens from last (now bonds) (now busy)) ⌝ }
+    ensures { λ r. ⌜ AtomsOf first (drawnOf x (now (part .entry))) (now (index .entry)) at (now (index .exit)) r ⌝ }
 {
-    let literal = number_range(index, at, first, x, from, last, bonds, busy);
+    let literal = number_range(index, at, first, x, part, from, last, bonds, busy);
     let all = number_tail(index, first, literal, x.unlocated);
     let next = all.next;
-    let end = float_end(&x.floats, x.float_count, next);
+    let end = float_end(drawable::floats_part(part), x.float_count, next);
     ChainAtoms {
         at: all.at,
         count: all.count as u16,
@@ -233,11 +249,11 @@ pub fn number_chain<'a>(
 }
 
 // What the variables of a chain add up to.
-pub fn sum(x: Drawn) -> u16
-    ensures { λ r. ⌜ Says x r sumOf ⌝ }
+pub fn sum(x: Shape, part: &[u64]) -> u16
+    ensures { λ r. ⌜ Says (drawnOf x (now (part .entry))) r sumOf ⌝ }
 {
     let n = x.unlocated;
-    let remaining = reach::remaining(x);
+    let remaining = reach::remaining(x, part);
     if remaining <= n {
         return 0;
     }

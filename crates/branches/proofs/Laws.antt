@@ -21,8 +21,8 @@ use Rattle.reading.proofs.ShowLex.{show-append}
 use Rattle.chain.specs.Lists.{only}
 use Rattle.chain.specs.Drawing.{orNone, branchPart, branches}
 use Rattle.branches.specs.Text.{branchText, groupText, sitting, groupsText, floatText, floatsText, carbonylOf, carbonylText, rowsIn, RowsPut}
-use Rattle.drawable.specs.declared.Drawn.{Drawn}
-use Rattle.drawable.specs.Drawn.{Length, noGroup, floatsDrawn}
+use Rattle.drawable.specs.declared.Shape.{Shape}
+use Rattle.drawable.specs.Drawn.{groupsIn, Length, noGroup, floatsPart, drawnOf}
 use Rattle.carbons.proofs.Fronts.{next-of, none-left}
 use Rattle.carbons.proofs.Left.{Left, left-less, left-same, left-none, written-three}
 
@@ -156,15 +156,25 @@ module _ {xs ys ts : List ℕ} {at p room n : ℕ} {gs : List Mod} (i : ℕ) (s 
   unfolding rowsIn
   rows-end t = left-none v (ap rowsIn (none-left s i t))
 
-pub rows-put : {xs ys : List ℕ} {at p : ℕ} (x : Drawn) → Written xs at (rowsIn (floatsDrawn x)) ys p → RowsPut x xs at ys p
-rows-put x w = record { rows = λ ρ d k. rw (ap rowsIn (k .floats)) at w; size = written-length w }
+-- those of the floating groups, which stand in the part of a chain
+pub rows-put : {xs ys fs : List ℕ} {at p : ℕ} (x : Shape) (l : List ℕ) → fs ≡ floatsPart l → Written xs at (rowsIn (groupsIn (x .«float_count») fs)) ys p
+    → RowsPut (drawnOf x l) xs at ys p
+rows-put x l e w = record { rows = λ ρ d k. rw (e, ap rowsIn (k .floats)) at w; size = written-length w }
 
 -- ---- the carbonyl
 
+-- `(=O)`
+abbrev ketoText : List ℕ
+ketoText = 40 ∷ 61 ∷ 79 ∷ 41 ∷ []
+
+keto-text : groupText 12 ≡ ketoText
+unfolding groupText partPieces show branchPart partOf entryAt entries
+keto-text = refl
+
 module _ {xs ys : List ℕ} {at p : ℕ} (acyl : Bool) (k : ℕ) where
-  pub carbonyl-there : acyl ≡ true → k ≡ 1 → Written xs at (groupText 12) ys p → Written xs at (carbonylText acyl k) ys p
+  pub carbonyl-there : acyl ≡ true → k ≡ 1 → Written xs at ketoText ys p → Written xs at (carbonylText acyl k) ys p
   unfolding carbonylText carbonylOf groupText
-  carbonyl-there e f w = rw (e, eq-eqb k 1 f) w
+  carbonyl-there e f w = rw (e, eq-eqb k 1 f) (rw (← keto-text) at w)
 
 module _ (xs : List ℕ) (at : ℕ) (acyl : Bool) (k : ℕ) (h : at < 2 ^ 64) where
   pub carbonyl-later : acyl ≡ true → (k ≡ 1 → ⊥) → Written xs at (carbonylText acyl k) xs at

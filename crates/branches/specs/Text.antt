@@ -17,8 +17,7 @@ use Rattle.chain.specs.declared.Role.{Role}
 use Rattle.chain.specs.Lists.{only}
 use Rattle.chain.specs.Features.{floating}
 use Rattle.chain.specs.Drawing.{branchPart, branches}
-use Rattle.drawable.specs.declared.Drawn.{Drawn}
-use Rattle.drawable.specs.Drawn.{Draws}
+use Rattle.drawable.specs.Drawn.{Drawn, Draws}
 
 -- the branch of a row of the group table
 unfoldable pub branchText : ℕ → List ℕ

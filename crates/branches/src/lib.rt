@@ -1,7 +1,7 @@
 // The groups of a chain, written at a place of a lent slice: those on a carbon, the carbonyl's O, and those without a position.
-use drawable::Drawn;
+use drawable::Shape;
 ghost use Rattle.emit.specs.Text.{Written};
-ghost use Rattle.drawable.specs.Drawn.{groupsIn};
+ghost use Rattle.drawable.specs.Drawn.{groupsIn, drawnOf};
 ghost use Rattle.branches.specs.Text.{branchText, groupText, sitting, groupsText, floatText, floatsText, carbonylText, rowsIn, RowsPut};
 
 // The branch of a group, by its row of the table.
@@ -83,10 +83,10 @@ fn write_rows(rows: &mut [u8], at: usize, groups: &[u64], count: usize) -> usize
 }
 
 // The rows of the groups without a position.
-pub fn put_rows(rows: &mut [u8], at: usize, x: Drawn) -> usize
-    ensures { λ r. ⌜ RowsPut x (now (rows .entry)) at (now (rows .exit)) r ⌝ }
+pub fn put_rows(rows: &mut [u8], at: usize, x: Shape, part: &[u64]) -> usize
+    ensures { λ r. ⌜ RowsPut (drawnOf x (now (part .entry))) (now (rows .entry)) at (now (rows .exit)) r ⌝ }
 {
-    write_rows(rows, at, &x.floats, x.float_count)
+    write_rows(rows, at, drawable::floats_part(part), x.float_count)
 }
 
 // The doubly bonded O of an acyl C1.
@@ -95,7 +95,7 @@ pub fn put_carbonyl(out: &mut [u8], at: usize, acyl: bool, k: u16) -> usize
 {
     if acyl {
         if k == 1 {
-            return put_group(out, at, groups::KETO);
+            return emit::put_text(out, at, b"(=O)");
         }
         return at;
     }

@@ -18,7 +18,7 @@ use Rattle.chain.specs.declared.Role.{Role}
 use Rattle.chain.specs.declared.Role.the-variants.{Slot, Acyl, Base}
 use Rattle.chain.specs.Features.{floating}
 use Rattle.chain.specs.Drawing.{variables, chainDrawn}
-use Rattle.drawable.specs.declared.Drawn.{Drawn}
+use Rattle.drawable.specs.Drawn.{Drawn}
 use Rattle.drawable.proofs.Held.{held-more, held-full}
 use Rattle.branches.specs.Text.{rowsIn}
 use Rattle.atoms.proofs.NumberLaws.{atoms-end-shift}
@@ -36,7 +36,7 @@ use Rattle.placed.proofs.Laws.{index-count}
 use Rattle.strand.specs.declared.Strand.{Strand}
 use Rattle.strand.specs.declared.Figures.{Figures}
 use Rattle.strand.specs.Strand.{indexesOf, Rooms, rooms, StrandOf, FiguresOf}
-use Rattle.builder.specs.Build.{plus, inLabels, variablesFor, placedIn, Counts, Fits, FixedPushed, Noted, placedOf, Advanced, FitsChain, PushingChain, FragmentPushed, ChainPushed, FitsElement, Pushed, SlotPushed, BarePushed}
+use Rattle.builder.specs.Build.{plus, inLabels, variablesFor, placedIn, Counts, Fits, FixedPushed, placedOf, Settled, FitsChain, PushingChain, FragmentPushed, ChainPushed, FitsElement, Pushed, SlotPushed, BarePushed}
 
 -- ---- counts
 
@@ -54,35 +54,29 @@ unfolding placedIn
 fixed-is g h w e =
     record { text = w; atoms = e; variables = refl; labels = refl; used = record { is = refl; small = g }; rows = record { is = refl; small = h }; placed = refl }
 
--- ---- where a chain stands
+-- ---- the places after a chain, its counts, and where it stands
 
-pub note-more : (b : Builder) (p : Placed) → length (b .placed) ≡ 4 → b .count < 4
-    → Noted p b (record { at = b .at; atoms = b .atoms; variables = b .variables; labels = b .labels; used = b .used; rows = b .rows; count = b .count + 1; placed = set (b .placed) (b .count) p })
-unfolding placedIn
-note-more b p e h =
-    record { at = refl; atoms = refl; variables = refl; labels = refl; used = refl; rows = refl; placed = held-more (b .placed) (b .count) 4 e p h }
+module _ {x : Strand} {f : Figures} {vf : ℕ} {ns : Atoms} {vs : Variables} {ls : Labels} (b : Builder) (p : Placed) (ea : ns .0 ≡ plus (b .atoms .0) (x .end))
+    (ef : vf ≡ variablesFor (f .unlocated)) (ev : vs .0 ≡ plus (b .variables .0) vf) (el : ls .0 ≡ plus (b .labels .0) (f .rings)) (e : length (b .placed) ≡ 4) where
+  pub settled-more : b .count < 4
+      → Settled p x f b (record { at = x .at; atoms = ns; variables = vs; labels = ls; used = x .used; rows = x .rows; count = b .count + 1; placed = set (b .placed) (b .count) p })
+  unfolding placedIn
+  settled-more h =
+      record { at = refl; used = refl; rows = refl; atoms = ea; variables = ev ∙ ap (λ (n : ℕ). plus (b .variables .0) n) ef; labels = el; placed = held-more (b .placed) (b .count) 4 e p h }
 
-pub note-full : (b : Builder) (p : Placed) → length (b .placed) ≡ 4 → 4 ≤ b .count → Noted p b b
-unfolding placedIn
-note-full b p e h =
-    record { at = refl; atoms = refl; variables = refl; labels = refl; used = refl; rows = refl; placed = held-full (b .placed) (b .count) 4 e p h }
-
--- ---- the places after a chain, and its counts
-
-pub advanced : {x : Strand} {f : Figures} {b : Builder} {vf : ℕ} {ns : Atoms} {vs : Variables} {ls : Labels} → ns .0 ≡ plus (b .atoms .0) (x .end) → vf ≡ variablesFor (f .unlocated)
-    → vs .0 ≡ plus (b .variables .0) vf → ls .0 ≡ plus (b .labels .0) (f .rings)
-    → Advanced x f b (record { at = x .at; atoms = ns; variables = vs; labels = ls; used = x .used; rows = x .rows; count = b .count; placed = b .placed })
-unfolding placedIn
-advanced {b = b} ea ef ev el =
-    record { at = refl; used = refl; rows = refl; atoms = ea; variables = ev ∙ ap (λ (n : ℕ). plus (b .variables .0) n) ef; labels = el; placed = refl }
+  pub settled-full : 4 ≤ b .count
+      → Settled p x f b (record { at = x .at; atoms = ns; variables = vs; labels = ls; used = x .used; rows = x .rows; count = b .count; placed = b .placed })
+  unfolding placedIn
+  settled-full h =
+      record { at = refl; used = refl; rows = refl; atoms = ea; variables = ev ∙ ap (λ (n : ℕ). plus (b .variables .0) n) ef; labels = el; placed = held-full (b .placed) (b .count) 4 e p h }
 
 -- ---- a chain that has carbons
 
-module _ {x : Drawn} {sn s m : ℕ} {r : Role} {xs ys : Rooms} {b p q : Builder} {y : Strand} {f : Figures} where
-  pub fragment-pushed : m ≡ inLabels (b .labels .0) → StrandOf r (b .atoms .0) m x xs (b .at) (b .used) (b .rows) ys y → FiguresOf x f → Noted (placedOf b sn r s y f) b p
-      → Advanced y f p q → FragmentPushed x sn r s xs b ys q
+module _ {x : Drawn} {sn s m : ℕ} {r : Role} {xs ys : Rooms} {b q : Builder} {y : Strand} {f : Figures} where
+  pub fragment-pushed : m ≡ inLabels (b .labels .0) → StrandOf r (b .atoms .0) m x xs (b .at) (b .used) (b .rows) ys y → FiguresOf x f
+      → Settled (placedOf b sn r s y f) y f b q → FragmentPushed x sn r s xs b ys q
   unfolding noted indexList rowsOf gathered variables templatePieces
-  fragment-pushed em w g h u = record { sizes = w .sizes; pushed = pushed }
+  fragment-pushed em w g u = record { sizes = w .sizes; pushed = pushed }
     where
       pushed : (d : Chain) (k : Option ℕ) (n v l : ℕ) (ps : List Placed) → s ≡ siteOr n k → Carries r d x → Counts b n v l ps
           → FitsChain sn r k (some d) n v l ps → PushingChain sn r k (some d) n v l ps xs b ys q
@@ -101,10 +95,10 @@ module _ {x : Drawn} {sn s m : ℕ} {r : Role} {xs ys : Rooms} {b p q : Builder}
             rows = rw (append-nil (rowsIn (floating d)), u .rows) (z .rows);
             counts =
                 record {
-                  atoms = omega (arith, u .atoms, ap (λ (i : Atoms). i .0) (h .atoms), c .atoms, z .numbers .ends, atoms-end-shift r d n, fit .atoms);
-                  variables = omega (arith, u .variables, ap (λ (i : Variables). i .0) (h .variables), c .variables, ap variablesFor (e .unlocated), fit .variables);
-                  labels = omega (arith, u .labels, ap (λ (i : Labels). i .0) (h .labels), c .labels, e .rings, fit .labels);
-                  placed = u .placed ∙ (h .placed ∙ (rw (c .placed, kept) (take-all 4 (ps ++ noted here ∷ []) (fit .places))));
+                  atoms = omega (arith, u .atoms, c .atoms, z .numbers .ends, atoms-end-shift r d n, fit .atoms);
+                  variables = omega (arith, u .variables, c .variables, ap variablesFor (e .unlocated), fit .variables);
+                  labels = omega (arith, u .labels, c .labels, e .rings, fit .labels);
+                  placed = u .placed ∙ rw (c .placed, kept) (take-all 4 (ps ++ noted here ∷ []) (fit .places));
                 };
           }
 

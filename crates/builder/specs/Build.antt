@@ -12,7 +12,7 @@ use Rattle.reading.specs.Piece.{show}
 use Rattle.reading.specs.Template.{Item, templatePieces}
 use Rattle.chain.specs.declared.Role.{Role}
 use Rattle.chain.specs.declared.Role.the-variants.{Slot}
-use Rattle.drawable.specs.declared.Drawn.{Drawn}
+use Rattle.drawable.specs.Drawn.{Drawn}
 use Rattle.template.specs.Template.{Element, slot, chain}
 use Rattle.template.specs.Request as request
 use Rattle.template.specs.Request.{nonempty, place, atomsAfter, variablesAfter, chainItem, itemsOf}
@@ -91,30 +91,20 @@ pub record FixedPushed (ts : List ℕ) (k : ℕ) (xs : List ℕ) (b : Builder) (
   pub rows : Kept (b .rows) (q .rows)
   pub placed : placedIn q ≡ placedIn b
 
--- only the chains are changed
-pub record Noted (p : Placed) (b q : Builder) : Type 0 where
-  pub at : q .at ≡ b .at
-  pub atoms : q .atoms ≡ b .atoms
-  pub variables : q .variables ≡ b .variables
-  pub labels : q .labels ≡ b .labels
-  pub used : q .used ≡ b .used
-  pub rows : q .rows ≡ b .rows
-  pub placed : placedIn q ≡ take 4 (placedIn b ++ p ∷ [])
-
 -- what is kept of a chain that is laid down where the builder stands
 abbrev pub placedOf : Builder → ℕ → Role → ℕ → Strand → Figures → Placed
 placedOf b sn r s x f =
     record { sn = sn; role = r; first = b .atoms .0; site = s; variable = b .variables .0; count = x .count; acyl = f .acyl; unlocated = f .unlocated; flexible = x .flexible; floats = x .floats; total = f .total; «float_count» = f .«float_count» }
 
--- the places after a chain, and its counts
-pub record Advanced (x : Strand) (f : Figures) (b q : Builder) : Type 0 where
+-- the places after a chain and its counts, and what is kept of it
+pub record Settled (p : Placed) (x : Strand) (f : Figures) (b q : Builder) : Type 0 where
   pub at : q .at ≡ x .at
   pub used : q .used ≡ x .used
   pub rows : q .rows ≡ x .rows
   pub atoms : q .atoms .0 ≡ plus (b .atoms .0) (x .end)
   pub variables : q .variables .0 ≡ plus (b .variables .0) (variablesFor (f .unlocated))
   pub labels : q .labels .0 ≡ plus (b .labels .0) (f .rings)
-  pub placed : placedIn q ≡ placedIn b
+  pub placed : placedIn q ≡ take 4 (placedIn b ++ p ∷ [])
 
 -- ---- a chain
 

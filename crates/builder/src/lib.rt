@@ -3,15 +3,16 @@
 // their own; marks, sites and sums are numbers until the line is finished. On empty slices the same functions measure. What is built is said
 // by the definitions of `template` (crates/template/specs); what a push adds, by specs/Build.antt.
 use chain::Role;
-use drawable::Drawn;
+use drawable::Shape;
 use listing::Sites;
 use placed::MAX_CHAINS;
 use placed::Placed;
 use strand::Figures;
 use strand::Strand;
 ghost use mathlib.Core.Path.{_≡_};
+ghost use Rattle.drawable.specs.Drawn.{drawnOf};
 ghost use Rattle.strand.specs.Strand.{rooms};
-ghost use Rattle.builder.specs.Build.{plus, inLabels, variablesFor, Fresh, FixedPushed, FragmentPushed, Advanced, placedOf, Noted, ChainPushed, SlotPushed, BarePushed};
+ghost use Rattle.builder.specs.Build.{plus, inLabels, variablesFor, Fresh, FixedPushed, FragmentPushed, placedOf, Settled, ChainPushed, SlotPushed, BarePushed};
 ghost use Rattle.builder.specs.Line.{Writable, Finished};
 
 // The first ring label of a line is `%10`.
@@ -47,7 +48,7 @@ fn more(a: u32, n: u32) -> u32
 }
 
 impl Atoms {
-    pub fn plus(self, n: u32) -> Atoms
+    fn plus(self, n: u32) -> Atoms
         ensures { λ r. ⌜ r .0 ≡ plus (self .0) n ⌝ }
     {
         Atoms(more(self.0, n))
@@ -55,7 +56,7 @@ impl Atoms {
 }
 
 impl Variables {
-    pub fn plus(self, n: u32) -> Variables
+    fn plus(self, n: u32) -> Variables
         ensures { λ r. ⌜ r .0 ≡ plus (self .0) n ⌝ }
     {
         Variables(more(self.0, n))
@@ -63,7 +64,7 @@ impl Variables {
 }
 
 impl Labels {
-    pub fn plus(self, n: u32) -> Labels
+    fn plus(self, n: u32) -> Labels
         ensures { λ r. ⌜ r .0 ≡ plus (self .0) n ⌝ }
     {
         Labels(more(self.0, n))
@@ -151,26 +152,15 @@ impl Builder {
         self
     }
 
-    // Where a chain stands, kept while there is room.
-    fn note(mut self, placed: Placed) -> Builder
-        ensures { λ r. ⌜ Noted placed self r ⌝ }
-    {
-        let i = self.count;
-        if i < MAX_CHAINS {
-            self.placed[i] = placed;
-            self.count = i + 1;
-            return self;
-        }
-        self
-    }
-
-    // A chain that was laid down from here on.
-    fn note_chain(self, sn: u8, role: Role, site: u32, laid: Strand, own: Figures) -> Builder
-        ensures { λ r. ⌜ Noted (placedOf self sn role site laid own) self r ⌝ }
+    // A chain that was laid down from here on: the places after it, its atoms, variables and labels, and where it stands, kept while there is
+    // room.
+    fn settle(mut self, sn: u8, role: Role, site: u32, laid: Strand, own: Figures) -> Builder
+        ensures { λ r. ⌜ Settled (placedOf self sn role site laid own) laid own self r ⌝ }
     {
         let a = self.atoms;
         let v = self.variables;
-        self.note(Placed {
+        let l = self.labels;
+        let placed = Placed {
             sn,
             role,
             first: a.0,
@@ -183,16 +173,7 @@ impl Builder {
             floats: laid.floats,
             total: own.total,
             float_count: own.float_count,
-        })
-    }
-
-    // The places after a chain, and its atoms, variables and labels.
-    fn advance(mut self, laid: Strand, own: Figures) -> Builder
-        ensures { λ r. ⌜ Advanced laid own self r ⌝ }
-    {
-        let a = self.atoms;
-        let v = self.variables;
-        let l = self.labels;
+        };
         let atoms = a.plus(laid.end as u32);
         let variables = v.plus(variables_for(own.unlocated));
         let labels = l.plus(own.rings as u32);
@@ -202,6 +183,12 @@ impl Builder {
         self.atoms = atoms;
         self.variables = variables;
         self.labels = labels;
+        let i = self.count;
+        if i < MAX_CHAINS {
+            self.placed[i] = placed;
+            self.count = i + 1;
+            return self;
+        }
         self
     }
 
@@ -211,12 +198,13 @@ impl Builder {
         out: &mut [u8],
         index: &mut [u16],
         rows: &mut [u8],
-        x: Drawn,
+        x: Shape,
+        part: &[u64],
         sn: u8,
         role: Role,
         site: u32,
     ) -> Builder
-        ensures { λ r. ⌜ FragmentPushed x sn role site (rooms (now (out .entry)) (now (index .entry)) (now (rows .entry))) self (rooms (now (out .exit)) (now (index .exit)) (now (rows .exit))) r ⌝ }
+        ensures { λ r. ⌜ FragmentPushed (drawnOf x (now (part .entry))) sn role site (rooms (now (out .entry)) (now (index .entry)) (now (rows .entry))) self (rooms (now (out .exit)) (now (index .exit)) (now (rows .exit))) r ⌝ }
     {
         let a = self.atoms;
         let l = self.labels;
@@ -229,13 +217,14 @@ impl Builder {
             self.used,
             self.rows,
             x,
+            part,
             role,
             a.0,
             label,
         );
-        let own = strand::figures_of(x);
-        self = self.note_chain(sn, role, site, laid, own);
-        self.advance(laid, own)
+        let own = strand::figures_of(x, part);
+        self = self.settle(sn, role, site, laid, own);
+        self
     }
 
     // A chain of the request at its place; nothing where it has no carbons.
@@ -244,17 +233,18 @@ impl Builder {
         out: &mut [u8],
         index: &mut [u16],
         rows: &mut [u8],
-        x: Drawn,
+        x: Shape,
+        part: &[u64],
         sn: u8,
         role: Role,
         site: u32,
     ) -> Builder
-        ensures { λ r. ⌜ ChainPushed x sn role site (rooms (now (out .entry)) (now (index .entry)) (now (rows .entry))) self (rooms (now (out .exit)) (now (index .exit)) (now (rows .exit))) r ⌝ }
+        ensures { λ r. ⌜ ChainPushed (drawnOf x (now (part .entry))) sn role site (rooms (now (out .entry)) (now (index .entry)) (now (rows .entry))) self (rooms (now (out .exit)) (now (index .exit)) (now (rows .exit))) r ⌝ }
     {
         if x.carbon == 0 {
             return self;
         }
-        self = self.push_fragment(out, index, rows, x, sn, role, site);
+        self = self.push_fragment(out, index, rows, x, part, sn, role, site);
         self
     }
 
@@ -264,15 +254,16 @@ impl Builder {
         out: &mut [u8],
         index: &mut [u16],
         rows: &mut [u8],
-        x: Drawn,
+        x: Shape,
+        part: &[u64],
         sn: u8,
     ) -> Builder
-        ensures { λ r. ⌜ SlotPushed x sn (rooms (now (out .entry)) (now (index .entry)) (now (rows .entry))) self (rooms (now (out .exit)) (now (index .exit)) (now (rows .exit))) r ⌝ }
+        ensures { λ r. ⌜ SlotPushed (drawnOf x (now (part .entry))) sn (rooms (now (out .entry)) (now (index .entry)) (now (rows .entry))) self (rooms (now (out .exit)) (now (index .exit)) (now (rows .exit))) r ⌝ }
     {
         let a = self.atoms;
         let site = a.0;
         let b = self.push_fixed(out, b"O", 1);
-        b.push_chain(out, index, rows, x, sn, Role::Slot, site)
+        b.push_chain(out, index, rows, x, part, sn, Role::Slot, site)
     }
 
     // A chain that stands without an O: its first atom is its site.
@@ -281,14 +272,15 @@ impl Builder {
         out: &mut [u8],
         index: &mut [u16],
         rows: &mut [u8],
-        x: Drawn,
+        x: Shape,
+        part: &[u64],
         sn: u8,
         role: Role,
     ) -> Builder
-        ensures { λ r. ⌜ BarePushed x sn role (rooms (now (out .entry)) (now (index .entry)) (now (rows .entry))) self (rooms (now (out .exit)) (now (index .exit)) (now (rows .exit))) r ⌝ }
+        ensures { λ r. ⌜ BarePushed (drawnOf x (now (part .entry))) sn role (rooms (now (out .entry)) (now (index .entry)) (now (rows .entry))) self (rooms (now (out .exit)) (now (index .exit)) (now (rows .exit))) r ⌝ }
     {
         let a = self.atoms;
-        self.push_chain(out, index, rows, x, sn, role, a.0)
+        self.push_chain(out, index, rows, x, part, sn, role, a.0)
     }
 
     // What follows the text: the labels of the sites, marks and site lists, what may be exchanged, and the sums. The site lists are read from the

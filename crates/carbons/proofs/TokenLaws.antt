@@ -19,10 +19,9 @@ use Rattle.record.specs.declared.Ring.{Ring}
 use Rattle.chain.specs.Lists.{anyOf, valuesFrom}
 use Rattle.chain.specs.Features.{literalEnd}
 use Rattle.chain.specs.Bonds.{openMark, opensDown, closeMark, closeByte, markBond, markFrom, geometryAt, plainBond, plainBonds}
-use Rattle.drawable.specs.declared.Drawn.{Drawn}
-use Rattle.drawable.specs.Drawn.{bondsDrawn, groupsDrawn, ringsDrawn, SaysUpTo}
-use Rattle.carbons.specs.declared.ChainTokens.{ChainTokens}
-use Rattle.carbons.specs.Tokens.{TokensOf}
+use Rattle.drawable.specs.declared.Shape.{Shape}
+use Rattle.drawable.specs.Drawn.{Drawn, bondsIn, groupsIn, ringsIn, bondsPart, groupsPart, ringsPart, drawnOf, bondsDrawn, groupsDrawn, ringsDrawn, SaysUpTo}
+use Rattle.carbons.specs.Tokens.{tokens, TokensOf}
 use Rattle.carbons.specs.ByCarbon.{doubleAt, bridgeAt, groupOn, ringOn, carbonylOn, busyAt, SetWhere, Geometries, Marks, PlainBonds, BondsBy, Busy}
 use Rattle.carbons.proofs.BondLaws.{where-none, where-one, length-marks}
 
@@ -165,10 +164,10 @@ busy-all {acyl} {gs} {rs} {zs} {ks} {js} {is} e u v w =
 
 -- ---- all of it
 
-pub tokens-are : {x : Drawn} {bs us : List ℕ} {f e l : ℕ} → BondsBy (bondsDrawn x) (ringsDrawn x) (x .carbon) bs
+tokens-say : {x : Drawn} {bs us : List ℕ} {f e l : ℕ} → BondsBy (bondsDrawn x) (ringsDrawn x) (x .carbon) bs
     → Busy (x .acyl) (groupsDrawn x) (ringsDrawn x) us → f ≡ max (x .first) 1 → SaysUpTo x e literalEnd → l ≡ min e 255
-    → TokensOf x (record { first = f; last = l; bonds = bs; busy = us })
-tokens-are {x} {e = e} {l} b u f s m =
+    → TokensOf x (tokens f l bs us)
+tokens-say {x} {e = e} {l} b u f s m =
     record {
       first = f;
       room = omega arith;
@@ -176,3 +175,10 @@ tokens-are {x} {e = e} {l} b u f s m =
       bonds = b;
       busy = u;
     }
+
+-- where the lists stand in the part of a chain
+pub tokens-are : {x : Shape} (l : List ℕ) {ds gs rs bs us : List ℕ} {f e m : ℕ} → rs ≡ ringsPart l → ds ≡ bondsPart l
+    → BondsBy (bondsIn (x .«bond_count») ds) (ringsIn (x .«ring_count») rs) (x .carbon) bs → gs ≡ groupsPart l
+    → Busy (x .acyl) (groupsIn (x .«group_count») gs) (ringsIn (x .«ring_count») rs) us → f ≡ max (x .first) 1 → SaysUpTo (drawnOf x l) e literalEnd
+    → m ≡ min e 255 → TokensOf (drawnOf x l) (tokens f m bs us)
+tokens-are l a b v c w f s m = tokens-say (rw (a, b) at v) (rw (a, c) at w) f s m

@@ -4,10 +4,15 @@ use mathlib.Core.Path.{_≡_}
 use mathlib.Core.List.{List}
 use Rattle.record.specs.Chain.{maxCarbons}
 use Rattle.chain.specs.Features.{literalEnd}
-use Rattle.drawable.specs.declared.Drawn.{Drawn}
-use Rattle.drawable.specs.Drawn.{bondsDrawn, groupsDrawn, ringsDrawn, Says}
-use Rattle.carbons.specs.declared.ChainTokens.{ChainTokens}
+use Rattle.drawable.specs.Drawn.{Drawn, bondsDrawn, groupsDrawn, ringsDrawn, Says}
 use Rattle.carbons.specs.ByCarbon.{BondsBy, Busy}
+
+-- the bond after each carbon, whether a carbon carries anything (1) or not (0), the first drawn carbon and the last literal one
+pub record ChainTokens : Type 0 where
+  pub first : ℕ
+  pub last : ℕ
+  pub bonds : List ℕ
+  pub busy : List ℕ
 
 -- the same, its parts given: a function to which the arrays are lent has them apart
 abbrev pub tokens : ℕ → ℕ → List ℕ → List ℕ → ChainTokens

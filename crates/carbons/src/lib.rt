@@ -1,15 +1,15 @@
 // The bonds of a chain in an array by carbon, with their marks, and which carbons carry anything. The groups and rings are gone through once;
 // after that each carbon is looked up.
-use drawable::Drawn;
+use drawable::Shape;
 use record::Bridge;
 use record::Geometry;
 ghost use mathlib.Core.Path.{_≡_};
 ghost use Prim.Native.Nat.{_≤_, _<_, min, max};
 ghost use lib.ListN.{length, set, replicate};
 ghost use Rattle.chain.specs.Bonds.{openMark, closeMark, markBond, closeByte, bridged, double};
-ghost use Rattle.drawable.specs.Drawn.{bondsIn, groupsIn, ringsIn};
+ghost use Rattle.drawable.specs.Drawn.{bondsIn, groupsIn, ringsIn, drawnOf};
 ghost use Rattle.carbons.specs.ByCarbon.{geometryByte, geometryOf, doubleAt, bridgeAt, groupOn, ringOn, carbonylOn, SetWhere, Geometries, Marks, PlainBonds, BondsBy, Busy};
-ghost use Rattle.carbons.specs.Tokens.{TokensOf};
+ghost use Rattle.carbons.specs.Tokens.{tokens, TokensOf};
 
 // Carbons 0 to 255.
 pub const CARBON_ROOM: usize = 256;
@@ -261,42 +261,36 @@ fn busy_carbons<'a>(
     set_carbonyl(busy, acyl);
 }
 
-// What is known of each carbon: the bond after it, and whether it carries anything (1) or not (0); with the first drawn carbon and the last
-// literal one.
-pub struct ChainTokens {
+// The carbons of a chain that are written one by one: from the first drawn one to the last literal one.
+pub struct Span {
     pub first: u16,
     pub last: u16,
-    pub bonds: [u8; CARBON_ROOM],
-    pub busy: [u8; CARBON_ROOM],
 }
 
-pub fn chain_tokens(x: Drawn) -> ChainTokens
-    ensures { λ r. ⌜ TokensOf x r ⌝ }
+// What is known of each carbon, into two arrays of noughts: the bond after it, and whether it carries anything (1) or not (0).
+pub fn chain_tokens(x: Shape, part: &[u64], bonds: &mut [u8], busy: &mut [u8]) -> Span
+    requires { ⌜ now bonds ≡ replicate 256 0 ⌝ }
+    requires { ⌜ now busy ≡ replicate 256 0 ⌝ }
+    ensures { λ r. ⌜ TokensOf (drawnOf x (now (part .entry))) (tokens (r .first) (r .last) (now (bonds .exit)) (now (busy .exit))) ⌝ }
 {
-    let mut bonds = [0u8; CARBON_ROOM];
-    let mut busy = [0u8; CARBON_ROOM];
+    let rings = drawable::rings_part(part);
     marked_bonds(
-        &mut bonds,
-        &x.bonds,
+        bonds,
+        drawable::bonds_part(part),
         x.bond_count,
-        &x.rings,
+        rings,
         x.ring_count,
         x.carbon,
     );
     busy_carbons(
-        &mut busy,
+        busy,
         x.acyl,
-        &x.groups,
+        drawable::groups_part(part),
         x.group_count,
-        &x.rings,
+        rings,
         x.ring_count,
     );
     let first = from_one(x.first);
-    let last = in_room(reach::literal_end(x));
-    ChainTokens {
-        first,
-        last,
-        bonds,
-        busy,
-    }
+    let last = in_room(reach::literal_end(x, part));
+    Span { first, last }
 }

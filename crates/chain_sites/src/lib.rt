@@ -20,11 +20,10 @@ ghost use Rattle.atoms.specs.Atoms.{Counts};
 ghost use Rattle.chain_sites.specs.Sites.{skipped, siteListsOf, siteListsIn};
 
 // The atoms of a group's branch.
-fn branch_atoms(row: u8) -> u32
+fn wide_branch_atoms(row: u8) -> u32
     ensures { λ r. ⌜ Counts 5 (branchPart row .size) r ⌝ }
 {
-    let group = groups::row_at(row);
-    group.atoms as u32
+    atoms::branch_atoms(row) as u32
 }
 
 // A floating atom with its sites.
@@ -45,7 +44,7 @@ fn put_floats(out: &mut [u8], next: Next, rows: &[u8], atom: u32, sites: &[u16])
     let mut i = 0;
     while i < rows.len() {
         b = put_float(out, b, here, sites);
-        here += 1 + branch_atoms(rows[i]);
+        here += 1 + wide_branch_atoms(rows[i]);
         i += 1;
     }
     b

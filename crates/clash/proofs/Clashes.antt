@@ -17,8 +17,7 @@ use Rattle.record.specs.Chain.{Chain}
 use Rattle.chain.specs.declared.Role.{Role}
 use Rattle.chain.specs.Lists.{anyOf, anyTwo}
 use Rattle.chain.specs.Refusals.{sameBond, epoxideOn, smallRing, sameRing, clashes}
-use Rattle.drawable.specs.declared.Drawn.{Drawn}
-use Rattle.drawable.specs.Drawn.{bondsDrawn, ringsDrawn, noBond, Length, Draws, Says}
+use Rattle.drawable.specs.Drawn.{Drawn, bondsIn, ringsIn, bondsDrawn, ringsDrawn, noBond, Length, Draws, Says}
 use Rattle.clash.specs.Places.{bondAt, rising}
 use Rattle.drawable.proofs.Lists.{any-same, eqb-swap}
 
@@ -103,6 +102,7 @@ on-carbocycle x l e = rw e
 
 -- ---- the whole chain
 
+-- its lists are lent as bs and rs
 module _ (x : Drawn) where
   clashes-as : (r : Role) (d : Chain) → Draws r d x
       → clashes r d
@@ -111,17 +111,26 @@ module _ (x : Drawn) where
   unfolding clashes
   clashes-as r d w = rw (w .bonds, w .rings)
 
-  module _ (t₁ : Bool) (e₁ : t₁ ≡ anyTwo sameBond (bondsDrawn x)) where
+  module _ (bs : List ℕ) (p₁ : bs ≡ x .bonds) (t₁ : Bool) (e₁ : t₁ ≡ anyTwo sameBond (bondsIn (x .«bond_count») bs)) where
+    as₁ : anyTwo sameBond (bondsDrawn x) ≡ t₁
+    as₁ = rw (← p₁) (sym e₁)
+
     pub clash-bonds : t₁ ≡ true → Says x true clashes
-    clash-bonds f₁ = record { is = λ r d w. sym (clashes-as r d w ∙ rw (sym e₁ ∙ f₁)) }
+    clash-bonds f₁ = record { is = λ r d w. sym (clashes-as r d w ∙ rw (as₁ ∙ f₁)) }
 
-    module _ (f₁ : t₁ ≡ false) (t₂ : Bool) (e₂ : t₂ ≡ anyOf (epoxideOn (bondsDrawn x)) (ringsDrawn x)) where
+    module _ (f₁ : t₁ ≡ false) (rs : List ℕ) (p₂ : rs ≡ x .rings) (t₂ : Bool) (e₂ : t₂ ≡ anyOf (epoxideOn (bondsIn (x .«bond_count») bs)) (ringsIn (x .«ring_count») rs)) where
+      as₂ : anyOf (epoxideOn (bondsDrawn x)) (ringsDrawn x) ≡ t₂
+      as₂ = rw (← p₁, ← p₂) (sym e₂)
+
       pub clash-epoxide : t₂ ≡ true → Says x true clashes
-      clash-epoxide f₂ = record { is = λ r d w. sym (clashes-as r d w ∙ rw (sym e₁ ∙ f₁, sym e₂ ∙ f₂)) }
+      clash-epoxide f₂ = record { is = λ r d w. sym (clashes-as r d w ∙ rw (as₁ ∙ f₁, as₂ ∙ f₂)) }
 
-      module _ (f₂ : t₂ ≡ false) (t₃ : Bool) (e₃ : t₃ ≡ anyOf smallRing (ringsDrawn x)) where
+      module _ (f₂ : t₂ ≡ false) (t₃ : Bool) (e₃ : t₃ ≡ anyOf smallRing (ringsIn (x .«ring_count») rs)) where
+        as₃ : anyOf smallRing (ringsDrawn x) ≡ t₃
+        as₃ = rw (← p₂) (sym e₃)
+
         pub clash-small : t₃ ≡ true → Says x true clashes
-        clash-small f₃ = record { is = λ r d w. sym (clashes-as r d w ∙ rw (sym e₁ ∙ f₁, sym e₂ ∙ f₂, sym e₃ ∙ f₃)) }
+        clash-small f₃ = record { is = λ r d w. sym (clashes-as r d w ∙ rw (as₁ ∙ f₁, as₂ ∙ f₂, as₃ ∙ f₃)) }
 
-        pub clash-rings : (t₄ : Bool) → t₃ ≡ false → t₄ ≡ anyTwo sameRing (ringsDrawn x) → Says x t₄ clashes
-        clash-rings t₄ f₃ e₄ = record { is = λ r d w. sym (clashes-as r d w ∙ rw (sym e₁ ∙ f₁, sym e₂ ∙ f₂, sym e₃ ∙ f₃) (sym e₄)) }
+        pub clash-rings : (t₄ : Bool) → t₃ ≡ false → t₄ ≡ anyTwo sameRing (ringsIn (x .«ring_count») rs) → Says x t₄ clashes
+        clash-rings t₄ f₃ e₄ = record { is = λ r d w. sym (clashes-as r d w ∙ rw (as₁ ∙ f₁, as₂ ∙ f₂, as₃ ∙ f₃, ← p₂) (sym e₄)) }

@@ -1,6 +1,6 @@
 // 33: two features that clash. Features are held against features, never against carbons. What a clash is, is said by the definitions of the
 // crate `chain`.
-use drawable::Drawn;
+use drawable::Shape;
 use record::Bridge;
 use record::DbPos;
 use record::Ring;
@@ -9,7 +9,7 @@ ghost use Prim.Native.Nat.{_+_};
 ghost use lib.ListN.{drop};
 ghost use Rattle.chain.specs.Lists.{anyOf, anyTwo};
 ghost use Rattle.chain.specs.Refusals.{sameBond, epoxideOn, smallRing, sameRing, clashes};
-ghost use Rattle.drawable.specs.Drawn.{bondsIn, ringsIn, Says};
+ghost use Rattle.drawable.specs.Drawn.{bondsIn, ringsIn, drawnOf, Says};
 ghost use Rattle.clash.specs.Places.{bondAt, rising};
 
 // Whether a double bond stands at p.
@@ -184,17 +184,19 @@ fn repeated_ring(rings: &[u64], count: usize) -> bool
 }
 
 // 33: whether two features clash.
-pub fn clash(x: Drawn) -> bool
-    ensures { λ r. ⌜ Says x r clashes ⌝ }
+pub fn clash(x: Shape, part: &[u64]) -> bool
+    ensures { λ r. ⌜ Says (drawnOf x (now (part .entry))) r clashes ⌝ }
 {
-    if repeated_bond(&x.bonds, x.bond_count) {
+    let bonds = drawable::bonds_part(part);
+    if repeated_bond(bonds, x.bond_count) {
         return true;
     }
-    if any_epoxide_on(&x.rings, x.ring_count, &x.bonds, x.bond_count) {
+    let rings = drawable::rings_part(part);
+    if any_epoxide_on(rings, x.ring_count, bonds, x.bond_count) {
         return true;
     }
-    if any_small_ring(&x.rings, x.ring_count) {
+    if any_small_ring(rings, x.ring_count) {
         return true;
     }
-    repeated_ring(&x.rings, x.ring_count)
+    repeated_ring(rings, x.ring_count)
 }

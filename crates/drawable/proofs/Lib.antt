@@ -1,4 +1,4 @@
 pub mod Held
 pub mod Through
 pub mod Lists
-pub mod Counts
+pub mod Parts

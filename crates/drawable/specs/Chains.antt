@@ -1,9 +1,29 @@
 -- The chains of a request as they are drawn. Assumes nothing.
-use mathlib.Core.List.{List}
-use lib.ListN.{take}
-use Rattle.drawable.specs.declared.Drawn.{Drawn}
-use Rattle.drawable.specs.declared.Chains.{Chains}
+use Prim.Native.Nat.{ℕ, _-_, _*_}
+use mathlib.Core.List.{List, [], _∷_}
+use lib.ListN.{take, drop}
+use Rattle.drawable.specs.declared.Shape.{Shape}
+use Rattle.drawable.specs.declared.Shapes.{Shapes}
+use Rattle.drawable.specs.Drawn.{Drawn, drawnOf}
+
+-- drawn chains, and how many of them count
+pub record Chains : Type 0 where
+  pub count : ℕ
+  pub items : List Drawn
 
 -- those that count
 unfoldable pub drawnIn : Chains → List Drawn
 drawnIn x = take (x .count) (x .items)
+
+-- the part of the chain with an sn
+unfoldable pub partOf : ℕ → List ℕ → List ℕ
+partOf sn l = take 77 (drop (77 * (sn - 1)) l)
+
+-- the chains of numbers and parts, one by one
+unfoldable pub itemsOf : List Shape → List ℕ → List Drawn
+itemsOf [] l = []
+itemsOf (x ∷ xs) l = drawnOf x (take 77 l) ∷ itemsOf xs (drop 77 l)
+
+-- the chains that the numbers of the code and an array say
+abbrev pub chainsOf : Shapes → List ℕ → Chains
+chainsOf x l = record { count = x .count; items = itemsOf (x .items) l }

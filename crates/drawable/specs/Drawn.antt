@@ -4,7 +4,7 @@ use mathlib.Core.Path.{_≡_}
 use mathlib.Core.List.{List, map}
 use mathlib.Core.Bool.{Bool}
 use lib.Dec.{eqb}
-use lib.ListN.{length, take}
+use lib.ListN.{length, take, drop}
 use Rattle.record.specs.declared.Geometry.the-variants.{Unstated}
 use Rattle.record.specs.declared.Bridge.the-variants.{Epoxide}
 use Rattle.record.specs.declared.DbPos.{DbPos}
@@ -16,7 +16,7 @@ use Rattle.parsed.specs.declared.ParsedChain.{ParsedChain}
 use Rattle.chain.specs.declared.Role.{Role}
 use Rattle.chain.specs.Features.{firstDrawn, isAcyl, doubles, groupsOn, floating}
 use Rattle.chain.specs.Refusals.{etherBase}
-use Rattle.drawable.specs.declared.Drawn.{Drawn}
+use Rattle.drawable.specs.declared.Shape.{Shape}
 
 -- what an array of numbers with a count holds
 unfoldable pub bondsIn : ℕ → List ℕ → List DbPos
@@ -56,6 +56,42 @@ unfoldable pub chainOf : ParsedChain → Chain
 chainOf c =
     record { prefix = c .prefix; written = c .written; carbon = c .carbon; branched = c .branched; unlocated = c .unlocated; oxygens = c .oxygens; bonds = bondsIn (min (c .«bond_count») maxBonds) (c .bonds); groups = groupsIn (min (c .«group_count») maxGroups) (c .groups); rings = ringsIn (min (c .«ring_count») maxRings) (c .rings) }
 
+-- ---- a chain as it is drawn
+
+-- its numbers, and its lists as numbers
+pub record Drawn : Type 0 where
+  pub first : ℕ
+  pub carbon : ℕ
+  pub acyl : Bool
+  pub «ether_base» : Bool
+  pub unlocated : ℕ
+  pub «bond_count» : ℕ
+  pub «group_count» : ℕ
+  pub «float_count» : ℕ
+  pub «ring_count» : ℕ
+  pub bonds : List ℕ
+  pub groups : List ℕ
+  pub floats : List ℕ
+  pub rings : List ℕ
+
+-- the rooms of the lists in the part of a chain
+unfoldable pub bondsPart : List ℕ → List ℕ
+bondsPart l = take 33 l
+
+unfoldable pub groupsPart : List ℕ → List ℕ
+groupsPart l = take 18 (drop 33 l)
+
+unfoldable pub floatsPart : List ℕ → List ℕ
+floatsPart l = take 18 (drop 51 l)
+
+unfoldable pub ringsPart : List ℕ → List ℕ
+ringsPart l = take 8 (drop 69 l)
+
+-- the drawn chain that numbers of the code and a part say
+abbrev pub drawnOf : Shape → List ℕ → Drawn
+drawnOf x l =
+    record { first = x .first; carbon = x .carbon; acyl = x .acyl; «ether_base» = x .«ether_base»; unlocated = x .unlocated; «bond_count» = x .«bond_count»; «group_count» = x .«group_count»; «float_count» = x .«float_count»; «ring_count» = x .«ring_count»; bonds = bondsPart l; groups = groupsPart l; floats = floatsPart l; rings = ringsPart l }
+
 -- the lists of a drawn chain
 abbrev pub bondsDrawn : Drawn → List DbPos
 bondsDrawn x = bondsIn (x .«bond_count») (x .bonds)
@@ -80,12 +116,6 @@ pub record Draws (r : Role) (d : Chain) (x : Drawn) : Type 0 where
   pub groups : groupsDrawn x ≡ groupsOn r d
   pub floats : floatsDrawn x ≡ floating d
   pub rings : ringsDrawn x ≡ d .rings
-
-abbrev pub ringCount : Role → Chain → ℕ
-ringCount r d = length (d .rings)
-
-abbrev pub floatCount : Role → Chain → ℕ
-floatCount r d = length (floating d)
 
 -- a is what f says of every chain that x draws
 pub record Says {A : Type 0} (x : Drawn) (a : A) (f : Role → Chain → A) : Type 0 where

@@ -1,26 +1,34 @@
-// A chain as it is drawn in its place, and how its lists are read: its double bonds, groups and rings stand as numbers (crate `codes`) in
-// arrays with a count each, which are lent whole. Every function is defined for every slice and count: a count past the slice counts as its
-// length. Which lists a drawn chain holds is said by specs/Drawn.antt, from the definitions of the crate `chain`.
+// A chain as it is drawn in its place, and how its lists are read: its double bonds, groups and rings stand as numbers (crate `codes`), each
+// list with a room of its own in one part of an array, which is lent; what is counted of them goes by value. Every function is defined for
+// every slice and count: a count past the slice counts as its length, and past the end of a part nothing stands. Which lists a drawn chain
+// holds is said by specs/Drawn.antt, from the definitions of the crate `chain`.
 use record::DbPos;
-use record::GROUP_ROOM;
-use record::MAX_RINGS;
 use record::Mod;
 use record::Ring;
 ghost use mathlib.Core.Path.{_≡_};
-ghost use lib.ListN.{length, take, getD};
+ghost use Prim.Native.Nat.{_-_, _≤_};
+ghost use lib.ListN.{length, take, drop, getD};
 ghost use Rattle.chain.specs.Lists.{anyOf};
-ghost use Rattle.drawable.specs.Drawn.{bondsIn, groupsIn, ringsIn, noBond, noGroup, noRing, Length, groupAt, ringCount, floatCount, Says};
+ghost use Rattle.drawable.specs.Drawn.{bondsIn, groupsIn, ringsIn, noBond, noGroup, noRing, Length, groupAt, bondsPart, groupsPart, floatsPart, ringsPart};
+ghost use Rattle.drawable.specs.Chains.{partOf};
 
 // Room for the double bonds read and for the one that `P-` adds.
 pub const BOND_ROOM: usize = 33;
 
+// Room for the lists of a chain: of its 77 numbers the first 33 are for its double bonds, 18 for its groups with a position, 18 for those
+// without, and 8 for its rings.
+pub const CHAIN_ROOM: usize = 77;
+
 // The most chains that a template takes.
 pub const MAX_CHAINS: usize = 4;
 
-// What is drawn of a chain: its carbons from `first` to `carbon`, whether C1 carries a doubly bonded O, whether an ether stands where a base
-// should, the number of its double bonds without a position; and its located double bonds, its groups with a position and those without, and
-// its rings, each list a count and an array.
-pub struct Drawn {
+// Room for the lists of the chains of a request, a part for each.
+pub const LIST_ROOM: usize = 308;
+
+// What is drawn of a chain, but for its lists: its carbons from `first` to `carbon`, whether C1 carries a doubly bonded O, whether an ether
+// stands where a base should, the number of its double bonds without a position; and how many located double bonds, groups with a position,
+// groups without one, and rings it has.
+pub struct Shape {
     pub first: u16,
     pub carbon: u16,
     pub acyl: bool,
@@ -30,16 +38,66 @@ pub struct Drawn {
     pub group_count: usize,
     pub float_count: usize,
     pub ring_count: usize,
-    pub bonds: [u64; BOND_ROOM],
-    pub groups: [u64; GROUP_ROOM],
-    pub floats: [u64; GROUP_ROOM],
-    pub rings: [u64; MAX_RINGS],
 }
 
-// The chains of a request as they are drawn, in the order of its tokens.
-pub struct Chains {
+// The chains of a request as they are drawn, but for their lists, in the order of its tokens.
+pub struct Shapes {
     pub count: usize,
-    pub items: [Drawn; MAX_CHAINS],
+    pub items: [Shape; MAX_CHAINS],
+}
+
+// The numbers from a place up to another, as far as there are any.
+fn between(xs: &[u64], from: usize, to: usize) -> &[u64]
+    requires { ⌜ from ≤ to ⌝ }
+    ensures { λ r. ⌜ now r ≡ take (to - from) (drop from (now (xs .entry))) ⌝ }
+{
+    let n = xs.len();
+    if to <= n {
+        return &xs[from..to];
+    }
+    if from <= n {
+        return &xs[from..n];
+    }
+    &xs[0..0]
+}
+
+// The room of the double bonds in the part of a chain.
+pub fn bonds_part(part: &[u64]) -> &[u64]
+    ensures { λ r. ⌜ now r ≡ bondsPart (now (part .entry)) ⌝ }
+{
+    between(part, 0, 33)
+}
+
+// That of the groups with a position.
+pub fn groups_part(part: &[u64]) -> &[u64]
+    ensures { λ r. ⌜ now r ≡ groupsPart (now (part .entry)) ⌝ }
+{
+    between(part, 33, 51)
+}
+
+// That of the groups without one.
+pub fn floats_part(part: &[u64]) -> &[u64]
+    ensures { λ r. ⌜ now r ≡ floatsPart (now (part .entry)) ⌝ }
+{
+    between(part, 51, 69)
+}
+
+// That of the rings.
+pub fn rings_part(part: &[u64]) -> &[u64]
+    ensures { λ r. ⌜ now r ≡ ringsPart (now (part .entry)) ⌝ }
+{
+    between(part, 69, 77)
+}
+
+// The part of the chain with an sn among the lists of a request.
+pub fn chain_part(lists: &[u64], sn: u8) -> &[u64]
+    ensures { λ r. ⌜ now r ≡ partOf sn (now (lists .entry)) ⌝ }
+{
+    if sn == 0 {
+        return between(lists, 0, CHAIN_ROOM);
+    }
+    let from = CHAIN_ROOM * ((sn - 1) as usize);
+    between(lists, from, from + CHAIN_ROOM)
 }
 
 // How many numbers of a slice a count counts.
@@ -127,18 +185,4 @@ pub fn group_at(groups: &[u64], count: usize, p: u32) -> bool
         i += 1;
     }
     false
-}
-
-// The rings of a chain.
-pub fn ring_count(x: Drawn) -> u16
-    ensures { λ r. ⌜ Says x r ringCount ⌝ }
-{
-    rings_len(&x.rings, x.ring_count) as u16
-}
-
-// The floating groups of a chain.
-pub fn float_count(x: Drawn) -> u16
-    ensures { λ r. ⌜ Says x r floatCount ⌝ }
-{
-    groups_len(&x.floats, x.float_count) as u16
 }

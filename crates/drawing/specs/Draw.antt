@@ -6,7 +6,7 @@ use mathlib.Core.List.{List}
 use lib.ListN.{length}
 use lib.Seq.{sets}
 use Rattle.record.specs.Chain.{Chain}
-use Rattle.drawable.specs.declared.Chains.{Chains}
+use Rattle.drawable.specs.Chains.{Chains}
 use Rattle.template.specs.declared.Class.{Class}
 use Rattle.template.specs.Template.{elements, hasTail}
 use Rattle.template.specs.Request.{placed, lineOf}
@@ -26,7 +26,7 @@ pub record Ready (c : Class) (t : List ℕ) (k : ℕ) (x : Chains) (ds : List Ch
   pub stood : StoodIn c ds x
   pub fits : FitsAll t ds (elements c)
   pub told : Each Told (placed c t ds)
-  pub room : (xs : Rooms) → 1032 ≤ length (xs .index) → 72 ≤ length (xs .rows) → Roomy (placed c t ds) xs
+  pub room : (xs : Rooms) → 1020 ≤ length (xs .index) → 72 ≤ length (xs .rows) → Roomy (placed c t ds) xs
 
 -- the line of every request whose chains these are is written
 pub record LineWritten (c : Class) (swap : Bool) (t : List ℕ) (k : ℕ) (x : Chains) (xs ys : List ℕ) : Type 0 where

@@ -1,6 +1,7 @@
 // A request that was judged, drawn: its line and its index lists, or 41 where a slice is too short for them. The answer, and what both slices
 // hold afterwards, are said by specs/Answer.antt.
-use drawable::Chains;
+use drawable::LIST_ROOM;
+use drawable::Shapes;
 use lines::Line;
 use listing::Listed;
 use listing::Lists;
@@ -11,6 +12,7 @@ use shown::Site;
 use template::Class;
 ghost use mathlib.Core.Path.{_≡_};
 ghost use mathlib.Core.List.{[]};
+ghost use Rattle.drawable.specs.Chains.{chainsOf};
 ghost use Rattle.drawing.specs.Answer.{listsOf, sitesOf, refusal};
 ghost use Rattle.drawing.specs.Draw.{LineWritten, ChainsDrawn};
 
@@ -21,7 +23,7 @@ pub const SHORT_SLICE: u16 = 41;
 const TEXT_ROOM: usize = 1024;
 
 // Room for the indices of four chains.
-const INDEX_ROOM: usize = 1032;
+const INDEX_ROOM: usize = 1020;
 
 // Room for the rows of their floating groups.
 const ROW_ROOM: usize = 72;
@@ -75,9 +77,10 @@ fn build_there(
     swap: bool,
     tail: &[u8],
     tail_atoms: u16,
-    chains: Chains,
+    shapes: Shapes,
+    lists: &[u64],
 )
-    ensures { λ _. ⌜ LineWritten class swap (now (tail .entry)) «tail_atoms» chains (now (line .entry)) (now (line .exit)) ⌝ }
+    ensures { λ _. ⌜ LineWritten class swap (now (tail .entry)) «tail_atoms» (chainsOf shapes (now (lists .entry))) (now (line .entry)) (now (line .exit)) ⌝ }
 {
     let mut numbers = [0u16; INDEX_ROOM];
     let mut rows = [0u8; ROW_ROOM];
@@ -89,7 +92,8 @@ fn build_there(
         swap,
         tail,
         tail_atoms,
-        chains,
+        shapes,
+        lists,
     );
 }
 
@@ -102,10 +106,12 @@ pub fn draw_chains(
     swap: bool,
     tail: &[u8],
     tail_atoms: u16,
-    chains: Chains,
+    shapes: Shapes,
+    lists: &[u64; LIST_ROOM],
 ) -> Answer
-    ensures { λ r. ⌜ ChainsDrawn class swap (now (tail .entry)) «tail_atoms» chains (now (line .entry)) (now (index .entry)) (now (line .exit)) (now (index .exit)) r ⌝ }
+    ensures { λ r. ⌜ ChainsDrawn class swap (now (tail .entry)) «tail_atoms» (chainsOf shapes (now (lists .entry))) (now (line .entry)) (now (index .entry)) (now (line .exit)) (now (index .exit)) r ⌝ }
 {
+    let parts = &lists[..];
     let mut text = [0u8; TEXT_ROOM];
     let mut numbers = [0u16; INDEX_ROOM];
     let mut rows = [0u8; ROW_ROOM];
@@ -117,7 +123,8 @@ pub fn draw_chains(
         swap,
         tail,
         tail_atoms,
-        chains,
+        shapes,
+        parts,
     );
     let b = built.builder;
     let length = b.at;
@@ -127,8 +134,8 @@ pub fn draw_chains(
     let placed = b.placed;
     let order = built.order;
     let sites = built.sites;
-    let lists = listing::lists_by_sn(placed, order);
-    let indices = listing::index_count(lists);
+    let listed = listing::lists_by_sn(placed, order);
+    let indices = listing::index_count(listed);
     if index.len() < indices {
         return refused(SHORT_SLICE, 0);
     }
@@ -136,7 +143,7 @@ pub fn draw_chains(
         number: 0,
         token: 0,
         length,
-        lists,
+        lists: listed,
         sites,
     };
     let end = indices::write_indices(index, &numbers, placed, order);
@@ -144,6 +151,6 @@ pub fn draw_chains(
         let copied = copying::copy_text(line, &text[0..length]);
         return answer;
     }
-    build_there(line, class, swap, tail, tail_atoms, chains);
+    build_there(line, class, swap, tail, tail_atoms, shapes, parts);
     answer
 }

@@ -7,8 +7,8 @@ use mathlib.Core.Path.{_≡_, refl, sym, ap, _∙_}
 use mathlib.Core.Bool.{Bool, true, false, cond, not}
 use mathlib.Core.List.{List, [], _∷_, _++_, map, map-append, append-assoc, append-nil}
 use lib.Dec.{eqb}
-use lib.ListN.{length, take, drop, set, getD, replicate, length-append, length-take, length-map, List·getD-map}
-use lib.Seq.{take-suc, take-suc-set, take-all, take-append-le, getD-take}
+use lib.ListN.{length, take, drop, set, getD, length-append, length-take, length-map, List·getD-map}
+use lib.Seq.{take-suc, take-suc-set, take-set-le, take-all, take-append-le, getD-take}
 use borrow.Author.Tests.{eq-eqb, ne-eqb}
 use Rattle.record.specs.declared.ChainPrefix.{ChainPrefix}
 use Rattle.record.specs.declared.ChainPrefix.the-variants as prefix
@@ -27,8 +27,7 @@ use Rattle.codes.proofs.Laws.{bond-back, group-back}
 use Rattle.drawable.specs.Drawn.{bondsIn, groupsIn, ringsIn, noGroup, Length, groupAt, chainOf}
 use Rattle.drawable.proofs.Through.{only-skip, only-keep, only-all}
 use Rattle.drawable.proofs.Lists.{length-only, take-front}
-use Rattle.fitted.specs.declared.Listed.{Listed}
-use Rattle.fitted.specs.Fitted.{alkenyl, listed}
+use Rattle.fitted.specs.Fitted.{alkenyl, More}
 
 -- ---- a chain that a record holds, within its limits, is the one that its arrays say
 
@@ -97,7 +96,7 @@ bond-stands b v h e = ap bondIn e ∙ bond-back b h
 pub group-stands : (g : Mod) (v : ℕ) → g .pos < 4294967296 → g .row < 256 → v ≡ groupCode g → groupIn v ≡ g
 group-stands g v h k e = ap groupIn e ∙ group-back g h k
 
--- ---- the double bonds: an array filled with that of `P-`, of which those that are added count
+-- ---- the double bonds: that of `P-` first, which is written over where it is not added
 
 alkenyl-front : (r : Role) (p : ChainPrefix) → take (length (alkenylBond r p)) (alkenyl ∷ []) ≡ alkenylBond r p
 unfolding alkenylBond
@@ -130,11 +129,11 @@ alkenyl-short Acyl prefix.SphingoidT = omega arith
 pub adds-few : (r : Role) (p : ChainPrefix) (k : ℕ) → k ≡ length (alkenylBond r p) → k ≤ 1
 adds-few r p k e = rw e (alkenyl-short r p)
 
-pub bonds-none : (k v : ℕ) (xs : List ℕ) → k ≤ 1 → bondIn v ≡ alkenyl → bondsIn (k + 0) (replicate 33 v) ≡ take k (alkenyl ∷ []) ++ bondsIn 0 xs
+pub bonds-none : (k v : ℕ) (xs ys : List ℕ) → length ys ≡ 33 → k ≤ 1 → bondIn v ≡ alkenyl → bondsIn (k + 0) (set ys 0 v) ≡ take k (alkenyl ∷ []) ++ bondsIn 0 xs
 unfolding bondsIn
-bonds-none zero v xs h e = refl
-bonds-none (suc zero) v xs h e = rw e
-bonds-none (suc (suc k)) v xs h e = absurd (omega arith)
+bonds-none zero v xs ys l h e = refl
+bonds-none (suc zero) v xs ys l h e = rw (take-suc-set ys 0 v (omega arith), e)
+bonds-none (suc (suc k)) v xs ys l h e = absurd (omega arith)
 
 -- one bond more of those in the lent array, behind a
 pub bonds-next : (a : List DbPos) (xs ys : List ℕ) (k i n : ℕ) → n ≤ length xs → length ys ≡ 33 → k ≤ 1 → n ≤ 32 → bondsIn (k + i) ys ≡ a ++ bondsIn i xs → i < n
@@ -186,12 +185,12 @@ module _ (xs : List ℕ) (n i : ℕ) (f : n ≤ length xs) where
         only-keep (λ g. eqb (g .pos) 0) n (groupsIn n xs) n i noGroup g (groupsIn j ys) whole v h (here h g e) (groupsIn (j + 1) (set ys j (getD xs i 0))) (eq-eqb (g .pos) 0 z) put
 
   module _ (ys : List ℕ) (j : ℕ) (h : n ≤ i) where
-    pub located-end : groupsIn j ys ++ located (drop i (groupsIn n xs)) ≡ located (groupsIn n xs) → listed (record { count = j; items = ys }) ≡ located (groupsIn n xs)
-    unfolding located listed
+    pub located-end : groupsIn j ys ++ located (drop i (groupsIn n xs)) ≡ located (groupsIn n xs) → groupsIn j ys ≡ located (groupsIn n xs)
+    unfolding located
     located-end v = only-all (λ g. not (eqb (g .pos) 0)) n (groupsIn n xs) n i (groupsIn j ys) whole v h
 
-    pub floating-end : groupsIn j ys ++ unlocated (drop i (groupsIn n xs)) ≡ unlocated (groupsIn n xs) → listed (record { count = j; items = ys }) ≡ unlocated (groupsIn n xs)
-    unfolding unlocated listed
+    pub floating-end : groupsIn j ys ++ unlocated (drop i (groupsIn n xs)) ≡ unlocated (groupsIn n xs) → groupsIn j ys ≡ unlocated (groupsIn n xs)
+    unfolding unlocated
     floating-end v = only-all (λ g. eqb (g .pos) 0) n (groupsIn n xs) n i (groupsIn j ys) whole v h
 
 pub located-first : (ys : List ℕ) (l : List Mod) → groupsIn 0 ys ++ located (drop 0 l) ≡ located l
@@ -204,42 +203,55 @@ floating-first ys l = refl
 
 -- ---- one group more in a list
 
-module _ (x : Listed) (g : Mod) (s : length (x .items) ≡ 18) where
-  pub list-more : (v : ℕ) → groupIn v ≡ g → x .count < 18 → listed (record { count = x .count + 1; items = set (x .items) (x .count) v }) ≡ take 18 (listed x ++ (g ∷ []))
-  unfolding listed groupsIn
-  list-more v e h =
-      more groupIn (x .items) (x .count) v (omega arith)
-      ∙ rw e (sym (take-all 18 (map groupIn (take (x .count) (x .items)) ++ (g ∷ [])) (omega (arith, length-append (map groupIn (take (x .count) (x .items))) (g ∷ []), length-map (take (x .count) (x .items)) groupIn, length-take (x .count) (x .items)))))
+module _ (xs : List ℕ) (n : ℕ) (s : length xs ≡ 18) where
+  pub one-more : (g : Mod) (v : ℕ) → groupIn v ≡ g → n < 18 → More (g ∷ []) n xs (n + 1) (set xs n v)
+  unfolding groupsIn
+  one-more g v e h =
+      record {
+        groups = more groupIn xs n v (omega arith)
+            ∙ rw e (sym (take-all 18 (map groupIn (take n xs) ++ (g ∷ [])) (omega (arith, length-append (map groupIn (take n xs)) (g ∷ []), length-map (take n xs) groupIn, length-take n xs))));
+        kept = take-set-le n xs n v (omega arith);
+      }
 
-  pub list-full : 18 ≤ x .count → listed x ≡ take 18 (listed x ++ (g ∷ []))
-  unfolding listed groupsIn
-  list-full h =
-      let z : length (map groupIn (take (x .count) (x .items))) ≡ 18 = omega (arith, length-map (take (x .count) (x .items)) groupIn, length-take (x .count) (x .items)) in
-      sym (take-append-le 18 (listed x) (g ∷ []) (omega arith) ∙ take-all 18 (listed x) (omega arith))
+  pub one-full : (g : Mod) → 18 ≤ n → More (g ∷ []) n xs n xs
+  unfolding groupsIn
+  one-full g h =
+      let z : length (groupsIn n xs) ≡ 18 = omega (arith, length-map (take n xs) groupIn, length-take n xs) in
+      record { groups = sym (take-append-le 18 (groupsIn n xs) (g ∷ []) (omega arith) ∙ take-all 18 (groupsIn n xs) (omega arith)); kept = refl }
 
   -- no more than there is room for
-  pub list-fits : length (listed x) ≤ 18
-  unfolding listed groupsIn
-  list-fits = omega (arith, length-map (take (x .count) (x .items)) groupIn, length-take (x .count) (x .items))
+  groups-fit : length (groupsIn n xs) ≤ 18
+  unfolding groupsIn
+  groups-fit = omega (arith, length-map (take n xs) groupIn, length-take n xs)
+
+  pub oxygen-none : (w : ℕ) (p : ℕ) (t : Bool) → t ≡ anyOf (groupAt p) (groupsIn w xs) → t ≡ true → More (oxygenAt p (groupsIn w xs)) n xs n xs
+  unfolding oxygenAt
+  oxygen-none w p t e f = record { groups = rw (sym e ∙ f, append-nil (groupsIn n xs)) (sym (take-all 18 (groupsIn n xs) groups-fit)); kept = refl }
+
+  pub oxygen-one : (w m : ℕ) (ys : List ℕ) (p : ℕ) (t : Bool) → t ≡ anyOf (groupAt p) (groupsIn w xs) → t ≡ false → More (record { pos = p; row = 11 } ∷ []) n xs m ys
+      → More (oxygenAt p (groupsIn w xs)) n xs m ys
+  unfolding oxygenAt
+  oxygen-one w m ys p t e f h = rw (sym e ∙ f) h
 
 -- ---- the groups on the chain
 
-pub oxygen-none : (g : List Mod) (w : List Mod) (p : ℕ) (t : Bool) → length g ≤ 18 → t ≡ anyOf (groupAt p) w → t ≡ true → g ≡ take 18 (g ++ oxygenAt p w)
-unfolding oxygenAt
-oxygen-none g w p t h e f = rw (sym e ∙ f, append-nil g) (sym (take-all 18 g h))
+kept-groups : (xs ys : List ℕ) (n : ℕ) → take n ys ≡ take n xs → groupsIn n ys ≡ groupsIn n xs
+unfolding groupsIn
+kept-groups xs ys n e = ap (map groupIn) e
 
-pub oxygen-one : (g w m : List Mod) (p : ℕ) (t : Bool) → t ≡ anyOf (groupAt p) w → t ≡ false → m ≡ take 18 (g ++ (record { pos = p; row = 11 } ∷ [])) → m ≡ take 18 (g ++ oxygenAt p w)
-unfolding oxygenAt
-oxygen-one g w m p t e f h = rw (sym e ∙ f) h
+module _ (p : ChainPrefix) (xs ys : List ℕ) (n k : ℕ) (d : More (oxygenAt 3 (groupsIn n xs)) n xs k ys) where
+  -- an O at 3 alone, where the prefix is not t
+  pub diol-groups : (q : ChainPrefix) → ((gs : List Mod) → triolOxygen q gs ≡ []) → p ≡ q → groupsIn k ys ≡ take 18 (groupsIn n xs ++ baseOxygens Base p (groupsIn n xs))
+  unfolding baseOxygens
+  diol-groups q z h = rw (h, z (groupsIn n xs), append-nil (oxygenAt 3 (groupsIn n xs))) (d .groups)
 
--- an O at 3 alone, where the prefix is not t
-pub diol-groups : (q : ChainPrefix) (p : ChainPrefix) (w m : List Mod) → ((gs : List Mod) → triolOxygen q gs ≡ []) → p ≡ q → m ≡ take 18 (w ++ oxygenAt 3 w) → m ≡ take 18 (w ++ baseOxygens Base p w)
-unfolding baseOxygens
-diol-groups q p w m z h e = rw (h, z w, append-nil (oxygenAt 3 w)) e
-
-pub triol-groups : (p : ChainPrefix) (w k m : List Mod) → p ≡ prefix.SphingoidT → k ≡ take 18 (w ++ oxygenAt 3 w) → m ≡ take 18 (k ++ oxygenAt 4 w) → m ≡ take 18 (w ++ baseOxygens Base p w)
-unfolding baseOxygens triolOxygen
-triol-groups p w k m h e f = f ∙ rw (e, h, take-front 18 (w ++ oxygenAt 3 w) (oxygenAt 4 w), append-assoc)
+  -- and at 4, where it is
+  pub triol-groups : (m : ℕ) (zs : List ℕ) → p ≡ prefix.SphingoidT → More (oxygenAt 4 (groupsIn n ys)) k ys m zs → groupsIn m zs ≡ take 18 (groupsIn n xs ++ baseOxygens Base p (groupsIn n xs))
+  unfolding baseOxygens triolOxygen
+  triol-groups m zs h e =
+      let same : groupsIn n ys ≡ groupsIn n xs = kept-groups xs ys n (d .kept) in
+      let f : groupsIn m zs ≡ take 18 (groupsIn k ys ++ oxygenAt 4 (groupsIn n xs)) = rw same at (e .groups) in
+      f ∙ rw (d .groups, h, take-front 18 (groupsIn n xs ++ oxygenAt 3 (groupsIn n xs)) (oxygenAt 4 (groupsIn n xs)), append-assoc)
 
 pub no-triol-acyl : (gs : List Mod) → triolOxygen prefix.Acyl gs ≡ []
 unfolding triolOxygen
@@ -258,8 +270,9 @@ unfolding triolOxygen
 no-triol-diol gs = refl
 
 -- a chain that is no base has no O's of its own
-pub plain-groups : (q r : Role) (p : ChainPrefix) (w : List Mod) → ((gs : List Mod) → baseOxygens q p gs ≡ []) → r ≡ q → length w ≤ 18 → w ≡ take 18 (w ++ baseOxygens r p w)
-plain-groups q r p w z h l = rw (h, z w, append-nil w) (sym (take-all 18 w l))
+pub plain-groups : (q r : Role) (p : ChainPrefix) (n : ℕ) (xs zs : List ℕ) (w : List Mod) → ((gs : List Mod) → baseOxygens q p gs ≡ []) → r ≡ q → length xs ≡ length zs
+    → length zs ≡ 18 → groupsIn n xs ≡ w → groupsIn n xs ≡ take 18 (w ++ baseOxygens r p w)
+plain-groups q r p n xs zs w z h k l e = rw (← e, h, z (groupsIn n xs), append-nil (groupsIn n xs)) (sym (take-all 18 (groupsIn n xs) (groups-fit xs n (k ∙ l))))
 
 pub no-base-slot : (p : ChainPrefix) (gs : List Mod) → baseOxygens Slot p gs ≡ []
 unfolding baseOxygens
@@ -269,8 +282,9 @@ pub no-base-acyl : (p : ChainPrefix) (gs : List Mod) → baseOxygens Acyl p gs �
 unfolding baseOxygens
 no-base-acyl p gs = refl
 
-pub base-same : (r q : Role) (p : ChainPrefix) (w m : List Mod) → r ≡ q → m ≡ take 18 (w ++ baseOxygens q p w) → m ≡ take 18 (w ++ baseOxygens r p w)
-base-same r q p w m h e = rw h e
+pub base-drawn : (r : Role) (p : ChainPrefix) (n m : ℕ) (xs ys : List ℕ) (w : List Mod) → r ≡ Base → groupsIn n xs ≡ w
+    → groupsIn m ys ≡ take 18 (groupsIn n xs ++ baseOxygens Base p (groupsIn n xs)) → groupsIn m ys ≡ take 18 (w ++ baseOxygens r p w)
+base-drawn r p n m xs ys w h e f = rw (h, ← e) f
 
 -- ---- the lists of the whole
 
@@ -306,16 +320,6 @@ pub bonds-drawn : (r : Role) (c : ParsedChain) (k n : ℕ) (ys : List ℕ) → k
     → bondsIn (k + n) ys ≡ take k (alkenyl ∷ []) ++ bondsIn n (c .bonds) → bondsIn (k + n) ys ≡ doubles r (chainOf c)
 unfolding doubles chainOf
 bonds-drawn r c k n ys e f h = h ∙ rw (e, alkenyl-front r (c .prefix), f)
-
--- so many of an array's numbers stand within it
-pub lent-within : (xs : List ℕ) (n m limit room : ℕ) → length xs ≡ room → limit ≤ room → n ≡ min m limit → n ≤ length xs
-lent-within xs n m limit room l h e = omega arith
-
-pub bonds-lent : (xs : List ℕ) (n m : ℕ) → length xs ≡ 32 → n ≡ min m 32 → n ≤ length xs
-bonds-lent xs n m l e = lent-within xs n m 32 32 l (omega arith) e
-
-pub groups-lent : (xs : List ℕ) (n m : ℕ) → length xs ≡ 18 → n ≡ min m 16 → n ≤ length xs
-groups-lent xs n m l e = lent-within xs n m 16 18 l (omega arith) e
 
 pub adds-fit : (r : Role) (p : ChainPrefix) (k m n : ℕ) → k ≡ length (alkenylBond r p) → n ≡ min m 32 → k + n < 2 ^ 64
 adds-fit r p k m n e f = omega (arith, adds-few r p k e)

@@ -10,9 +10,8 @@ use Rattle.record.specs.Chain.{Chain}
 use Rattle.tail.specs.Grammar.{isTail, tailAtoms}
 use Rattle.tail.proofs.Atoms.{tail-part-atoms, tail-part-shows}
 use Rattle.chain.specs.Drawing.{orNone}
-use Rattle.drawable.specs.declared.Drawn.{Drawn}
-use Rattle.drawable.specs.declared.Chains.{Chains}
-use Rattle.drawable.specs.Chains.{drawnIn}
+use Rattle.drawable.specs.Drawn.{Drawn}
+use Rattle.drawable.specs.Chains.{Chains, drawnIn}
 use Rattle.template.specs.declared.Class.{Class}
 use Rattle.template.specs.Template.{roleOf, hasTail}
 use Rattle.template.specs.Request.{chainAt, unlessEmpty, nonempty, tailPart}

@@ -1,6 +1,7 @@
 // The call: a class, a swap flag, a tail and up to four tokens to one line and the index lists of its chains. Every request has an answer,
 // and a request that is refused leaves both slices as they were. What is answered and written is said by specs/Answer.antt of `drawing`, and
 // what an accepted line promises by specs/Call.antt.
+use drawable::LIST_ROOM;
 pub use drawing::Answer;
 ghost use Rattle.judge.specs.Verdict.{verdict, tokens};
 ghost use Rattle.forward.specs.Call.{Called};
@@ -20,14 +21,23 @@ pub fn draw<'a>(
 ) -> Answer
     ensures { λ r. ⌜ Called (verdict (now (class .entry)) (now (tail .entry)) count (tokens count (now (sn1 .entry)) (now (sn2 .entry)) (now (sn3 .entry)) (now (sn4 .entry)))) swap (now (tail .entry)) (now (line .entry)) (now (index .entry)) (now (line .exit)) (now (index .exit)) r ⌝ }
 {
-    let judged = judge::judge(class, tail, count, sn1, sn2, sn3, sn4);
+    let mut lists = [0u64; LIST_ROOM];
+    let judged = judge::judge(class, tail, count, sn1, sn2, sn3, sn4, &mut lists);
     let fault = judged.fault;
     let number = fault.number;
     if number != 0 {
         return drawing::refused(number, fault.place);
     }
     let kind = judged.class;
-    let chains = judged.chains;
-    let atoms = tail::tail_atoms(tail);
-    drawing::draw_chains(line, index, kind, swap, tail, atoms, chains)
+    let shapes = judged.shapes;
+    drawing::draw_chains(
+        line,
+        index,
+        kind,
+        swap,
+        tail,
+        judged.tail_atoms,
+        shapes,
+        &lists,
+    )
 }

@@ -25,13 +25,14 @@ use Rattle.chain.specs.Lists.{largest, valuesFrom}
 use Rattle.chain.specs.Features.{firstDrawn, doubles, groupsOn, prefixEnd, literalEnd}
 use Rattle.chain.specs.Bonds.{bondsOf, bondAt, markOf}
 use Rattle.chain.specs.Drawing.{carbonyl, groupsAt, carbonAt, literal, flexible, carbons, ringPairs, floats, chainDrawn}
-use Rattle.drawable.specs.declared.Drawn.{Drawn}
-use Rattle.drawable.specs.Drawn.{groupsDrawn, floatsDrawn, ringsDrawn, Draws}
-use Rattle.carbons.specs.declared.ChainTokens.{ChainTokens}
+use Rattle.drawable.specs.declared.Shape.{Shape}
+use Rattle.drawable.specs.Drawn.{Drawn, groupsIn, ringsIn, groupsPart, floatsPart, ringsPart, drawnOf, groupsDrawn, floatsDrawn, ringsDrawn, Draws}
 use Rattle.branches.specs.Text.{sitting, floatsText, carbonylOf}
 use Rattle.backbone.specs.Text.{flexibleText}
 use Rattle.fragment.specs.Text.{carbonOf, carbonsText}
-use Rattle.carbons.specs.Tokens.{tokens, TokensOf}
+use Rattle.drawable.proofs.Parts.{rings-few}
+use Rattle.carbons.specs.Tokens.{ChainTokens, tokens, TokensOf}
+use Rattle.carbons.specs.ByCarbon.{Busy}
 use Rattle.fragment.specs.Segment.{segmentText, RingsOn, Readable, Segment}
 use Rattle.carbons.proofs.Left.{written-three}
 use Rattle.carbons.proofs.TokenLaws.{length-values, values-same}
@@ -189,8 +190,18 @@ segment-drawn {xs} {ys} {at} {q} {m} x t l k e w =
           rw (segment-is r d x t g k s l) (rw z at w);
     }
 
-pub segment-done : {xs ys zs ws : List ℕ} {at p q o m : ℕ} (x : Drawn) (first last : ℕ) (bs us : List ℕ) (l : ℕ) → length xs < 2 ^ 64 → TokensOf x (tokens first last bs us) → m ≡ min l 247
-    → Written xs at (carbonsText (x .acyl) bs (groupsDrawn x) (ringsDrawn x) m first (suc last - first)) ys p → Written ys p (flexibleText (getD bs last 0) (x .unlocated)) zs q
-    → Written zs q (floatsText (floatsDrawn x)) ws o → Segment x l xs at ws o
-segment-done {m = m} x first last bs us l h k e u v w =
-    segment-drawn x (tokens first last bs us) l k e (segment-written x (tokens first last bs us) m h u v w)
+-- what the writer of the literal carbons relies on
+pub range-ready : (x : Shape) (part : List ℕ) (first last : ℕ) (bs us : List ℕ) {gs rs : List ℕ} (l : ℕ) {m : ℕ} → TokensOf (drawnOf x part) (tokens first last bs us)
+    → gs ≡ groupsPart part → rs ≡ ringsPart part → m ≡ min l 247
+    → (1 ≤ first) × (last ≤ 255) × (length bs ≡ 256) × Busy (x .acyl) (groupsIn (x .«group_count») gs) (ringsIn (x .«ring_count») rs) us × (m + length rs ≤ 255)
+range-ready x part first last bs us l k a b e =
+    (omega (arith, k .first), k .room, k .bonds .size, rw (a, b) (k .busy), rw b (omega (arith, rings-few part)))
+
+-- where the lists stand in the part of a chain
+pub segment-done : {xs ys zs ws gs rs fs : List ℕ} {at p q o m : ℕ} (x : Shape) (part : List ℕ) (first last : ℕ) (bs us : List ℕ) (l : ℕ) → length xs < 2 ^ 64
+    → TokensOf (drawnOf x part) (tokens first last bs us) → m ≡ min l 247 → gs ≡ groupsPart part → rs ≡ ringsPart part
+    → Written xs at (carbonsText (x .acyl) bs (groupsIn (x .«group_count») gs) (ringsIn (x .«ring_count») rs) m first (suc last - first)) ys p
+    → Written ys p (flexibleText (getD bs last 0) (x .unlocated)) zs q → fs ≡ floatsPart part
+    → Written zs q (floatsText (groupsIn (x .«float_count») fs)) ws o → Segment (drawnOf x part) l xs at ws o
+segment-done {m = m} x part first last bs us l h k e a b u v c w =
+    segment-drawn (drawnOf x part) (tokens first last bs us) l k e (segment-written (drawnOf x part) (tokens first last bs us) m h (rw (a, b) at u) v (rw c at w))

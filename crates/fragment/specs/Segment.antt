@@ -10,9 +10,8 @@ use Rattle.reading.specs.Piece.{show}
 use Rattle.reading.specs.Template.{itemPieces, chain}
 use Rattle.chain.specs.declared.Role.{Role}
 use Rattle.chain.specs.Drawing.{chainDrawn}
-use Rattle.drawable.specs.declared.Drawn.{Drawn}
-use Rattle.drawable.specs.Drawn.{groupsDrawn, floatsDrawn, ringsDrawn, Draws}
-use Rattle.carbons.specs.declared.ChainTokens.{ChainTokens}
+use Rattle.drawable.specs.Drawn.{Drawn, groupsDrawn, floatsDrawn, ringsDrawn, Draws}
+use Rattle.carbons.specs.Tokens.{ChainTokens}
 use Rattle.branches.specs.Text.{floatsText}
 use Rattle.backbone.specs.Text.{flexibleText}
 use Rattle.fragment.specs.Text.{carbonsText}

@@ -1,12 +1,12 @@
 // The text of a chain, written at a place of a lent slice, carbon by carbon: its carbons, labels and groups by the crates below. The groups
 // and rings are gone through only at carbons that carry one. On an empty slice the same functions measure.
-use drawable::Drawn;
+use drawable::Shape;
 ghost use mathlib.Core.Path.{_≡_};
 ghost use mathlib.Core.List.{_++_};
 ghost use Prim.Native.Nat.{suc, _+_, _-_, _≤_, min};
 ghost use lib.ListN.{length};
 ghost use Rattle.emit.specs.Text.{Written};
-ghost use Rattle.drawable.specs.Drawn.{groupsIn, ringsIn};
+ghost use Rattle.drawable.specs.Drawn.{groupsIn, ringsIn, drawnOf};
 ghost use Rattle.carbons.specs.Tokens.{tokens, TokensOf};
 ghost use Rattle.carbons.specs.ByCarbon.{Busy};
 ghost use Rattle.backbone.specs.Text.{carbonText, bridgeText};
@@ -127,15 +127,16 @@ fn in_labels(label: u8) -> u8
 pub fn build_chain_segment<'a>(
     out: &mut [u8],
     at: usize,
-    x: Drawn,
+    x: Shape,
+    part: &'a [u64],
     first: u16,
     last: u16,
     bonds: &'a [u8],
     busy: &'a [u8],
     label: u8,
 ) -> usize
-    requires { ⌜ TokensOf x (tokens first last (now bonds) (now busy)) ⌝ }
-    ensures { λ r. ⌜ Segment x label (now (out .entry)) at (now (out .exit)) r ⌝ }
+    requires { ⌜ TokensOf (drawnOf x (now part)) (tokens first last (now bonds) (now busy)) ⌝ }
+    ensures { λ r. ⌜ Segment (drawnOf x (now (part .entry))) label (now (out .entry)) at (now (out .exit)) r ⌝ }
 {
     let end = last as usize;
     let bond = bonds[end];
@@ -144,9 +145,9 @@ pub fn build_chain_segment<'a>(
         out,
         at,
         x.acyl,
-        &x.groups,
+        drawable::groups_part(part),
         x.group_count,
-        &x.rings,
+        drawable::rings_part(part),
         x.ring_count,
         first,
         last,
@@ -155,5 +156,5 @@ pub fn build_chain_segment<'a>(
         l,
     );
     let q = backbone::put_flexible(out, p, bond, x.unlocated);
-    branches::put_floats(out, q, &x.floats, x.float_count)
+    branches::put_floats(out, q, drawable::floats_part(part), x.float_count)
 }

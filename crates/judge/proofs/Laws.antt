@@ -1,57 +1,87 @@
 -- Laws of the tokens that were looked at, one after the other: the first fault of each sort, and the chains as they are drawn.
 -- Assumes nothing.
-use Prim.Native.Nat.{ℕ, suc, _+_, _≤_, _<_}
+use Prim.Native.Nat.{ℕ, suc, _+_, _-_, _*_, _≤_, _<_}
 use native.Mathlib.Nat.{add-zero, add-suc, suc-add}
 use native.Mathlib.Numerals.{add-one}
 use native.Mathlib.Omega.{arith}
-use mathlib.Core.Path.{_≡_, refl, sym, ap, _∙_}
+use mathlib.Core.Path.{_≡_, refl, sym, ap, _∙_, subst}
 use mathlib.Core.Bool.{Bool, true, false, cond}
 use mathlib.Core.List.{List, [], _∷_, _++_}
 use lib.ListN.{length, take, getD, set, length-take}
-use lib.Seq.{take-suc, take-suc-set}
+use lib.Seq.{take-suc}
 use lib.Dec.{eqb}
-use borrow.Author.Tests.{eq-eqb, ne-eqb, eqb-false}
-use Rattle.record.specs.Chain.{Chain, Outcome, Read, Refused}
-use Rattle.parsed.specs.declared.Parsed.{Parsed}
+use borrow.Author.Tests.{eq-eqb, ne-eqb, eqb-false, le-ltb}
+use borrow.Rule.Slice.PartMut.{midOf, putMid, mid-len}
+use Rattle.record.specs.declared.ChainPrefix.{ChainPrefix}
+use Rattle.record.specs.Chain.{Chain, Outcome, Read, Refused, maxBonds, maxGroups, maxRings}
 use Rattle.parsed.specs.Parsed.{Stands}
+use Rattle.token.specs.declared.ReadToken.{ReadToken}
 use Rattle.token.specs.Token.{tokenOf}
+use Rattle.token.specs.Lent.{Tells, tokenAs, tokenIn}
 use Rattle.token.specs.Request.{Verdict, All, First, withToken, tokensFrom, tokensOf}
 use Rattle.token.proofs.Sound.{token-sound}
 use Rattle.chain.specs.declared.Role.{Role}
-use Rattle.chain.specs.Refusals.{wrongKind, placeRefusal, drawRefusal}
+use Rattle.chain.specs.Refusals.{placeRefusal, drawRefusal}
 use Rattle.template.specs.declared.Class.{Class}
 use Rattle.template.specs.Template.{roleOf}
-use Rattle.drawable.specs.declared.Drawn.{Drawn}
-use Rattle.drawable.specs.Drawn.{Draws, chainOf, Says}
+use Rattle.drawable.specs.declared.Shape.{Shape}
+use Rattle.drawable.specs.Drawn.{Drawn, ringsPart, drawnOf, Draws, chainOf, Says}
+use Rattle.drawable.specs.Chains.{itemsOf}
+use Rattle.fitted.specs.Fitted.{pieces, Fits}
 use Rattle.fitted.proofs.Drawing.{held-chain}
+use Rattle.fitted.proofs.Laying.{laid-here}
+use Rattle.refusals.specs.Kind.{Kind}
 use Rattle.judge.specs.declared.Fault.{Fault}
 use Rattle.judge.specs.declared.Faults.{Faults}
 use Rattle.judge.specs.declared.Reasons.{Reasons}
 use Rattle.judge.specs.declared.Seen.{Seen}
 use Rattle.judge.specs.Verdict.{firstOf, noFault, kindRefusal}
-use Rattle.judge.specs.Judged.{DrawsAll, none, more, SeenIs, earlierOf, noFaults, withReasons}
+use Rattle.judge.specs.Judged.{DrawsAll, none, more, KindIs, Sight, sightOf, SeenIs, earlierOf, noFaults, withReasons}
+use Rattle.drawable.proofs.Parts.{items-length}
+use Rattle.judge.proofs.Items.{items-next}
 
 -- ---- one token
 
-pub kind-wrong : (r : Role) (d : Chain) (b : Bool) → b ≡ wrongKind r d → b ≡ true → 22 ≡ kindRefusal r d
+pub kind-wrong : (r : Role) (p : ChainPrefix) (c : ℕ) (b : Bool) → Kind r p c b → b ≡ true → KindIs r p c 22
 unfolding kindRefusal
-kind-wrong r d b e h = rw (sym e ∙ h)
+kind-wrong r p c b k h = record { is = λ d e f. rw (sym (k .is d e f) ∙ h) }
 
-pub kind-fits : (r : Role) (d : Chain) (b : Bool) → b ≡ wrongKind r d → b ≡ false → 0 ≡ kindRefusal r d
+pub kind-fits : (r : Role) (p : ChainPrefix) (c : ℕ) (b : Bool) → Kind r p c b → b ≡ false → KindIs r p c 0
 unfolding kindRefusal
-kind-fits r d b e h = rw (sym e ∙ h)
+kind-fits r p c b k h = record { is = λ d e f. rw (sym (k .is d e f) ∙ h) }
 
--- what is drawn of a chain that was read is drawn of the chain that the token says
-looked : (r : Role) (t : List ℕ) (p : Parsed) (x : Drawn) (k n m : ℕ) → Stands p (tokenOf t) → Draws r (chainOf (p .chain)) x → k ≡ kindRefusal r (chainOf (p .chain))
-    → Says x n placeRefusal → Says x m drawRefusal → SeenIs r (record { reasons = record { token = p .refusal; kind = k; place = n; draw = m }; drawn = x }) (tokenOf t)
-looked r t p x k n m w g e a b = go (tokenOf t) refl w
+-- with room for all that a token may say, its outcome is that of the token
+with-room : (b g r : ℕ) (t : List ℕ) → maxBonds ≤ b → maxGroups ≤ g → maxRings ≤ r → tokenIn b g r t ≡ tokenOf t
+unfolding tokenIn
+with-room b g r t h k l = rw (le-ltb b maxBonds h, le-ltb g maxGroups k, le-ltb r maxRings l)
+
+-- what is drawn of the pieces of a token is drawn of the chain that the token says; its rings were read into their room of the part xs
+pub looked : (r : Role) (t : List ℕ) (x : ReadToken) (bs gs rs xs ys : List ℕ) (b g : ℕ) (s : Shape) (k n m : ℕ) → length xs ≡ 77 → length rs ≡ length (midOf 69 8 xs) → maxBonds ≤ b
+    → maxGroups ≤ g → Tells x bs gs rs (tokenIn b g (length (midOf 69 8 xs)) t)
+    → Fits r (pieces (x .prefix) (x .carbon) (x .unlocated) (x .counts .bonds) bs (x .counts .groups) gs (x .counts .rings) (ringsPart (putMid 69 8 xs rs))) (drawnOf s ys)
+    → KindIs r (x .prefix) (x .carbon) k → Says (drawnOf s ys) n placeRefusal → Says (drawnOf s ys) m drawRefusal
+    → SeenIs r (sightOf (record { reasons = record { token = x .refusal; kind = k; place = n; draw = m }; shape = s }) ys) (tokenOf t)
+unfolding ringsPart
+looked r t x bs gs rs xs ys b g s k n m l e hb hg w f q a z =
+    go (tokenOf t) refl (rw (with-room b g (length (midOf 69 8 xs)) t hb hg (omega (arith, room))) at (w .stands))
   where
-    go : (o : Outcome) → tokenOf t ≡ o → Stands p o → SeenIs r (record { reasons = record { token = p .refusal; kind = k; place = n; draw = m }; drawn = x }) o
-    go (Read d) f s =
-        let h : chainOf (p .chain) ≡ d = held-chain (s .1) (token-sound t d f .within) in
-        let y : Draws r d x = rw h at g in
-        (s .0, e ∙ ap (kindRefusal r) h, a .is r d y, b .is r d y, y)
-    go (Refused i) f s = s
+    room : length (midOf 69 8 xs) ≡ 8
+    room = mid-len 69 77 xs (omega arith)
+
+    -- the rings are those that were read
+    held : ringsPart (putMid 69 8 xs rs) ≡ rs
+    held = laid-here 69 8 xs rs (omega arith) (e ∙ room)
+
+    drawn : Draws r (chainOf (tokenAs x bs gs rs)) (drawnOf s ys)
+    drawn = subst (λ (v : List ℕ). Draws r (chainOf (tokenAs x bs gs v)) (drawnOf s ys)) held (f .draws (tokenAs x bs gs rs))
+
+    go : (o : Outcome) → tokenOf t ≡ o → Stands (record { refusal = x .refusal; chain = tokenAs x bs gs rs }) o
+        → SeenIs r (sightOf (record { reasons = record { token = x .refusal; kind = k; place = n; draw = m }; shape = s }) ys) o
+    go (Read d) y v =
+        let h : chainOf (tokenAs x bs gs rs) ≡ d = held-chain (v .1) (token-sound t d y .within) in
+        let u : Draws r d (drawnOf s ys) = rw h at drawn in
+        (v .0, q .is d (sym (v .1 .prefix)) (sym (v .1 .carbon)), a .is r d u, z .is r d u, u)
+    go (Refused i) y v = v
 
 -- ---- a fault, or the next one
 
@@ -113,7 +143,7 @@ unfolding firstOf
 met-none c = (refl, refl, refl, refl, none)
 
 -- one token more, at place i + 1
-met-more : (c : Class) (f : Faults) (xs : List Drawn) (i : ℕ) (s : Seen) (v : Verdict) (o : Outcome) → length xs ≡ i → Met c f xs v → SeenIs (roleOf c (i + 1)) s o
+met-more : (c : Class) (f : Faults) (xs : List Drawn) (i : ℕ) (s : Sight) (v : Verdict) (o : Outcome) → length xs ≡ i → Met c f xs v → SeenIs (roleOf c (i + 1)) s o
     → Met c (withReasons f (s .reasons) (i + 1)) (xs ++ s .drawn ∷ []) (withToken v o)
 unfolding withReasons earlierOf
 met-more c f xs i s (First n p) o l h g =
@@ -146,26 +176,25 @@ module _ (sn1 sn2 sn3 sn4 : List ℕ) where
   fourth i h a b c = let e : i ≡ 3 = omega arith in rw e
 
   -- a token in its place
-  pub looked-at : (c : Class) (role : Role) (i : ℕ) (t : List ℕ) (p : Parsed) (x : Drawn) (k n m : ℕ) → role ≡ roleOf c (i + 1) → t ≡ getD (sn1 ∷ sn2 ∷ sn3 ∷ sn4 ∷ []) i []
-      → Stands p (tokenOf t) → Draws role (chainOf (p .chain)) x → k ≡ kindRefusal role (chainOf (p .chain)) → Says x n placeRefusal → Says x m drawRefusal
-      → SeenIs (roleOf c (i + 1)) (record { reasons = record { token = p .refusal; kind = k; place = n; draw = m }; drawn = x }) (tokenOf (getD (sn1 ∷ sn2 ∷ sn3 ∷ sn4 ∷ []) i []))
-  looked-at c role i t p x k n m r e w g h a b = rw (← e, ← r) (looked role t p x k n m w g h a b)
+  pub looked-at : (c : Class) (role : Role) (i : ℕ) (t : List ℕ) (s : Sight) → role ≡ roleOf c (i + 1) → t ≡ getD (sn1 ∷ sn2 ∷ sn3 ∷ sn4 ∷ []) i [] → SeenIs role s (tokenOf t)
+      → SeenIs (roleOf c (i + 1)) s (tokenOf (getD (sn1 ∷ sn2 ∷ sn3 ∷ sn4 ∷ []) i []))
+  looked-at c role i t s r e w = rw (← e, ← r) w
 
-  -- the first
-  pub met-first : (c : Class) (s : Seen) (f g : Faults) (xs : List Drawn) → SeenIs (roleOf c 1) s (tokenOf sn1) → f ≡ noFaults → g ≡ withReasons f (s .reasons) 1
-      → Met c g (take 1 (s .drawn ∷ xs)) (tokensOf (take 1 (sn1 ∷ sn2 ∷ sn3 ∷ sn4 ∷ [])))
+  -- before the first
+  pub met-first : (c : Class) (f : Faults) (xs : List Shape) (l : List ℕ) → f ≡ noFaults → Met c f (take 0 (itemsOf xs l)) (tokensOf (take 0 (sn1 ∷ sn2 ∷ sn3 ∷ sn4 ∷ [])))
   unfolding tokensOf tokensFrom
-  met-first c s f g xs w e h = rw (h, e) (met-more c noFaults [] 0 s (All []) (tokenOf sn1) refl (met-none c) w)
+  met-first c f xs l e = rw e (met-none c)
 
-  -- a turn
-  pub met-next : (c : Class) (s : Seen) (f g : Faults) (xs : List Drawn) (i n : ℕ) → length xs ≡ 4 → i < n → n ≤ 4
-      → SeenIs (roleOf c (i + 1)) s (tokenOf (getD (sn1 ∷ sn2 ∷ sn3 ∷ sn4 ∷ []) i [])) → g ≡ withReasons f (s .reasons) (i + 1)
-      → Met c f (take i xs) (tokensOf (take i (sn1 ∷ sn2 ∷ sn3 ∷ sn4 ∷ []))) → Met c g (take (i + 1) (set xs i (s .drawn))) (tokensOf (take (i + 1) (sn1 ∷ sn2 ∷ sn3 ∷ sn4 ∷ [])))
+  -- a turn: the lists of the token's chain are laid into its part
+  pub met-next : (c : Class) (s : Seen) (f g : Faults) (xs : List Shape) (l p : List ℕ) (i n : ℕ) → length xs ≡ 4 → length l ≡ 308 → i < n → n ≤ 4
+      → length p ≡ length (midOf (77 * i) (77 * i + 77 - 77 * i) l) → SeenIs (roleOf c (i + 1)) (sightOf s p) (tokenOf (getD (sn1 ∷ sn2 ∷ sn3 ∷ sn4 ∷ []) i []))
+      → g ≡ withReasons f (s .reasons) (i + 1) → Met c f (take i (itemsOf xs l)) (tokensOf (take i (sn1 ∷ sn2 ∷ sn3 ∷ sn4 ∷ [])))
+      → Met c g (take (i + 1) (itemsOf (set xs i (s .shape)) (putMid (77 * i) (77 * i + 77 - 77 * i) l p))) (tokensOf (take (i + 1) (sn1 ∷ sn2 ∷ sn3 ∷ sn4 ∷ [])))
   unfolding tokensOf
-  met-next c s f g xs i n l h k w y m =
+  met-next c s f g xs l p i n a b h k r w y m =
       let four : List (List ℕ) = sn1 ∷ sn2 ∷ sn3 ∷ sn4 ∷ [] in
-      let a : take (i + 1) four ≡ take i four ++ (getD four i [] ∷ []) = rw (add-one i) (take-suc four i [] (omega arith)) in
-      let b : take (i + 1) (set xs i (s .drawn)) ≡ take i xs ++ (s .drawn ∷ []) = rw (add-one i) (take-suc-set xs i (s .drawn) (omega arith)) in
+      let d : take (i + 1) four ≡ take i four ++ (getD four i [] ∷ []) = rw (add-one i) (take-suc four i [] (omega arith)) in
+      let e : take (i + 1) (itemsOf (set xs i (s .shape)) (putMid (77 * i) (77 * i + 77 - 77 * i) l p)) ≡ take i (itemsOf xs l) ++ (drawnOf (s .shape) p ∷ []) = ap (λ (j : ℕ). take j (itemsOf (set xs i (s .shape)) (putMid (77 * i) (77 * i + 77 - 77 * i) l p))) (add-one i) ∙ items-next i (s .shape) xs l p (omega arith) (omega arith) r in
       rw
-      (y, a, b, tokens-one (All []) (take i four) (getD four i []))
-      (met-more c f (take i xs) i s (tokensFrom (All []) (take i four)) (tokenOf (getD four i [])) (omega (arith, length-take i xs)) m w)
+      (y, d, e, tokens-one (All []) (take i four) (getD four i []))
+      (met-more c f (take i (itemsOf xs l)) i (sightOf s p) (tokensFrom (All []) (take i four)) (tokenOf (getD four i [])) (omega (arith, length-take i (itemsOf xs l), items-length xs l)) m w)

@@ -5,15 +5,15 @@ use mathlib.Core.Bool.{Bool, cond}
 use mathlib.Core.List.{List, [], _∷_}
 use lib.Dec.{eqb}
 use lib.ListN.{length}
+use Rattle.record.specs.declared.ChainPrefix.{ChainPrefix}
 use Rattle.record.specs.Chain.{Chain, Outcome, Read, Refused as record·Refused}
+use Rattle.tail.specs.Grammar.{tailAtoms}
 use Rattle.chain.specs.declared.Role.{Role}
 use Rattle.chain.specs.Refusals.{placeRefusal, drawRefusal}
 use Rattle.template.specs.declared.Class.{Class}
 use Rattle.template.specs.Template.{roleOf}
-use Rattle.drawable.specs.declared.Drawn.{Drawn}
-use Rattle.drawable.specs.declared.Chains.{Chains}
-use Rattle.drawable.specs.Drawn.{Draws}
-use Rattle.drawable.specs.Chains.{drawnIn}
+use Rattle.drawable.specs.Drawn.{Drawn, drawnOf, Draws}
+use Rattle.drawable.specs.Chains.{Chains, drawnIn, chainsOf}
 use Rattle.judge.specs.declared.Judged.{Judged}
 use Rattle.judge.specs.declared.Fault.{Fault}
 use Rattle.judge.specs.declared.Faults.{Faults}
@@ -32,15 +32,27 @@ pub record Drawing (c : Class) (ds : List Chain) (x : Chains) : Type 0 where
   pub counted : x .count ≡ length ds
   pub drawn : DrawsAll c 1 (drawnIn x) ds
 
--- the judged request j stands for a verdict
-abbrev pub JudgedIs : Judged → Verdict → Type 0
-JudgedIs j (Refused n p) = (j .fault .number ≡ n) × (j .fault .place ≡ p) × (0 < n)
-JudgedIs j (Drawable c ds) = (j .fault .number ≡ 0) × (j .class ≡ c) × Drawing c ds (j .chains)
+-- the judged request j, with the lists l of its chains, stands for a verdict on a request with the tail t
+abbrev pub JudgedIs : Judged → List ℕ → List ℕ → Verdict → Type 0
+JudgedIs j l t (Refused n p) = (j .fault .number ≡ n) × (j .fault .place ≡ p) × (0 < n)
+JudgedIs j l t (Drawable c ds) = (j .fault .number ≡ 0) × (j .class ≡ c) × Drawing c ds (chainsOf (j .shapes) l) × (j .«tail_atoms» ≡ tailAtoms t)
 
 -- ---- what is known of the tokens that were looked at
 
+-- n is the refusal 22, or 0, of every chain with a prefix p and c carbons
+pub record KindIs (r : Role) (p : ChainPrefix) (c n : ℕ) : Type 0 where
+  pub is : (d : Chain) → d .prefix ≡ p → d .carbon ≡ c → n ≡ kindRefusal r d
+
+-- a token that was looked at, with its lists
+pub record Sight : Type 0 where
+  pub reasons : Reasons
+  pub drawn : Drawn
+
+abbrev pub sightOf : Seen → List ℕ → Sight
+sightOf s l = record { reasons = s .reasons; drawn = drawnOf (s .shape) l }
+
 -- what a token that was looked at, in a place that is r's, holds of an outcome
-abbrev pub SeenIs : Role → Seen → Outcome → Type 0
+abbrev pub SeenIs : Role → Sight → Outcome → Type 0
 SeenIs r s (Read d) =
     (s .reasons .token ≡ 0) × (s .reasons .kind ≡ kindRefusal r d) × (s .reasons .place ≡ placeRefusal r d) × (s .reasons .draw ≡ drawRefusal r d) × Draws r d (s .drawn)
 SeenIs r s (record·Refused n) = (s .reasons .token ≡ n) × (0 < n)

@@ -1,23 +1,27 @@
 // Whether a request is refused, before its slices are looked at: class, number of tokens, tokens, kinds, tail, and what cannot be drawn, in
-// the order of document 01. Every request has an answer. Which, is said by specs/Verdict.antt.
+// the order of document 01. Every request has an answer. Which, is said by specs/Verdict.antt. The lists of its chains are laid into a lent
+// array, a part for each token.
 use chain::Role;
 use class::Code;
-use drawable::Chains;
-use drawable::Drawn;
-use parsed::ParsedChain;
+use drawable::CHAIN_ROOM;
+use drawable::LIST_ROOM;
+use drawable::Shape;
+use drawable::Shapes;
 use record::ChainPrefix;
+use record::GROUP_ROOM;
+use record::MAX_BONDS;
 use template::Class;
 use token::MAX_TOKENS;
 ghost use mathlib.Core.Path.{_≡_};
 ghost use Prim.Native.Nat.{_+_, _<_, _≤_};
 ghost use mathlib.Core.List.{[], _∷_};
-ghost use lib.ListN.{getD};
+ghost use lib.ListN.{length, getD};
 ghost use Rattle.token.specs.Token.{tokenOf};
 ghost use Rattle.token.specs.Request.{tokensOf};
+ghost use Rattle.tail.specs.Grammar.{tailAtoms};
 ghost use Rattle.template.specs.Template.{roleOf};
-ghost use Rattle.drawable.specs.Drawn.{chainOf};
-ghost use Rattle.judge.specs.Verdict.{tokens, kindRefusal, wrongTail, wrongCount, judgeRead, judgeTokens, verdict};
-ghost use Rattle.judge.specs.Judged.{JudgedIs, SeenIs, noFaults, earlierOf, withReasons, dueOf};
+ghost use Rattle.judge.specs.Verdict.{tokens, wrongTail, wrongCount, judgeRead, verdict};
+ghost use Rattle.judge.specs.Judged.{JudgedIs, KindIs, sightOf, SeenIs, noFaults, earlierOf, withReasons, dueOf};
 
 // A class code that is none of the eight.
 pub const UNKNOWN_CLASS: u16 = 20;
@@ -34,11 +38,13 @@ pub struct Fault {
     pub place: usize,
 }
 
-// A request that was judged: refused; or its class and its chains, and no fault. An enum holds no array, so the fault stands beside them.
+// A request that was judged: refused; or its class, the atoms of its tail and its chains, and no fault. An enum holds no array, so the fault
+// stands beside them. The lists of the chains stand in an array that was lent.
 pub struct Judged {
     pub fault: Fault,
     pub class: Class,
-    pub chains: Chains,
+    pub tail_atoms: u16,
+    pub shapes: Shapes,
 }
 
 // What one token is refused for: 31 or 11; and its chain, where it is read: 22; 32 or 33; 12 to 15. Each is 0 where nothing is due.
@@ -49,10 +55,10 @@ struct Reasons {
     draw: u16,
 }
 
-// A token that was looked at: what it is refused for, and its chain as it is drawn.
+// A token that was looked at: what it is refused for, and its chain as it is drawn, but for its lists.
 struct Seen {
     reasons: Reasons,
-    drawn: Drawn,
+    shape: Shape,
 }
 
 // The first fault of each sort among the tokens looked at so far. The sorts have an order of their own: a fault of a later token comes
@@ -64,14 +70,23 @@ struct Faults {
     draw: Fault,
 }
 
-// No chains.
-fn no_chains() -> Chains
+// No chains: past the count nothing is read.
+fn no_chains() -> Shapes
     ensures { λ r. ⌜ r .count ≡ 0 ⌝ }
 {
-    let chain = ParsedChain::new(ChainPrefix::Acyl, 0, 0, false);
-    let drawn = fitted::drawn_as(Role::Slot, chain);
-    let items = [drawn; MAX_TOKENS];
-    Chains { count: 0, items }
+    let shape = Shape {
+        first: 0,
+        carbon: 0,
+        acyl: false,
+        ether_base: false,
+        unlocated: 0,
+        bond_count: 0,
+        group_count: 0,
+        float_count: 0,
+        ring_count: 0,
+    };
+    let items = [shape; MAX_TOKENS];
+    Shapes { count: 0, items }
 }
 
 impl Judged {
@@ -82,7 +97,8 @@ impl Judged {
         Judged {
             fault,
             class: Class::Fa,
-            chains: no_chains(),
+            tail_atoms: 0,
+            shapes: no_chains(),
         }
     }
 }
@@ -155,21 +171,22 @@ impl Faults {
 }
 
 // 22 for a chain of the wrong kind for its place, else 0.
-fn kind_refusal(role: Role, chain: ParsedChain) -> u16
-    ensures { λ r. ⌜ r ≡ kindRefusal role (chainOf chain) ⌝ }
+fn kind_refusal(role: Role, prefix: ChainPrefix, carbon: u16) -> u16
+    ensures { λ r. ⌜ KindIs role prefix carbon r ⌝ }
 {
-    if refusals::wrong_kind(role, chain) {
+    if refusals::wrong_kind(role, prefix, carbon) {
         return WRONG_KIND;
     }
     0
 }
 
-// Whether a tail is outside the grammar, or stands where there is none.
-fn wrong_tail(class: Class, tail: &[u8]) -> bool
+// Whether a tail is outside the grammar, where it counts no atoms, or stands where the class has none.
+fn wrong_tail(class: Class, tail: &[u8], atoms: u16) -> bool
+    requires { ⌜ atoms ≡ tailAtoms (now tail) ⌝ }
     ensures { λ r. ⌜ r ≡ wrongTail class (now (tail .entry)) ⌝ }
 {
     if class::has_tail(class) {
-        return !tail::check_tail(tail);
+        return atoms == 0;
     }
     tail.len() != 0
 }
@@ -191,7 +208,39 @@ fn token_at<'a>(i: usize, sn1: &'a [u8], sn2: &'a [u8], sn3: &'a [u8], sn4: &'a 
     sn4
 }
 
-// Token i, counted from 0, in its place. Its chain is drawn before its kind is known to fit: most do.
+// A token where it stands as a role says. Its chain is drawn before its kind is known to fit: most do. Its rings are read into their room of
+// the part, its other lists into arrays of their own, from which they are laid into the part as they are drawn.
+fn see(role: Role, token: &[u8], part: &mut [u64]) -> Seen
+    requires { ⌜ length (now part) ≡ 77 ⌝ }
+    ensures { λ r. ⌜ SeenIs role (sightOf r (now (part .exit))) (tokenOf (now (token .entry))) ⌝ }
+{
+    let mut bonds = [0u64; MAX_BONDS];
+    let mut groups = [0u64; GROUP_ROOM];
+    let read = token::parse_token(token, &mut bonds, &mut groups, &mut part[69..77]);
+    let prefix = read.prefix;
+    let counts = read.counts;
+    let shape = fitted::drawn_as(
+        role,
+        prefix,
+        read.carbon,
+        read.unlocated,
+        &bonds,
+        counts.bonds,
+        &groups,
+        counts.groups,
+        counts.rings,
+        part,
+    );
+    let reasons = Reasons {
+        token: read.refusal,
+        kind: kind_refusal(role, prefix, read.carbon),
+        place: refusals::place_refusal(shape, part),
+        draw: refusals::draw_refusal(shape, part),
+    };
+    Seen { reasons, shape }
+}
+
+// Token i, counted from 0, in its place.
 fn look<'a>(
     class: Class,
     i: usize,
@@ -199,25 +248,17 @@ fn look<'a>(
     sn2: &'a [u8],
     sn3: &'a [u8],
     sn4: &'a [u8],
+    part: &mut [u64],
 ) -> Seen
     requires { ⌜ i < 4 ⌝ }
-    ensures { λ r. ⌜ SeenIs (roleOf class (i + 1)) r (tokenOf (getD (now (sn1 .entry) ∷ now (sn2 .entry) ∷ now (sn3 .entry) ∷ now (sn4 .entry) ∷ []) i [])) ⌝ }
+    requires { ⌜ length (now part) ≡ 77 ⌝ }
+    ensures { λ r. ⌜ SeenIs (roleOf class (i + 1)) (sightOf r (now (part .exit))) (tokenOf (getD (now (sn1 .entry) ∷ now (sn2 .entry) ∷ now (sn3 .entry) ∷ now (sn4 .entry) ∷ []) i [])) ⌝ }
 {
     let role = class::role_of(class, i + 1);
-    let parsed = token::parse_chain_token(token_at(i, sn1, sn2, sn3, sn4));
-    let chain = parsed.chain;
-    let drawn = fitted::drawn_as(role, chain);
-    let reasons = Reasons {
-        token: parsed.refusal,
-        kind: kind_refusal(role, chain),
-        place: refusals::place_refusal(drawn),
-        draw: refusals::draw_refusal(drawn),
-    };
-    Seen { reasons, drawn }
+    see(role, token_at(i, sn1, sn2, sn3, sn4), part)
 }
 
-// The tokens of a class, of which there are as many as it takes. The first chain fills the array: past the last chain nothing is counted,
-// and a copy costs less than an empty chain.
+// The tokens of a class, of which there are as many as it takes.
 fn judge_tokens<'a>(
     class: Class,
     tail: &[u8],
@@ -226,27 +267,31 @@ fn judge_tokens<'a>(
     sn2: &'a [u8],
     sn3: &'a [u8],
     sn4: &'a [u8],
+    lists: &mut [u64],
 ) -> Judged
-    requires { ⌜ 0 < count ⌝ }
     requires { ⌜ count ≤ 4 ⌝ }
-    ensures { λ r. ⌜ JudgedIs r (judgeRead class (now (tail .entry)) (tokensOf (tokens count (now (sn1 .entry)) (now (sn2 .entry)) (now (sn3 .entry)) (now (sn4 .entry))))) ⌝ }
+    requires { ⌜ length (now lists) ≡ 308 ⌝ }
+    ensures { λ r. ⌜ JudgedIs r (now (lists .exit)) (now (tail .entry)) (judgeRead class (now (tail .entry)) (tokensOf (tokens count (now (sn1 .entry)) (now (sn2 .entry)) (now (sn3 .entry)) (now (sn4 .entry))))) ⌝ }
 {
-    let seen = look(class, 0, sn1, sn2, sn3, sn4);
-    let first = seen.drawn;
-    let mut faults = Faults::new().join(seen.reasons, 1);
-    let mut items = [first; MAX_TOKENS];
-    let mut i = 1;
+    let none = no_chains();
+    let mut items = none.items;
+    let mut faults = Faults::new();
+    let mut i = 0;
     while i < count {
-        let next = look(class, i, sn1, sn2, sn3, sn4);
-        let drawn = next.drawn;
-        faults = faults.join(next.reasons, i + 1);
-        items[i] = drawn;
+        let from = CHAIN_ROOM * i;
+        let to = from + CHAIN_ROOM;
+        let seen = look(class, i, sn1, sn2, sn3, sn4, &mut lists[from..to]);
+        let shape = seen.shape;
+        faults = faults.join(seen.reasons, i + 1);
+        items[i] = shape;
         i += 1;
     }
+    let atoms = tail::tail_atoms(tail);
     Judged {
-        fault: faults.due(wrong_tail(class, tail)),
+        fault: faults.due(wrong_tail(class, tail, atoms)),
         class,
-        chains: Chains { count, items },
+        tail_atoms: atoms,
+        shapes: Shapes { count, items },
     }
 }
 
@@ -260,28 +305,8 @@ fn wrong_count(class: Class, count: usize) -> bool
     class::most(class) < count
 }
 
-// The class, and the number of its tokens.
-fn judge_class<'a>(
-    class: Class,
-    tail: &[u8],
-    count: usize,
-    sn1: &'a [u8],
-    sn2: &'a [u8],
-    sn3: &'a [u8],
-    sn4: &'a [u8],
-) -> Judged
-    ensures { λ r. ⌜ JudgedIs r (judgeTokens class (now (tail .entry)) count (tokens count (now (sn1 .entry)) (now (sn2 .entry)) (now (sn3 .entry)) (now (sn4 .entry)))) ⌝ }
-{
-    if wrong_count(class, count) {
-        return Judged::refused(Fault {
-            number: WRONG_COUNT,
-            place: 0,
-        });
-    }
-    judge_tokens(class, tail, count, sn1, sn2, sn3, sn4)
-}
-
-// Whether a request is refused, and for what; or its class and its chains.
+// Whether a request is refused, and for what; or its class, the atoms of its tail, which is read once, and its chains, whose lists are laid
+// into the lent array, a part of 77 numbers for each token.
 pub fn judge<'a>(
     class: &[u8],
     tail: &[u8],
@@ -290,8 +315,9 @@ pub fn judge<'a>(
     sn2: &'a [u8],
     sn3: &'a [u8],
     sn4: &'a [u8],
+    lists: &mut [u64; LIST_ROOM],
 ) -> Judged
-    ensures { λ r. ⌜ JudgedIs r (verdict (now (class .entry)) (now (tail .entry)) count (tokens count (now (sn1 .entry)) (now (sn2 .entry)) (now (sn3 .entry)) (now (sn4 .entry)))) ⌝ }
+    ensures { λ r. ⌜ JudgedIs r (now (lists .exit)) (now (tail .entry)) (verdict (now (class .entry)) (now (tail .entry)) count (tokens count (now (sn1 .entry)) (now (sn2 .entry)) (now (sn3 .entry)) (now (sn4 .entry)))) ⌝ }
 {
     let Code::Known(known) = class::class_of(class) else {
         return Judged::refused(Fault {
@@ -299,5 +325,11 @@ pub fn judge<'a>(
             place: 0,
         });
     };
-    judge_class(known, tail, count, sn1, sn2, sn3, sn4)
+    if wrong_count(known, count) {
+        return Judged::refused(Fault {
+            number: WRONG_COUNT,
+            place: 0,
+        });
+    }
+    judge_tokens(known, tail, count, sn1, sn2, sn3, sn4, lists)
 }

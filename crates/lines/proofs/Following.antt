@@ -12,7 +12,7 @@ use Rattle.emit.specs.Text.{Written}
 use Rattle.emit.proofs.Laws.{written-append, written-length}
 use Rattle.record.specs.Chain.{Chain}
 use Rattle.shown.specs.declared.Site.{Site}
-use Rattle.drawable.specs.declared.Chains.{Chains}
+use Rattle.drawable.specs.Chains.{Chains}
 use Rattle.template.specs.declared.Class.{Class}
 use Rattle.template.specs.Template.{elements, hasTail}
 use Rattle.template.specs.Request as request

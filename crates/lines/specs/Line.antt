@@ -6,7 +6,7 @@ use mathlib.Core.List.{List, map}
 use lib.ListN.{length, take}
 use Rattle.emit.specs.Text.{Written}
 use Rattle.record.specs.Chain.{Chain}
-use Rattle.drawable.specs.declared.Chains.{Chains}
+use Rattle.drawable.specs.Chains.{Chains}
 use Rattle.template.specs.declared.Class.{Class}
 use Rattle.template.specs.Template.{elements, hasTail}
 use Rattle.template.specs.Request as request

@@ -1,9 +1,10 @@
 // The line of a class: its template, and what follows the text. The chains are put in order by sn once; their sites are made once.
 use builder::Builder;
-use drawable::Chains;
+use drawable::Shapes;
 use listing::Rising;
 use listing::Sites;
 use template::Class;
+ghost use Rattle.drawable.specs.Chains.{chainsOf};
 ghost use Rattle.strand.specs.Strand.{rooms};
 ghost use Rattle.lines.specs.Line.{LineBuilt};
 
@@ -24,11 +25,12 @@ pub fn build_line(
     swap: bool,
     tail: &[u8],
     tail_atoms: u16,
-    chains: Chains,
+    shapes: Shapes,
+    lists: &[u64],
 ) -> Line
-    ensures { λ r. ⌜ LineBuilt class swap (now (tail .entry)) «tail_atoms» chains (rooms (now (out .entry)) (now (index .entry)) (now (rows .entry))) (rooms (now (out .exit)) (now (index .exit)) (now (rows .exit))) r ⌝ }
+    ensures { λ r. ⌜ LineBuilt class swap (now (tail .entry)) «tail_atoms» (chainsOf shapes (now (lists .entry))) (rooms (now (out .entry)) (now (index .entry)) (now (rows .entry))) (rooms (now (out .exit)) (now (index .exit)) (now (rows .exit))) r ⌝ }
 {
-    let b = templates::class_smiles(out, index, rows, class, tail, tail_atoms, chains);
+    let b = templates::class_smiles(out, index, rows, class, tail, tail_atoms, shapes, lists);
     let placed = b.placed;
     let order = listing::by_sn(placed, b.count);
     let sites = listing::sites_by_sn(placed, order);

@@ -21,7 +21,7 @@ fn put_mark_text(out: &mut [u8], at: usize, atom: u32, v: u32) -> usize
 }
 
 // One mark.
-pub fn put_mark(out: &mut [u8], at: usize, first: bool, atom: u32, v: u32) -> usize
+fn put_mark(out: &mut [u8], at: usize, first: bool, atom: u32, v: u32) -> usize
     ensures { λ r. ⌜ Written (now (out .entry)) at (shownBlocks first (showMark (noted atom v) ∷ [])) (now (out .exit)) r ⌝ }
 {
     let p = put_block_lead(out, at, first);

@@ -16,8 +16,7 @@ use Rattle.chain.specs.declared.Role.{Role}
 use Rattle.chain.specs.Lists.{anyOf, only, isEmpty}
 use Rattle.chain.specs.Features.{located, unlocated, baseOxygens, groupsOn, floating}
 use Rattle.chain.specs.Refusals.{doubleOff, groupOff, ringOff, offChain}
-use Rattle.drawable.specs.declared.Drawn.{Drawn}
-use Rattle.drawable.specs.Drawn.{bondsDrawn, groupsDrawn, floatsDrawn, ringsDrawn, Length, Draws, Says}
+use Rattle.drawable.specs.Drawn.{Drawn, bondsIn, groupsIn, ringsIn, bondsDrawn, groupsDrawn, floatsDrawn, ringsDrawn, Length, Draws, Says}
 
 -- ---- one feature
 
@@ -91,6 +90,7 @@ unfolding isEmpty unlocated
 some-float [] h = absurd (h refl)
 some-float (g ∷ gs) h = refl
 
+-- its lists are lent as bs, gs, rs and fs
 module _ (x : Drawn) where
   off-as : (r : Role) (d : Chain) → Draws r d x
       → offChain r d
@@ -100,38 +100,50 @@ module _ (x : Drawn) where
   unfolding offChain
   off-as r d w = rw (w .first, w .carbon, w .acyl, w .ether, w .bonds, w .groups, w .rings)
 
-  module _ (t₁ : Bool) (e₁ : t₁ ≡ anyOf (doubleOff (x .first) (x .carbon)) (bondsDrawn x)) where
+  module _ (bs : List ℕ) (p₁ : bs ≡ x .bonds) (t₁ : Bool) (e₁ : t₁ ≡ anyOf (doubleOff (x .first) (x .carbon)) (bondsIn (x .«bond_count») bs)) where
+    as₁ : anyOf (doubleOff (x .first) (x .carbon)) (bondsDrawn x) ≡ t₁
+    as₁ = rw (← p₁) (sym e₁)
+
     pub off-bond : t₁ ≡ true → Says x true offChain
-    off-bond f₁ = record { is = λ r d w. sym (off-as r d w ∙ rw (sym e₁ ∙ f₁)) }
+    off-bond f₁ = record { is = λ r d w. sym (off-as r d w ∙ rw (as₁ ∙ f₁)) }
 
-    module _ (f₁ : t₁ ≡ false) (t₂ : Bool) (e₂ : t₂ ≡ anyOf (groupOff (x .first) (x .carbon)) (groupsDrawn x)) where
+    module _ (f₁ : t₁ ≡ false) (gs : List ℕ) (p₂ : gs ≡ x .groups) (t₂ : Bool) (e₂ : t₂ ≡ anyOf (groupOff (x .first) (x .carbon)) (groupsIn (x .«group_count») gs)) where
+      as₂ : anyOf (groupOff (x .first) (x .carbon)) (groupsDrawn x) ≡ t₂
+      as₂ = rw (← p₂) (sym e₂)
+
       pub off-group : t₂ ≡ true → Says x true offChain
-      off-group f₂ = record { is = λ r d w. sym (off-as r d w ∙ rw (sym e₁ ∙ f₁, sym e₂ ∙ f₂)) }
+      off-group f₂ = record { is = λ r d w. sym (off-as r d w ∙ rw (as₁ ∙ f₁, as₂ ∙ f₂)) }
 
-      module _ (f₂ : t₂ ≡ false) (t₃ : Bool) (e₃ : t₃ ≡ anyOf (ringOff (x .first) (x .acyl)) (ringsDrawn x)) where
+      module _ (f₂ : t₂ ≡ false) (rs : List ℕ) (p₃ : rs ≡ x .rings) (t₃ : Bool) (e₃ : t₃ ≡ anyOf (ringOff (x .first) (x .acyl)) (ringsIn (x .«ring_count») rs)) where
+        as₃ : anyOf (ringOff (x .first) (x .acyl)) (ringsDrawn x) ≡ t₃
+        as₃ = rw (← p₃) (sym e₃)
+
         pub off-ring : t₃ ≡ true → Says x true offChain
-        off-ring f₃ = record { is = λ r d w. sym (off-as r d w ∙ rw (sym e₁ ∙ f₁, sym e₂ ∙ f₂, sym e₃ ∙ f₃)) }
+        off-ring f₃ = record { is = λ r d w. sym (off-as r d w ∙ rw (as₁ ∙ f₁, as₂ ∙ f₂, as₃ ∙ f₃)) }
 
         module _ (f₃ : t₃ ≡ false) where
           pub off-ether : x .«ether_base» ≡ true → Says x true offChain
           off-ether f₄ =
-              record { is = λ r d w. sym (off-as r d w ∙ rw (sym e₁ ∙ f₁, sym e₂ ∙ f₂, sym e₃ ∙ f₃, f₄, or-true (eqb (x .carbon) 0 && not (isEmpty (d .groups))))) }
+              record { is = λ r d w. sym (off-as r d w ∙ rw (as₁ ∙ f₁, as₂ ∙ f₂, as₃ ∙ f₃, f₄, or-true (eqb (x .carbon) 0 && not (isEmpty (d .groups))))) }
 
           module _ (f₄ : x .«ether_base» ≡ false) where
             pub on-carbons : 0 < x .carbon → Says x false offChain
-            on-carbons h = record { is = λ r d w. sym (off-as r d w ∙ rw (sym e₁ ∙ f₁, sym e₂ ∙ f₂, sym e₃ ∙ f₃, f₄, ne-eqb (x .carbon) 0 (omega arith))) }
+            on-carbons h = record { is = λ r d w. sym (off-as r d w ∙ rw (as₁ ∙ f₁, as₂ ∙ f₂, as₃ ∙ f₃, f₄, ne-eqb (x .carbon) 0 (omega arith))) }
 
             off-last : x .carbon ≤ 0 → (r : Role) (d : Chain) → Draws r d x → offChain r d ≡ not (isEmpty (d .groups))
             off-last h r d w =
                 off-as r d w
-                ∙ rw (sym e₁ ∙ f₁, sym e₂ ∙ f₂, sym e₃ ∙ f₃, f₄, eq-eqb (x .carbon) 0 (omega arith)) (or-false (not (isEmpty (d .groups))))
+                ∙ rw (as₁ ∙ f₁, as₂ ∙ f₂, as₃ ∙ f₃, f₄, eq-eqb (x .carbon) 0 (omega arith)) (or-false (not (isEmpty (d .groups))))
 
-            module _ (h : x .carbon ≤ 0) (room n : ℕ) (l : Length room (floatsDrawn x) n) where
+            module _ (h : x .carbon ≤ 0) (fs : List ℕ) (p₄ : fs ≡ x .floats) (room n : ℕ) (l : Length room (groupsIn (x .«float_count») fs) n) where
+              as₄ : length (floatsDrawn x) ≡ n
+              as₄ = rw (← p₄) (sym (l .is))
+
               pub on-nothing : n ≡ 0 → Says x false offChain
               unfolding groupsOn floating
               on-nothing z =
-                  record { is = λ r d w. sym (off-last h r d w ∙ rw (none-float (x .first) (d .groups) (baseOxygens r (d .prefix) (located (d .groups))) (sym (ap length (w .floats)) ∙ sym (l .is) ∙ z) (rw (w .groups, none h) at (sym e₂ ∙ f₂)))) }
+                  record { is = λ r d w. sym (off-last h r d w ∙ rw (none-float (x .first) (d .groups) (baseOxygens r (d .prefix) (located (d .groups))) (sym (ap length (w .floats)) ∙ as₄ ∙ z) (rw (w .groups, none h) at (as₂ ∙ f₂)))) }
 
               pub off-float : (n ≡ 0 → ⊥) → Says x true offChain
               unfolding floating
-              off-float z = record { is = λ r d w. sym (off-last h r d w ∙ rw (some-float (d .groups) (λ e. z (l .is ∙ ap length (w .floats) ∙ e)))) }
+              off-float z = record { is = λ r d w. sym (off-last h r d w ∙ rw (some-float (d .groups) (λ e. z (sym as₄ ∙ ap length (w .floats) ∙ e)))) }

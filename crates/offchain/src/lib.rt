@@ -1,12 +1,12 @@
 // 32: a feature off the chain that is drawn. What that is, is said by the definitions of the crate `chain`.
-use drawable::Drawn;
+use drawable::Shape;
 use record::DbPos;
 use record::Mod;
 use record::Ring;
 ghost use mathlib.Core.Path.{_≡_};
 ghost use Rattle.chain.specs.Lists.{anyOf};
 ghost use Rattle.chain.specs.Refusals.{doubleOff, groupOff, ringOff, offChain};
-ghost use Rattle.drawable.specs.Drawn.{bondsIn, groupsIn, ringsIn, Says};
+ghost use Rattle.drawable.specs.Drawn.{bondsIn, groupsIn, ringsIn, drawnOf, Says};
 
 // Whether a double bond is outside of the carbons from `first` up to, not including, `carbon`.
 fn bond_off(bond: DbPos, first: u16, carbon: u16) -> bool
@@ -104,20 +104,20 @@ fn any_ring_off(rings: &[u64], count: usize, first: u16, acyl: bool) -> bool
 
 // 32: whether a feature is off the drawn chain. A located group on a chain without carbons is off it, so only those that float are left to
 // be asked about there.
-pub fn off_chain(x: Drawn) -> bool
-    ensures { λ r. ⌜ Says x r offChain ⌝ }
+pub fn off_chain(x: Shape, part: &[u64]) -> bool
+    ensures { λ r. ⌜ Says (drawnOf x (now (part .entry))) r offChain ⌝ }
 {
     let first = x.first;
     let carbon = x.carbon;
     let acyl = x.acyl;
     let ether_base = x.ether_base;
-    if any_bond_off(&x.bonds, x.bond_count, first, carbon) {
+    if any_bond_off(drawable::bonds_part(part), x.bond_count, first, carbon) {
         return true;
     }
-    if any_group_off(&x.groups, x.group_count, first, carbon) {
+    if any_group_off(drawable::groups_part(part), x.group_count, first, carbon) {
         return true;
     }
-    if any_ring_off(&x.rings, x.ring_count, first, acyl) {
+    if any_ring_off(drawable::rings_part(part), x.ring_count, first, acyl) {
         return true;
     }
     if ether_base {
@@ -126,7 +126,7 @@ pub fn off_chain(x: Drawn) -> bool
     if carbon > 0 {
         return false;
     }
-    if drawable::groups_len(&x.floats, x.float_count) == 0 {
+    if drawable::groups_len(drawable::floats_part(part), x.float_count) == 0 {
         return false;
     }
     true

@@ -14,8 +14,8 @@ use record::Ring;
 ghost use mathlib.Core.Path.{_≡_};
 ghost use Prim.Native.Nat.{_≤_};
 ghost use lib.ListN.{length};
-ghost use Rattle.record.specs.Chain.{noFeatures, withBond, withGroup, withRing, countsOf, maxBonds, maxGroups, maxRings};
-ghost use Rattle.parsed.specs.Parsed.{Holds, Grows, first, bondsAs, groupsAs, ringsAs, Judges};
+ghost use Rattle.record.specs.Chain.{withBond, withGroup, withRing, countsOf, maxBonds, maxGroups, maxRings};
+ghost use Rattle.parsed.specs.Parsed.{Grows, first, bondsAs, groupsAs, ringsAs, Judges};
 
 // Double bonds, groups and rings are numbers of the crate `codes`.
 pub struct ParsedChain {
@@ -57,31 +57,6 @@ pub struct Counted {
 pub struct Pushed {
     pub refusal: u16,
     pub count: usize,
-}
-
-impl ParsedChain {
-    // A chain of so many carbons with nothing on it.
-    pub fn new(prefix: ChainPrefix, written: u16, carbon: u16, branched: bool) -> ParsedChain
-        ensures { λ r. ⌜ Holds r (noFeatures prefix written carbon branched) ⌝ }
-    {
-        let bonds = [0u64; MAX_BONDS];
-        let groups = [0u64; GROUP_ROOM];
-        let rings = [0u64; MAX_RINGS];
-        ParsedChain {
-            prefix,
-            written,
-            carbon,
-            branched,
-            unlocated: 0,
-            oxygens: 0,
-            bond_count: 0,
-            bonds,
-            group_count: 0,
-            groups,
-            ring_count: 0,
-            rings,
-        }
-    }
 }
 
 // One double bond more; how many there are then.

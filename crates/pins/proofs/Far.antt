@@ -14,8 +14,7 @@ use Rattle.chain.specs.declared.Role.{Role}
 use Rattle.chain.specs.Lists.{allOf, isEmpty}
 use Rattle.chain.specs.Features.{pins}
 use Rattle.chain.specs.Refusals.{pinTooFar}
-use Rattle.drawable.specs.declared.Drawn.{Drawn}
-use Rattle.drawable.specs.Drawn.{groupsDrawn, ringsDrawn, groupPin, Length, Draws, Says}
+use Rattle.drawable.specs.Drawn.{Drawn, groupsIn, ringsIn, groupsDrawn, ringsDrawn, groupPin, Length, Draws, Says}
 use Rattle.pins.specs.Pins.{ringPin, pinsIn}
 use Rattle.drawable.proofs.Lists.{all-append, empty-append, empty-map, some-empty, none-empty}
 
@@ -52,18 +51,26 @@ module _ (x : Drawn) where
   pub far-located : x .unlocated ≡ 0 → Says x false pinTooFar
   far-located h = record { is = λ r d w. sym (far-as r d w ∙ rw (eq-eqb (x .unlocated) 0 h)) }
 
-  module _ (h : x .unlocated ≡ 0 → ⊥) (t : Bool) (e : t ≡ isEmpty (pinsIn (groupsDrawn x) (ringsDrawn x))) where
-    pub far-none : t ≡ true → Says x false pinTooFar
-    far-none f = record { is = λ r d w. sym (far-as r d w ∙ rw (ne-eqb (x .unlocated) 0 h, sym e ∙ f)) }
+  -- its lists are lent as gs and rs
+  module _ (h : x .unlocated ≡ 0 → ⊥) (gs rs : List ℕ) (p₁ : gs ≡ x .groups) (p₂ : rs ≡ x .rings) (t : Bool)
+      (e : t ≡ isEmpty (pinsIn (groupsIn (x .«group_count») gs) (ringsIn (x .«ring_count») rs))) where
+    as₁ : isEmpty (pinsIn (groupsDrawn x) (ringsDrawn x)) ≡ t
+    as₁ = rw (← p₁, ← p₂) (sym e)
 
-    module _ (f : t ≡ false) (b : ℕ) (k : b ≡ cond (x .acyl) 3 (x .first + 1)) (u : Bool) (g : u ≡ allOf (ltb b) (map groupPin (groupsDrawn x))) where
+    pub far-none : t ≡ true → Says x false pinTooFar
+    far-none f = record { is = λ r d w. sym (far-as r d w ∙ rw (ne-eqb (x .unlocated) 0 h, as₁ ∙ f)) }
+
+    module _ (f : t ≡ false) (b : ℕ) (k : b ≡ cond (x .acyl) 3 (x .first + 1)) (u : Bool) (g : u ≡ allOf (ltb b) (map groupPin (groupsIn (x .«group_count») gs))) where
+      as₂ : u ≡ allOf (ltb b) (map groupPin (groupsDrawn x))
+      as₂ = rw p₁ at g
+
       far-last : (r : Role) (d : Chain) → Draws r d x → pinTooFar r d ≡ u && allOf (ltb b) (map ringPin (ringsDrawn x))
       far-last r d w =
           far-as r d w
-          ∙ rw (ne-eqb (x .unlocated) 0 h, sym e ∙ f, ← k, g) (all-append (ltb b) (map groupPin (groupsDrawn x)) (map ringPin (ringsDrawn x)))
+          ∙ rw (ne-eqb (x .unlocated) 0 h, as₁ ∙ f, ← k, as₂) (all-append (ltb b) (map groupPin (groupsDrawn x)) (map ringPin (ringsDrawn x)))
 
-      pub far-rings : (v : Bool) → u ≡ true → v ≡ allOf (ltb b) (map ringPin (ringsDrawn x)) → Says x v pinTooFar
-      far-rings v z i = record { is = λ r d w. sym (far-last r d w ∙ rw z (sym i)) }
+      pub far-rings : (v : Bool) → u ≡ true → v ≡ allOf (ltb b) (map ringPin (ringsIn (x .«ring_count») rs)) → Says x v pinTooFar
+      far-rings v z i = record { is = λ r d w. sym (far-last r d w ∙ rw (z, ← p₂) (sym i)) }
 
       pub far-not : u ≡ false → Says x false pinTooFar
       far-not z = record { is = λ r d w. sym (far-last r d w ∙ rw z) }

@@ -1,6 +1,6 @@
 // 13: unlocated double bonds before a first pin (located group or ring start) too far along the chain. What that is, is said by the
 // definitions of the crate `chain`.
-use drawable::Drawn;
+use drawable::Shape;
 ghost use mathlib.Core.Path.{_≡_};
 ghost use mathlib.Core.Bool.{cond};
 ghost use mathlib.Core.List.{map};
@@ -8,7 +8,7 @@ ghost use Prim.Native.Nat.{_+_};
 ghost use lib.Dec.{ltb};
 ghost use Rattle.chain.specs.Lists.{allOf, isEmpty};
 ghost use Rattle.chain.specs.Refusals.{pinTooFar};
-ghost use Rattle.drawable.specs.Drawn.{groupsIn, ringsIn, groupPin, Says};
+ghost use Rattle.drawable.specs.Drawn.{groupsIn, ringsIn, groupPin, drawnOf, Says};
 ghost use Rattle.pins.specs.Pins.{ringPin, pinsIn};
 
 // The last carbon that a first pin may have.
@@ -67,18 +67,20 @@ fn rings_past(rings: &[u64], count: usize, bound: u32) -> bool
 }
 
 // 13: unlocated bonds, and a first pin too far.
-pub fn pin_too_far(x: Drawn) -> bool
-    ensures { λ r. ⌜ Says x r pinTooFar ⌝ }
+pub fn pin_too_far(x: Shape, part: &[u64]) -> bool
+    ensures { λ r. ⌜ Says (drawnOf x (now (part .entry))) r pinTooFar ⌝ }
 {
     if x.unlocated == 0 {
         return false;
     }
-    if no_pins(&x.groups, x.group_count, &x.rings, x.ring_count) {
+    let groups = drawable::groups_part(part);
+    let rings = drawable::rings_part(part);
+    if no_pins(groups, x.group_count, rings, x.ring_count) {
         return false;
     }
     let bound = pin_bound(x.first, x.acyl);
-    if groups_past(&x.groups, x.group_count, bound) {
-        return rings_past(&x.rings, x.ring_count, bound);
+    if groups_past(groups, x.group_count, bound) {
+        return rings_past(rings, x.ring_count, bound);
     }
     false
 }

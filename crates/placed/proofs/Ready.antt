@@ -20,8 +20,7 @@ use Rattle.chain.specs.Drawing.{carbons, variables}
 use Rattle.chain.proofs.Lists.{all-append, all-both}
 use Rattle.chain.proofs.Atoms.{chainEnd-le, atomsEnd-le}
 use Rattle.chain.proofs.Accepted.{Drawable, first-one, drawn-most, carbon-most, unlocated-most}
-use Rattle.drawable.specs.declared.Drawn.{Drawn}
-use Rattle.drawable.specs.Drawn.{Draws}
+use Rattle.drawable.specs.Drawn.{Drawn, Draws}
 use Rattle.atoms.proofs.SumLaws.{sound-readable}
 use Rattle.template.specs.declared.Class.{Class}
 use Rattle.template.specs.Template.{Element, fixed, tail, slot, chain, elements, most, roleOf, hasTail}

@@ -9,10 +9,10 @@ use Rattle.reading.specs.Chain.{chainEnd}
 use Rattle.chain.specs.declared.Role.{Role}
 use Rattle.chain.specs.Features.{isAcyl, drawnCount, floating}
 use Rattle.chain.specs.Drawing.{carbons, carbonAtoms, flexibleAtom}
-use Rattle.drawable.specs.declared.Drawn.{Drawn}
-use Rattle.drawable.specs.declared.Chains.{Chains}
-use Rattle.drawable.specs.Drawn.{Draws}
-use Rattle.drawable.specs.Chains.{drawnIn}
+use Rattle.drawable.specs.declared.Shape.{Shape}
+use Rattle.drawable.specs.declared.Shapes.{Shapes}
+use Rattle.drawable.specs.Drawn.{Drawn, drawnOf, Draws}
+use Rattle.drawable.specs.Chains.{Chains, drawnIn, partOf, chainsOf}
 use Rattle.branches.specs.Text.{rowsIn}
 use Rattle.fragment.specs.Segment.{Readable}
 use Rattle.atoms.specs.Atoms.{indices}
@@ -52,6 +52,10 @@ IsDrawn (some x) f = f ≡ x
 -- f is the chain of an sn, or has no carbons where there is none
 pub record ChainAt (x : Chains) (sn : ℕ) (f : Drawn) : Type 0 where
   pub is : IsDrawn (drawnAt sn (drawnIn x)) f
+
+-- the chain of an sn is x with the part of that sn, whatever array the parts stand in
+pub record ShapeAt (s : Shapes) (sn : ℕ) (x : Shape) : Type 0 where
+  pub is : (l : List ℕ) → ChainAt (chainsOf s l) sn (drawnOf x (partOf sn l))
 
 -- the chain of every sn stands in its role
 pub record Stood (ρ : ℕ → Role) (ds : List Chain) (x : Chains) : Type 0 where

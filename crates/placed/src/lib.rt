@@ -1,10 +1,10 @@
 // The chains of a request by sn, and where each of them stands in its line.
 use chain::Role;
-use drawable::Chains;
-use drawable::Drawn;
+use drawable::Shape;
+use drawable::Shapes;
 ghost use mathlib.Core.Path.{_≡_};
 ghost use Prim.Native.Nat.{min};
-ghost use Rattle.placed.specs.Fragment.{ChainAt};
+ghost use Rattle.placed.specs.Fragment.{ShapeAt};
 pub use atoms::in_room;
 pub use drawable::MAX_CHAINS;
 
@@ -38,25 +38,25 @@ pub fn in_places(count: usize) -> usize
 }
 
 // A chain without carbons.
-fn emptied(mut x: Drawn) -> Drawn
+fn emptied(mut x: Shape) -> Shape
     ensures { λ r. ⌜ r .carbon ≡ 0 ⌝ }
 {
     x.carbon = 0;
     x
 }
 
-// The chain of an sn; one without carbons where the request has no such token.
-pub fn chain_at(chains: Chains, sn: u8) -> Drawn
-    ensures { λ r. ⌜ ChainAt chains sn r ⌝ }
+// The chain of an sn, whose lists stand in the part of that sn; one without carbons where the request has no such token.
+pub fn shape_at(shapes: Shapes, sn: u8) -> Shape
+    ensures { λ r. ⌜ ShapeAt shapes sn r ⌝ }
 {
-    let n = in_places(chains.count);
+    let n = in_places(shapes.count);
     let i = sn as usize;
     if i == 0 {
-        return emptied(chains.items[0]);
+        return emptied(shapes.items[0]);
     }
     let k = i - 1;
     if k < n {
-        return chains.items[k];
+        return shapes.items[k];
     }
-    emptied(chains.items[0])
+    emptied(shapes.items[0])
 }

@@ -3,14 +3,14 @@
 use Prim.Native.Nat.{ℕ, suc, _+_, _-_, _*_, _<_, _≤_, min}
 use native.Mathlib.Omega.{arith}
 use mathlib.Core.Path.{_≡_, refl, sym, _∙_}
-use mathlib.Core.List.{_++_, map}
+use mathlib.Core.List.{List, _++_, map}
 use borrow.Author.Tests.{eq-eqb, ne-eqb}
 use Rattle.record.specs.Chain.{Chain}
 use Rattle.chain.specs.declared.Role.{Role}
 use Rattle.chain.specs.Lists.{largest}
 use Rattle.chain.specs.Features.{firstDrawn, prefixEnd, literalEnd, remaining, flexibleCount, drawnCount}
-use Rattle.drawable.specs.declared.Drawn.{Drawn}
-use Rattle.drawable.specs.Drawn.{bondsDrawn, groupsDrawn, ringsDrawn, groupPin, Draws, Says, SaysUpTo}
+use Rattle.drawable.specs.declared.Shape.{Shape}
+use Rattle.drawable.specs.Drawn.{Drawn, bondsIn, groupsIn, ringsIn, bondsPart, groupsPart, ringsPart, drawnOf, bondsDrawn, groupsDrawn, ringsDrawn, groupPin, Draws, Says, SaysUpTo}
 use Rattle.reach.specs.Reach.{bondReach, ringReach, Flexible}
 use Rattle.drawable.proofs.Lists.{largest-append}
 
@@ -23,11 +23,21 @@ module _ (x : Drawn) (b g e : ℕ) (e₁ : b ≡ largest (x .first) (map bondRea
   end-as r d w =
       rw (← w .first, ← w .carbon, ← w .bonds, ← w .groups, ← w .rings, largest-append (x .first) (map bondReach (bondsDrawn x)) (map groupPin (groupsDrawn x) ++ map ringReach (ringsDrawn x)), largest-append (largest (x .first) (map bondReach (bondsDrawn x))) (map groupPin (groupsDrawn x)) (map ringReach (ringsDrawn x)), ← e₁, ← e₂, ← e₃)
 
-  pub prefix-inside : e < x .carbon → SaysUpTo x e prefixEnd
-  prefix-inside h = record { says = record { is = λ r d w. omega (arith, end-as r d w) }; fits = omega arith }
+  inside : e < x .carbon → SaysUpTo x e prefixEnd
+  inside h = record { says = record { is = λ r d w. omega (arith, end-as r d w) }; fits = omega arith }
 
-  pub prefix-whole : x .carbon ≤ e → SaysUpTo x (x .carbon) prefixEnd
-  prefix-whole h = record { says = record { is = λ r d w. omega (arith, end-as r d w) }; fits = omega arith }
+  whole : x .carbon ≤ e → SaysUpTo x (x .carbon) prefixEnd
+  whole h = record { says = record { is = λ r d w. omega (arith, end-as r d w) }; fits = omega arith }
+
+-- the same where the lists stand in the part of a chain
+module _ (x : Shape) (l bs gs rs : List ℕ) (b g e : ℕ) (p₁ : bs ≡ bondsPart l) (p₂ : gs ≡ groupsPart l) (p₃ : rs ≡ ringsPart l)
+    (e₁ : b ≡ largest (x .first) (map bondReach (bondsIn (x .«bond_count») bs))) (e₂ : g ≡ largest b (map groupPin (groupsIn (x .«group_count») gs)))
+    (e₃ : e ≡ largest g (map ringReach (ringsIn (x .«ring_count») rs))) where
+  pub prefix-inside : e < x .carbon → SaysUpTo (drawnOf x l) e prefixEnd
+  prefix-inside = inside (drawnOf x l) b g e (rw p₁ at e₁) (rw p₂ at e₂) (rw p₃ at e₃)
+
+  pub prefix-whole : x .carbon ≤ e → SaysUpTo (drawnOf x l) (x .carbon) prefixEnd
+  prefix-whole = whole (drawnOf x l) b g e (rw p₁ at e₁) (rw p₂ at e₂) (rw p₃ at e₃)
 
 pub rest-is : (x : Drawn) (e : ℕ) → SaysUpTo x e prefixEnd → Says x (x .carbon - e) remaining
 unfolding remaining

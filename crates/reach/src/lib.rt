@@ -1,11 +1,11 @@
 // How far a chain is drawn as it is written, and how many carbons are drawn. 01, Drawing a chain.
-use drawable::Drawn;
+use drawable::Shape;
 ghost use mathlib.Core.Path.{_≡_};
 ghost use mathlib.Core.List.{map};
 ghost use Prim.Native.Nat.{max};
 ghost use Rattle.chain.specs.Lists.{largest};
 ghost use Rattle.chain.specs.Features.{prefixEnd, literalEnd, remaining, drawnCount};
-ghost use Rattle.drawable.specs.Drawn.{bondsIn, groupsIn, ringsIn, groupPin, Says, SaysUpTo};
+ghost use Rattle.drawable.specs.Drawn.{bondsIn, groupsIn, ringsIn, groupPin, drawnOf, Says, SaysUpTo};
 ghost use Rattle.reach.specs.Reach.{bondReach, ringReach, Flexible};
 
 fn larger(a: u64, b: u64) -> u64
@@ -63,14 +63,14 @@ fn rings_reach(rings: &[u64], count: usize, m: u64) -> u64
 }
 
 // The last carbon of the literal prefix.
-pub fn prefix_end(x: Drawn) -> u16
-    ensures { λ r. ⌜ SaysUpTo x r prefixEnd ⌝ }
+fn prefix_end(x: Shape, part: &[u64]) -> u16
+    ensures { λ r. ⌜ SaysUpTo (drawnOf x (now (part .entry))) r prefixEnd ⌝ }
 {
     let first = x.first as u64;
     let carbon = x.carbon;
-    let bonds = bonds_reach(&x.bonds, x.bond_count, first);
-    let groups = groups_reach(&x.groups, x.group_count, bonds);
-    let reach = rings_reach(&x.rings, x.ring_count, groups);
+    let bonds = bonds_reach(drawable::bonds_part(part), x.bond_count, first);
+    let groups = groups_reach(drawable::groups_part(part), x.group_count, bonds);
+    let reach = rings_reach(drawable::rings_part(part), x.ring_count, groups);
     if reach < carbon as u64 {
         return reach as u16;
     }
@@ -78,21 +78,21 @@ pub fn prefix_end(x: Drawn) -> u16
 }
 
 // R, the carbons that remain after the literal prefix.
-pub fn remaining(x: Drawn) -> u16
-    ensures { λ r. ⌜ Says x r remaining ⌝ }
+pub fn remaining(x: Shape, part: &[u64]) -> u16
+    ensures { λ r. ⌜ Says (drawnOf x (now (part .entry))) r remaining ⌝ }
 {
-    let end = prefix_end(x);
+    let end = prefix_end(x, part);
     x.carbon - end
 }
 
 // The last literal carbon: c where every double bond is located.
-pub fn literal_end(x: Drawn) -> u16
-    ensures { λ r. ⌜ SaysUpTo x r literalEnd ⌝ }
+pub fn literal_end(x: Shape, part: &[u64]) -> u16
+    ensures { λ r. ⌜ SaysUpTo (drawnOf x (now (part .entry))) r literalEnd ⌝ }
 {
     if x.unlocated == 0 {
         return x.carbon;
     }
-    prefix_end(x)
+    prefix_end(x, part)
 }
 
 // The carbons of the flexible tail.
@@ -106,13 +106,13 @@ fn flexible_count(unlocated: u16) -> u32
 }
 
 // How many carbons are drawn.
-pub fn drawn_count(x: Drawn) -> u32
-    ensures { λ r. ⌜ Says x r drawnCount ⌝ }
+pub fn drawn_count(x: Shape, part: &[u64]) -> u32
+    ensures { λ r. ⌜ Says (drawnOf x (now (part .entry))) r drawnCount ⌝ }
 {
     let first = x.first as u32;
     let unlocated = x.unlocated;
     let flexible = flexible_count(unlocated);
-    let past = literal_end(x) as u32 + 1;
+    let past = literal_end(x, part) as u32 + 1;
     if past < first {
         return flexible;
     }

@@ -4,20 +4,21 @@ use Prim.Native.Nat.{ℕ, _+_, _*_}
 use native.Mathlib.Omega.{arith}
 use mathlib.Core.Path.{_≡_, sym, _∙_}
 use mathlib.Core.Bool.{Bool, true, false, cond}
+use mathlib.Core.List.{List}
 use lib.Dec.{ltb, leb}
+use lib.ListN.{length}
 use borrow.Author.Tests.{eq-eqb, ne-eqb}
 use Rattle.chain.specs.Lists.{anyOf}
 use Rattle.chain.specs.Features.{remaining, drawnCount, siteSkip}
 use Rattle.chain.specs.Refusals.{groupOnCarbonyl, pinTooFar, tailTooShort, noSite, drawRefusal}
-use Rattle.drawable.specs.declared.Drawn.{Drawn}
-use Rattle.drawable.specs.Drawn.{groupsDrawn, floatsDrawn, groupAt, Length, Says}
+use Rattle.drawable.specs.Drawn.{Drawn, groupsIn, floatsDrawn, groupAt, Length, Says}
 use Rattle.drawable.proofs.Lists.{some-empty, none-empty}
 
 -- ---- 12
 
-pub carbonyl-groups : (x : Drawn) (t : Bool) → x .acyl ≡ true → t ≡ anyOf (groupAt 1) (groupsDrawn x) → Says x t groupOnCarbonyl
+pub carbonyl-groups : (x : Drawn) (gs : List ℕ) (t : Bool) → gs ≡ x .groups → x .acyl ≡ true → t ≡ anyOf (groupAt 1) (groupsIn (x .«group_count») gs) → Says x t groupOnCarbonyl
 unfolding groupOnCarbonyl
-carbonyl-groups x t h e = record { is = λ r d w. rw (← w .acyl, h, ← w .groups) e }
+carbonyl-groups x gs t p h e = record { is = λ r d w. rw (← w .acyl, h, ← w .groups, ← p) e }
 
 pub no-carbonyl : (x : Drawn) → x .acyl ≡ false → Says x false groupOnCarbonyl
 unfolding groupOnCarbonyl
@@ -35,14 +36,17 @@ tail-some x m h s = record { is = λ r d w. rw (← w .unlocated, ne-eqb (x .unl
 
 -- ---- 15
 
-module _ (x : Drawn) (room n : ℕ) (l : Length room (floatsDrawn x) n) where
+module _ (x : Drawn) (fs : List ℕ) (p : fs ≡ x .floats) (room n : ℕ) (l : Length room (groupsIn (x .«float_count») fs) n) where
+  many : n ≡ length (floatsDrawn x)
+  many = rw p at (l .is)
+
   pub site-none : n ≡ 0 → Says x false noSite
   unfolding noSite
-  site-none h = record { is = λ r d w. rw (← w .floats, none-empty (floatsDrawn x) (omega (arith, l .is))) }
+  site-none h = record { is = λ r d w. rw (← w .floats, none-empty (floatsDrawn x) (omega (arith, many))) }
 
   pub site-some : (k m : ℕ) → (n ≡ 0 → ⊥) → k ≡ cond (x .acyl) 1 0 → Says x m drawnCount → Says x (leb m k) noSite
   unfolding noSite siteSkip
-  site-some k m h e s = record { is = λ r d w. rw (← w .floats, some-empty (floatsDrawn x) (omega (arith, l .is)), ← s .is r d w, ← w .acyl, ← e) }
+  site-some k m h e s = record { is = λ r d w. rw (← w .floats, some-empty (floatsDrawn x) (omega (arith, many)), ← s .is r d w, ← w .acyl, ← e) }
 
 -- ---- 12 to 15, in order
 

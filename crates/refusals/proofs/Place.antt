@@ -1,38 +1,39 @@
 -- Laws of the tests for 22, and of 32 and 33 in order: one for each way out.
 -- Assumes nothing.
+use Prim.Native.Nat.{ℕ}
 use mathlib.Core.Path.{_≡_, sym, ap, _∙_}
 use mathlib.Core.Bool.{Bool, true, false}
 use lib.Dec.{eqb, ltb}
-use Rattle.parsed.specs.declared.ParsedChain.{ParsedChain}
+use Rattle.record.specs.declared.ChainPrefix.{ChainPrefix}
 use Rattle.chain.specs.declared.Role.{Role}
 use Rattle.chain.specs.declared.Role.the-variants.{Slot, Acyl, Base}
 use Rattle.chain.specs.Features.{isAcyl}
 use Rattle.chain.specs.Refusals.{isSphingoid, wrongKind, offChain, clashes, placeRefusal}
-use Rattle.drawable.specs.declared.Drawn.{Drawn}
-use Rattle.drawable.specs.Drawn.{chainOf, Says}
+use Rattle.drawable.specs.Drawn.{Drawn, Says}
+use Rattle.refusals.specs.Kind.{Kind}
 
 -- ---- 22
 
-module _ (r : Role) (c : ParsedChain) (t : Bool) where
-  pub slot-sphingoid : r ≡ Slot → t ≡ isSphingoid (c .prefix) → t ≡ true → ltb 0 (c .carbon) ≡ wrongKind r (chainOf c)
-  unfolding wrongKind chainOf
-  slot-sphingoid h e f = rw (h, sym e ∙ f)
+module _ (r : Role) (p : ChainPrefix) (c : ℕ) (t : Bool) where
+  pub slot-sphingoid : r ≡ Slot → t ≡ isSphingoid p → t ≡ true → Kind r p c (ltb 0 c)
+  unfolding wrongKind
+  slot-sphingoid h e f = record { is = λ d g k. rw (h, g, k, sym e ∙ f) }
 
-  pub slot-other : r ≡ Slot → t ≡ isSphingoid (c .prefix) → t ≡ false → false ≡ wrongKind r (chainOf c)
-  unfolding wrongKind chainOf
-  slot-other h e f = rw (h, sym e ∙ f)
+  pub slot-other : r ≡ Slot → t ≡ isSphingoid p → t ≡ false → Kind r p c false
+  unfolding wrongKind
+  slot-other h e f = record { is = λ d g k. rw (h, g, k, sym e ∙ f) }
 
-  pub acyl-plain : r ≡ Acyl → t ≡ isAcyl r (c .prefix) → t ≡ true → eqb (c .carbon) 0 ≡ wrongKind r (chainOf c)
-  unfolding wrongKind chainOf
-  acyl-plain h e f = rw (h, sym (ap (λ (q : Role). isAcyl q (c .prefix)) h) ∙ sym e ∙ f)
+  pub acyl-plain : r ≡ Acyl → t ≡ isAcyl r p → t ≡ true → Kind r p c (eqb c 0)
+  unfolding wrongKind
+  acyl-plain h e f = record { is = λ d g k. rw (h, g, k, sym (ap (λ (q : Role). isAcyl q p) h) ∙ sym e ∙ f) }
 
-  pub acyl-other : r ≡ Acyl → t ≡ isAcyl r (c .prefix) → t ≡ false → true ≡ wrongKind r (chainOf c)
-  unfolding wrongKind chainOf
-  acyl-other h e f = rw (h, sym (ap (λ (q : Role). isAcyl q (c .prefix)) h) ∙ sym e ∙ f)
+  pub acyl-other : r ≡ Acyl → t ≡ isAcyl r p → t ≡ false → Kind r p c true
+  unfolding wrongKind
+  acyl-other h e f = record { is = λ d g k. rw (h, g, k, sym (ap (λ (q : Role). isAcyl q p) h) ∙ sym e ∙ f) }
 
-pub base-long : (r : Role) (c : ParsedChain) → r ≡ Base → ltb (c .carbon) 4 ≡ wrongKind r (chainOf c)
-unfolding wrongKind chainOf
-base-long r c h = rw h
+pub base-long : (r : Role) (p : ChainPrefix) (c : ℕ) → r ≡ Base → Kind r p c (ltb c 4)
+unfolding wrongKind
+base-long r p c h = record { is = λ d g k. rw (h, k) }
 
 -- ---- 32, then 33
 

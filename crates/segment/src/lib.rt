@@ -221,7 +221,7 @@ fn parse_parts(
 }
 
 // A segment without its brackets, in the first of the four forms that it has.
-pub fn parse_modification_segment(
+fn parse_modification_segment(
     s: &[u8],
     carbon: u16,
     bonds: &mut [u64],

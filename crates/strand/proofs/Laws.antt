@@ -11,8 +11,9 @@ use Rattle.emit.proofs.Laws.{written-nil, written-append, written-length}
 use Rattle.chain.specs.declared.Role.{Role}
 use Rattle.chain.specs.declared.Role.the-variants.{Slot, Acyl, Base}
 use Rattle.chain.specs.Drawing.{carbonAtoms}
-use Rattle.drawable.specs.declared.Drawn.{Drawn}
-use Rattle.drawable.specs.Drawn.{Says, ringCount, floatCount}
+use Rattle.drawable.proofs.Parts.{floats-few, rings-few}
+use Rattle.drawable.specs.declared.Shape.{Shape}
+use Rattle.drawable.specs.Drawn.{Drawn, Length, groupsIn, ringsIn, floatsPart, ringsPart, drawnOf, floatsDrawn, ringsDrawn, Says}
 use Rattle.branches.specs.Text.{RowsPut}
 use Rattle.fragment.specs.Segment.{Segment}
 use Rattle.atoms.specs.declared.ChainAtoms.{ChainAtoms}
@@ -71,7 +72,27 @@ strand-laid {ρ} s i r =
       sizes = record { text = s .size; index = i .size; rows = r .size };
     }
 
-pub figures-are : {x : Drawn} {t f r : ℕ} → Says x t sumOf → Says x f floatCount → Says x r ringCount
-    → FiguresOf x (record { acyl = x .acyl; unlocated = x .unlocated; total = t; «float_count» = f; rings = r })
-figures-are s f r =
-    record { are = λ ρ d w. record { acyl = w .acyl; unlocated = w .unlocated; total = s .is ρ d w; floats = f .is ρ d w; rings = r .is ρ d w } }
+-- their numbers are small
+pub floats-fit : {A : Type 0} {l′ : List A} {fs : List ℕ} {f : ℕ} (l : List ℕ) → fs ≡ floatsPart l → Length (length fs) l′ f → f < 65536
+floats-fit {f = f} l e u = let z : f ≤ length (floatsPart l) = rw e at u .fits in omega (arith, floats-few l)
+
+pub rings-fit : {A : Type 0} {l′ : List A} {rs : List ℕ} {r : ℕ} (l : List ℕ) → rs ≡ ringsPart l → Length (length rs) l′ r → r < 65536
+rings-fit {r = r} l e u = let z : r ≤ length (ringsPart l) = rw e at u .fits in omega (arith, rings-few l)
+
+pub figures-are : {x : Shape} (l : List ℕ) {t f r a b : ℕ} {fs rs : List ℕ} → Says (drawnOf x l) t sumOf → fs ≡ floatsPart l → Length a (groupsIn (x .«float_count») fs) f
+    → rs ≡ ringsPart l → Length b (ringsIn (x .«ring_count») rs) r
+    → FiguresOf (drawnOf x l) (record { acyl = x .acyl; unlocated = x .unlocated; total = t; «float_count» = f; rings = r })
+figures-are {x} l {f = f} {r = r} s e u g v =
+    let floats : f ≡ length (floatsDrawn (drawnOf x l)) = rw e at u .is in
+    let rings : r ≡ length (ringsDrawn (drawnOf x l)) = rw g at v .is in
+    record {
+      are =
+          λ ρ d w.
+          record {
+            acyl = w .acyl;
+            unlocated = w .unlocated;
+            total = s .is ρ d w;
+            floats = floats ∙ ap length (w .floats);
+            rings = rings ∙ ap length (w .rings);
+          };
+    }

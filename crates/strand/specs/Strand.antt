@@ -11,8 +11,7 @@ use Rattle.reading.specs.Template.{chain, itemPieces}
 use Rattle.chain.specs.declared.Role.{Role}
 use Rattle.chain.specs.Features.{isAcyl, floating, drawnCount}
 use Rattle.chain.specs.Drawing.{chainDrawn, carbons, carbonAtoms, flexibleAtom, atomsEnd}
-use Rattle.drawable.specs.declared.Drawn.{Drawn}
-use Rattle.drawable.specs.Drawn.{Draws}
+use Rattle.drawable.specs.Drawn.{Drawn, Draws}
 use Rattle.branches.specs.Text.{rowsIn}
 use Rattle.fragment.specs.Segment.{Readable}
 use Rattle.atoms.specs.declared.ChainAtoms.{ChainAtoms}

@@ -1,12 +1,14 @@
 // A chain laid down at its place: its text in the line, the indices of its carbons and the rows of its floating groups in slices of their own,
 // each one after those of the chains before it; and the numbers that are kept of it.
 use atoms::ChainAtoms;
+use carbons::CARBON_ROOM;
 use chain::Role;
-use drawable::Drawn;
+use drawable::Shape;
 ghost use mathlib.Core.Path.{_≡_};
 ghost use mathlib.Core.List.{[], _∷_};
 ghost use Prim.Native.Nat.{_≤_};
 ghost use Rattle.emit.specs.Text.{Written};
+ghost use Rattle.drawable.specs.Drawn.{drawnOf};
 ghost use Rattle.carbons.specs.Tokens.{tokens, TokensOf};
 ghost use Rattle.atoms.specs.Atoms.{Counts};
 ghost use Rattle.template.specs.Request.{headCarbons};
@@ -69,18 +71,19 @@ fn put_indices<'a>(
     at: usize,
     role: Role,
     first: u32,
-    x: Drawn,
+    x: Shape,
+    part: &'a [u64],
     from: u16,
     last: u16,
     bonds: &'a [u8],
     busy: &'a [u8],
 ) -> ChainAtoms
-    requires { ⌜ TokensOf x (tokens from last (now bonds) (now busy)) ⌝ }
-    ensures { λ r. ⌜ Indexed role first x (now (index .entry)) at (now (index .exit)) r ⌝ }
+    requires { ⌜ TokensOf (drawnOf x (now part)) (tokens from last (now bonds) (now busy)) ⌝ }
+    ensures { λ r. ⌜ Indexed role first (drawnOf x (now (part .entry))) (now (index .entry)) at (now (index .exit)) r ⌝ }
 {
     let heads = head_count(role);
     let p = put_heads(index, at, role);
-    let mut own = atoms::number_chain(index, p, first, x, from, last, bonds, busy);
+    let mut own = atoms::number_chain(index, p, first, x, part, from, last, bonds, busy);
     own.count = heads + own.count;
     own
 }
@@ -93,19 +96,22 @@ pub fn put_strand(
     at: usize,
     used: usize,
     row: usize,
-    x: Drawn,
+    x: Shape,
+    part: &[u64],
     role: Role,
     first: u32,
     label: u8,
 ) -> Strand
-    ensures { λ r. ⌜ StrandOf role first label x (rooms (now (out .entry)) (now (index .entry)) (now (rows .entry))) at used row (rooms (now (out .exit)) (now (index .exit)) (now (rows .exit))) r ⌝ }
+    ensures { λ r. ⌜ StrandOf role first label (drawnOf x (now (part .entry))) (rooms (now (out .entry)) (now (index .entry)) (now (rows .entry))) at used row (rooms (now (out .exit)) (now (index .exit)) (now (rows .exit))) r ⌝ }
 {
-    let t = carbons::chain_tokens(x);
-    let from = t.first;
-    let last = t.last;
-    let next = fragment::build_chain_segment(out, at, x, from, last, &t.bonds, &t.busy, label);
-    let own = put_indices(index, used, role, first, x, from, last, &t.bonds, &t.busy);
-    let end = branches::put_rows(rows, row, x);
+    let mut bonds = [0u8; CARBON_ROOM];
+    let mut busy = [0u8; CARBON_ROOM];
+    let span = carbons::chain_tokens(x, part, &mut bonds, &mut busy);
+    let from = span.first;
+    let last = span.last;
+    let next = fragment::build_chain_segment(out, at, x, part, from, last, &bonds, &busy, label);
+    let own = put_indices(index, used, role, first, x, part, from, last, &bonds, &busy);
+    let end = branches::put_rows(rows, row, x, part);
     Strand {
         at: next,
         used: own.at,
@@ -117,12 +123,12 @@ pub fn put_strand(
     }
 }
 
-pub fn figures_of(x: Drawn) -> Figures
-    ensures { λ r. ⌜ FiguresOf x r ⌝ }
+pub fn figures_of(x: Shape, part: &[u64]) -> Figures
+    ensures { λ r. ⌜ FiguresOf (drawnOf x (now (part .entry))) r ⌝ }
 {
-    let total = atoms::sum(x);
-    let float_count = drawable::float_count(x);
-    let rings = drawable::ring_count(x);
+    let total = atoms::sum(x, part);
+    let float_count = drawable::groups_len(drawable::floats_part(part), x.float_count) as u16;
+    let rings = drawable::rings_len(drawable::rings_part(part), x.ring_count) as u16;
     Figures {
         acyl: x.acyl,
         unlocated: x.unlocated,

@@ -3,7 +3,7 @@
 use Prim.Native.Nat.{ℕ}
 use mathlib.Core.Path.{_≡_, refl}
 use mathlib.Core.List.{List}
-use Rattle.drawable.specs.declared.Chains.{Chains}
+use Rattle.drawable.specs.Chains.{Chains}
 use Rattle.template.specs.declared.Class.{Class}
 use Rattle.template.specs.declared.Class.the-variants.{Fa, Gl1, Gl2, Gl3, Gp, Cl, Sb, Sa}
 use Rattle.template.specs.Template.{elements, glycerol, roleOf}

@@ -7,8 +7,8 @@ use Rattle.record.specs.Chain.{Chain}
 use Rattle.reading.specs.Ascii.{ascii}
 use Rattle.reading.specs.Piece.{show}
 use Rattle.chain.specs.declared.Role.the-variants.{Acyl, Base}
-use Rattle.drawable.specs.declared.Drawn.{Drawn}
-use Rattle.drawable.specs.declared.Chains.{Chains}
+use Rattle.drawable.specs.Drawn.{Drawn}
+use Rattle.drawable.specs.Chains.{Chains}
 use Rattle.template.specs.declared.Class.the-variants.{Fa, Gp, Cl, Sb, Sa}
 use Rattle.template.specs.Template.{elements, glycerol, roleOf}
 use Rattle.template.specs.Request.{fixedPieces, atomsOfPieces}

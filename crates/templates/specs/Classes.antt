@@ -4,7 +4,7 @@ use mathlib.Core.Path.{_≡_}
 use mathlib.Core.Bool.{true}
 use mathlib.Core.List.{List}
 use Rattle.record.specs.Chain.{Chain}
-use Rattle.drawable.specs.declared.Chains.{Chains}
+use Rattle.drawable.specs.Chains.{Chains}
 use Rattle.template.specs.declared.Class.{Class}
 use Rattle.template.specs.Template.{elements, roleOf, hasTail}
 use Rattle.placed.specs.Fragment.{Stood}

@@ -8,7 +8,7 @@ use Rattle.reading.specs.Piece.{show}
 use Rattle.reading.specs.Template.{templatePieces}
 use Rattle.chain.specs.declared.Role.{Role}
 use Rattle.chain.specs.declared.Role.the-variants.{Slot}
-use Rattle.drawable.specs.declared.Chains.{Chains}
+use Rattle.drawable.specs.Chains.{Chains}
 use Rattle.template.specs.Template.{Element}
 use Rattle.template.specs.Request as request
 use Rattle.template.specs.Request.{allItems, placedFrom, tailPart}

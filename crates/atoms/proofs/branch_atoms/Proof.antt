@@ -1,16 +1,23 @@
-use Rattle.atoms.proofs.AtomLaws.{branch-counted}
+use mathlib.Core.Path.{refl}
+use native.Mathlib.Omega.{arith}
+use Rattle.groups.specs.Groups.{entries}
+use Rattle.atoms.proofs.AtomLaws.{branch-told, branch-past}
 use borrow.Author.Needs.{needs}
 use Rattle.atoms.proofs.branch_atoms.Statement.{statement}
 use Rattle.atoms.proofs.branch_atoms.Tie as tie
 
-row-at-requires : tie.Need-row-at-requires
-row-at-requires c κs = search needs
+array-read-wide : tie.Need-array-read-wide
+array-read-wide c = search needs
 
-cast-result : tie.Need-cast-result
-cast-result c = search needs
+wide-requires : tie.Need-wide-requires
+wide-requires c κs = search needs
 
 returns : tie.Need-returns
-returns c = search branch-counted
+unfolding entries
+returns c = branch-told _ _ _ refl (c .wide .ensures)
+
+returns-2 : tie.Need-returns-2
+returns-2 c = search (branch-past, arith)
 
 pub branch-atoms-spec : {M : Type 1} → statement M
-branch-atoms-spec = tie.close (tie.spec row-at-requires cast-result returns)
+branch-atoms-spec = tie.close (tie.spec array-read-wide wide-requires returns returns-2)

@@ -3,6 +3,9 @@ use borrow.Author.Needs.{needs}
 use Rattle.branches.proofs.put_rows.Statement.{statement}
 use Rattle.branches.proofs.put_rows.Tie as tie
 
+floats-part-requires : tie.Need-floats-part-requires
+floats-part-requires c κs = search needs
+
 write-rows-requires : tie.Need-write-rows-requires
 write-rows-requires c κs = search needs
 
@@ -13,4 +16,4 @@ returns : tie.Need-returns
 returns c = search rows-put
 
 pub put-rows-spec : {M : Type 1} → statement M
-put-rows-spec = tie.close (tie.spec write-rows-requires same-length returns)
+put-rows-spec = tie.close (tie.spec floats-part-requires write-rows-requires same-length returns)

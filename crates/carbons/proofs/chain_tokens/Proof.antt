@@ -3,14 +3,17 @@ use borrow.Author.Needs.{needs}
 use Rattle.carbons.proofs.chain_tokens.Statement.{statement}
 use Rattle.carbons.proofs.chain_tokens.Tie as tie
 
-slice-aggregate-marked-bonds : tie.Need-slice-aggregate-marked-bonds
-slice-aggregate-marked-bonds c = search needs
+rings-part-requires : tie.Need-rings-part-requires
+rings-part-requires c κs = search needs
+
+bonds-part-requires : tie.Need-bonds-part-requires
+bonds-part-requires c κs = search needs
 
 marked-bonds-requires : tie.Need-marked-bonds-requires
 marked-bonds-requires c κs = search needs
 
-slice-aggregate-busy-carbons : tie.Need-slice-aggregate-busy-carbons
-slice-aggregate-busy-carbons c = search needs
+groups-part-requires : tie.Need-groups-part-requires
+groups-part-requires c κs = search needs
 
 busy-carbons-requires : tie.Need-busy-carbons-requires
 busy-carbons-requires c κs = search needs
@@ -24,6 +27,12 @@ literal-end-requires c κs = search needs
 in-room-requires : tie.Need-in-room-requires
 in-room-requires c κs = search needs
 
+same-length : tie.Need-same-length
+same-length c = search needs
+
+same-length-2 : tie.Need-same-length-2
+same-length-2 c = search needs
+
 returns : tie.Need-returns
 returns c = search tokens-are
 
@@ -31,11 +40,14 @@ pub chain-tokens-spec : {M : Type 1} → statement M
 chain-tokens-spec =
     tie.close
     (tie.spec
-    slice-aggregate-marked-bonds
+    rings-part-requires
+    bonds-part-requires
     marked-bonds-requires
-    slice-aggregate-busy-carbons
+    groups-part-requires
     busy-carbons-requires
     from-one-requires
     literal-end-requires
     in-room-requires
+    same-length
+    same-length-2
     returns)

@@ -19,11 +19,11 @@ loop-holds c = (omega arith, omega arith, omega arith, floats-start _ _ _ _ _ (o
 put-float-requires : tie.Need-put-float-requires Inv-loop μ-loop
 put-float-requires c κs = search needs
 
-shared-slice-read-branch-atoms : tie.Need-shared-slice-read-branch-atoms Inv-loop μ-loop
-shared-slice-read-branch-atoms c = search needs
+shared-slice-read-wide-branch-atoms : tie.Need-shared-slice-read-wide-branch-atoms Inv-loop μ-loop
+shared-slice-read-wide-branch-atoms c = search needs
 
-branch-atoms-requires : tie.Need-branch-atoms-requires Inv-loop μ-loop
-branch-atoms-requires c κs = search needs
+wide-branch-atoms-requires : tie.Need-wide-branch-atoms-requires Inv-loop μ-loop
+wide-branch-atoms-requires c κs = search needs
 
 add-here : tie.Need-add-here Inv-loop μ-loop
 add-here c = search needs
@@ -54,8 +54,8 @@ put-floats-spec =
     μ-loop
     loop-holds
     put-float-requires
-    shared-slice-read-branch-atoms
-    branch-atoms-requires
+    shared-slice-read-wide-branch-atoms
+    wide-branch-atoms-requires
     add-here
     add-here-2
     add-i

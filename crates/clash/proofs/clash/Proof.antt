@@ -3,11 +3,17 @@ use borrow.Author.Needs.{needs}
 use Rattle.clash.proofs.clash.Statement.{statement}
 use Rattle.clash.proofs.clash.Tie as tie
 
+bonds-part-requires : tie.Need-bonds-part-requires
+bonds-part-requires c κs = search needs
+
 repeated-bond-requires : tie.Need-repeated-bond-requires
 repeated-bond-requires c κs = search needs
 
 returns : tie.Need-returns
 returns c = search clash-bonds
+
+rings-part-requires : tie.Need-rings-part-requires
+rings-part-requires c κs = search needs
 
 any-epoxide-on-requires : tie.Need-any-epoxide-on-requires
 any-epoxide-on-requires c κs = search needs
@@ -31,8 +37,10 @@ pub clash-spec : {M : Type 1} → statement M
 clash-spec =
     tie.close
     (tie.spec
+    bonds-part-requires
     repeated-bond-requires
     returns
+    rings-part-requires
     any-epoxide-on-requires
     returns-2
     any-small-ring-requires

@@ -1,5 +1,3 @@
-use borrow.Author.Needs.{needs}
-use borrow.Author.Needs.{needs}
 use Prim.Native.Nat.{_+_, _≤_, _-_}
 use native.Mathlib.Omega.{arith}
 use mathlib.Core.Path.{_≡_}
@@ -8,35 +6,39 @@ use lib.ListN.{length, take}
 use Rattle.drawable.specs.Drawn.{bondsIn}
 use Rattle.fitted.specs.Fitted.{alkenyl}
 use Rattle.fitted.proofs.Drawing.{bonds-none, bonds-next, bonds-all}
+use borrow.Author.Needs.{needs}
 use Rattle.fitted.proofs.double_bonds.Statement.{statement}
 use Rattle.fitted.proofs.double_bonds.Tie as tie
 
 abbrev Inv-loop : tie.InvT-loop
-Inv-loop added written n first items₀ i₀ items i = (bondsIn (added + i) items ≡ take added (alkenyl ∷ []) ++ bondsIn i written) × (i ≤ n) × (length items ≡ 33)
+Inv-loop added written n bonds₀ i₀ bonds i = (bondsIn (added + i) bonds ≡ take added (alkenyl ∷ []) ++ bondsIn i written) × (i ≤ n) × (length bonds ≡ 33)
 
 abbrev μ-loop : tie.MeasureT-loop
-μ-loop added written n first items₀ i₀ items i = n - i
+μ-loop added written n bonds₀ i₀ bonds i = n - i
 
 bond-number-requires : tie.Need-bond-number-requires Inv-loop μ-loop
 bond-number-requires c κs = search needs
 
+slice-write-bonds : tie.Need-slice-write-bonds Inv-loop μ-loop
+slice-write-bonds c = search needs
+
 loop-holds : tie.Need-loop-holds Inv-loop μ-loop
 loop-holds c = (search bonds-none, omega arith, search needs)
 
-mul-items : tie.Need-mul-items Inv-loop μ-loop
-mul-items c = search needs
+mul-bonds : tie.Need-mul-bonds Inv-loop μ-loop
+mul-bonds c = search needs
 
-shared-slice-read-items : tie.Need-shared-slice-read-items Inv-loop μ-loop
-shared-slice-read-items c = search needs
+shared-slice-read-bonds : tie.Need-shared-slice-read-bonds Inv-loop μ-loop
+shared-slice-read-bonds c = search needs
 
-add-items : tie.Need-add-items Inv-loop μ-loop
-add-items c = search needs
+add-bonds : tie.Need-add-bonds Inv-loop μ-loop
+add-bonds c = search needs
 
-mul-items-2 : tie.Need-mul-items-2 Inv-loop μ-loop
-mul-items-2 c = search needs
+mul-bonds-2 : tie.Need-mul-bonds-2 Inv-loop μ-loop
+mul-bonds-2 c = search needs
 
-array-write-items : tie.Need-array-write-items Inv-loop μ-loop
-array-write-items c = search needs
+slice-write-bonds-2 : tie.Need-slice-write-bonds-2 Inv-loop μ-loop
+slice-write-bonds-2 c = search needs
 
 add-i : tie.Need-add-i Inv-loop μ-loop
 add-i c = search needs
@@ -46,6 +48,9 @@ loop-less c = search needs
 
 loop-again : tie.Need-loop-again Inv-loop μ-loop
 loop-again c = (search bonds-next, omega arith, search needs)
+
+same-length : tie.Need-same-length Inv-loop μ-loop
+same-length c = search needs
 
 returns : tie.Need-returns Inv-loop μ-loop
 returns c = search bonds-all
@@ -57,13 +62,15 @@ double-bonds-spec =
     Inv-loop
     μ-loop
     bond-number-requires
+    slice-write-bonds
     loop-holds
-    mul-items
-    shared-slice-read-items
-    add-items
-    mul-items-2
-    array-write-items
+    mul-bonds
+    shared-slice-read-bonds
+    add-bonds
+    mul-bonds-2
+    slice-write-bonds-2
     add-i
     loop-less
     loop-again
+    same-length
     returns)

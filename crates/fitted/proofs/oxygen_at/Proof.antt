@@ -1,6 +1,4 @@
-use Rattle.fitted.specs.Fitted.{listed}
-use Rattle.fitted.proofs.Drawing.{list-fits, oxygen-none, oxygen-one}
-use Rattle.record.proofs.Laws.{length-mapped}
+use Rattle.fitted.proofs.Drawing.{oxygen-none, oxygen-one}
 use borrow.Author.Needs.{needs}
 use Rattle.fitted.proofs.oxygen_at.Statement.{statement}
 use Rattle.fitted.proofs.oxygen_at.Tie as tie
@@ -8,16 +6,22 @@ use Rattle.fitted.proofs.oxygen_at.Tie as tie
 group-at-requires : tie.Need-group-at-requires
 group-at-requires c κs = search needs
 
-returns : tie.Need-returns
-unfolding listed
-returns c = search (oxygen-none, list-fits, length-mapped)
+same-length : tie.Need-same-length
+same-length c = search needs
 
-push-requires : tie.Need-push-requires
-push-requires c κs = search needs
+returns : tie.Need-returns
+returns c = search oxygen-none
+
+push-group-requires : tie.Need-push-group-requires
+push-group-requires c κs = search needs
+
+same-length-2 : tie.Need-same-length-2
+same-length-2 c = search needs
 
 returns-2 : tie.Need-returns-2
-unfolding listed
 returns-2 c = search oxygen-one
 
 pub oxygen-at-spec : {M : Type 1} → statement M
-oxygen-at-spec = tie.close (tie.spec group-at-requires returns push-requires returns-2)
+oxygen-at-spec =
+    tie.close
+    (tie.spec group-at-requires same-length returns push-group-requires same-length-2 returns-2)

@@ -11,10 +11,8 @@ refused-requires c κs = search needs
 
 returns : tie.Need-returns
 returns c =
-    called-refused (c .before .before .before .judge .result) (c .before .before .before .judge .ensures) (c .before .if1 .taken) (c .refused .ensures)
-
-tail-atoms-requires : tie.Need-tail-atoms-requires
-tail-atoms-requires c κs = search needs
+    let judged = c .before .before .before in
+    called-refused (judged .judge .result) _ (judged .judge .ensures) (c .before .if1 .taken) (c .refused .ensures)
 
 draw-chains-requires : tie.Need-draw-chains-requires
 draw-chains-requires c κs = search needs
@@ -27,19 +25,14 @@ same-length-2 c = search needs
 
 returns-2 : tie.Need-returns-2
 returns-2 c =
-    let a = c .before .before .before .before .before .before .before .before .before .before .before .before .before .before .before .before .before .before .before .before .args in
-    called-drawn (a .class .now) (a .tail .now) (a .count) (a .sn1 .now) (a .sn2 .now) (a .sn3 .now) (a .sn4 .now) (c .before .before .before .before .before .before .before .before .before .before .before .judge .result) (c .before .before .before .before .before .before .before .before .before .before .before .judge .ensures) (c .before .before .before .before .before .before .before .before .before .if1 .left)
-    (c .before .before .before .before .before .before .before .tail-atoms .ensures) (c .before .before .before .before .draw-chains .ensures)
+    let drawn = c .before .before .before .before in
+    let fine = drawn .before .before .before .before .before in
+    let judged = fine .before .before in
+    let a = judged .before .before .before .before .before .before .before .before .before .before .args in
+    called-drawn (a .class .now) (a .tail .now) (a .count) (a .sn1 .now) (a .sn2 .now) (a .sn3 .now) (a .sn4 .now) (judged .judge .result) _ (judged .judge .ensures)
+    (fine .if1 .left) (drawn .draw-chains .ensures)
 
 pub draw-spec : {M : Type 1} → statement M
 draw-spec =
     tie.close
-    (tie.spec
-    judge-requires
-    refused-requires
-    returns
-    tail-atoms-requires
-    draw-chains-requires
-    same-length
-    same-length-2
-    returns-2)
+    (tie.spec judge-requires refused-requires returns draw-chains-requires same-length same-length-2 returns-2)

@@ -1,4 +1,4 @@
-use Rattle.fragment.proofs.SegmentLaws.{segment-done}
+use Rattle.fragment.proofs.SegmentLaws.{range-ready, segment-done}
 use borrow.Author.Needs.{needs}
 use Rattle.fragment.proofs.build_chain_segment.Statement.{statement}
 use Rattle.fragment.proofs.build_chain_segment.Tie as tie
@@ -9,11 +9,23 @@ shared-slice-read-bond c = search needs
 in-labels-requires : tie.Need-in-labels-requires
 in-labels-requires c κs = search needs
 
+groups-part-requires : tie.Need-groups-part-requires
+groups-part-requires c κs = search needs
+
+rings-part-requires : tie.Need-rings-part-requires
+rings-part-requires c κs = search needs
+
 assemble-range-requires : tie.Need-assemble-range-requires
-assemble-range-requires c κs = search needs
+assemble-range-requires c κs =
+    let label = c .before .before .before in
+    let start = label .before .before .before .before .before .before in
+    range-ready _ _ _ _ _ _ _ (start .pre) (c .before .groups-part .ensures) (c .rings-part .ensures) (label .in-labels .ensures)
 
 put-flexible-requires : tie.Need-put-flexible-requires
 put-flexible-requires c κs = search needs
+
+floats-part-requires : tie.Need-floats-part-requires
+floats-part-requires c κs = search needs
 
 put-floats-requires : tie.Need-put-floats-requires
 put-floats-requires c κs = search needs
@@ -22,12 +34,7 @@ same-length : tie.Need-same-length
 same-length c = search needs
 
 returns : tie.Need-returns
-returns c =
-    let flexible = c .before .before .before .before .before .before .before .before .before in
-    let range = flexible .before .before .before .before in
-    let label = range .before .before .before .before .before .before .before in
-    let start = label .before .before .before .before .before in
-    segment-done _ _ _ _ _ _ (start .good .0 .0) (start .pre) (label .in-labels .ensures) (range .assemble-range .ensures) (flexible .put-flexible .ensures) (c .before .before .put-floats .ensures)
+returns c = search segment-done
 
 pub build-chain-segment-spec : {M : Type 1} → statement M
 build-chain-segment-spec =
@@ -35,8 +42,11 @@ build-chain-segment-spec =
     (tie.spec
     shared-slice-read-bond
     in-labels-requires
+    groups-part-requires
+    rings-part-requires
     assemble-range-requires
     put-flexible-requires
+    floats-part-requires
     put-floats-requires
     same-length
     returns)

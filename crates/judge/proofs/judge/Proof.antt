@@ -1,4 +1,4 @@
-use Rattle.judge.proofs.Judging.{class-unknown, class-known}
+use Rattle.judge.proofs.Judging.{count-four, class-unknown, class-count, class-known}
 use borrow.Author.Needs.{needs}
 use Rattle.judge.proofs.judge.Statement.{statement}
 use Rattle.judge.proofs.judge.Tie as tie
@@ -18,11 +18,20 @@ refused-requires c κs = search needs
 returns : tie.Need-returns
 returns c = search class-unknown
 
-judge-class-requires : tie.Need-judge-class-requires
-judge-class-requires c κs = search needs
+wrong-count-requires : tie.Need-wrong-count-requires
+wrong-count-requires c κs = search needs
+
+refused-requires-2 : tie.Need-refused-requires-2
+refused-requires-2 c κs = search needs
 
 returns-2 : tie.Need-returns-2
-returns-2 c = search class-known
+returns-2 c = search class-count
+
+judge-tokens-requires : tie.Need-judge-tokens-requires
+judge-tokens-requires c κs = (search count-four, search needs)
+
+returns-3 : tie.Need-returns-3
+returns-3 c = search class-known
 
 pub judge-spec : {M : Type 1} → statement M
 judge-spec =
@@ -33,5 +42,8 @@ judge-spec =
     enum-told
     refused-requires
     returns
-    judge-class-requires
-    returns-2)
+    wrong-count-requires
+    refused-requires-2
+    returns-2
+    judge-tokens-requires
+    returns-3)

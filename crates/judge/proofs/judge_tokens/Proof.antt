@@ -1,43 +1,58 @@
-use borrow.Author.Needs.{needs}
 use Prim.Native.Nat.{_≤_, _-_}
 use native.Mathlib.Omega.{arith}
 use mathlib.Core.Path.{_≡_}
 use mathlib.Core.List.{[], _∷_}
 use lib.ListN.{length, take}
 use Rattle.token.specs.Request.{tokensOf}
+use Rattle.drawable.specs.Chains.{itemsOf}
+use Rattle.record.proofs.Laws.{length-mapped}
 use Rattle.judge.proofs.Laws.{Met, met-first, met-next}
 use Rattle.judge.proofs.Judging.{tokens-judged}
+use borrow.Author.Needs.{needs}
 use Rattle.judge.proofs.judge_tokens.Statement.{statement}
 use Rattle.judge.proofs.judge_tokens.Tie as tie
 
 abbrev Inv-loop : tie.InvT-loop
-Inv-loop class tail count sn1 sn2 sn3 sn4 faults₀ items₀ i₀ faults items i = Met class faults (take i items) (tokensOf (take i (sn1 ∷ sn2 ∷ sn3 ∷ sn4 ∷ []))) × (i ≤ count) × (count ≤ 4) × (length items ≡ 4)
+Inv-loop class tail count sn1 sn2 sn3 sn4 lists₀ items₀ faults₀ i₀ lists items faults i = Met class faults (take i (itemsOf items lists)) (tokensOf (take i (sn1 ∷ sn2 ∷ sn3 ∷ sn4 ∷ []))) × (i ≤ count) × (count ≤ 4) × (length items ≡ 4) × (length lists ≡ 308)
 
 abbrev μ-loop : tie.MeasureT-loop
-μ-loop class tail count sn1 sn2 sn3 sn4 faults₀ items₀ i₀ faults items i = count - i
+μ-loop class tail count sn1 sn2 sn3 sn4 lists₀ items₀ faults₀ i₀ lists items faults i = count - i
 
-look-requires : tie.Need-look-requires Inv-loop μ-loop
-look-requires c κs = search needs
+no-chains-requires : tie.Need-no-chains-requires Inv-loop μ-loop
+no-chains-requires c κs = search needs
 
 new-requires : tie.Need-new-requires Inv-loop μ-loop
 new-requires c κs = search needs
 
-join-requires : tie.Need-join-requires Inv-loop μ-loop
-join-requires c κs = search needs
-
 loop-holds : tie.Need-loop-holds Inv-loop μ-loop
-loop-holds c =
-    let c9 = c .before .before .before .before .before .before .before .before .before in
-    (search met-first, omega (arith, c9 .pre .0), c9 .pre .1, search needs)
+loop-holds c = (search met-first, omega arith, search needs, search length-mapped, search needs)
 
-look-requires-2 : tie.Need-look-requires-2 Inv-loop μ-loop
-look-requires-2 c κs = search needs
+mul-from : tie.Need-mul-from Inv-loop μ-loop
+mul-from c = search needs
+
+add-to : tie.Need-add-to Inv-loop μ-loop
+add-to c = search needs
+
+mul-look : tie.Need-mul-look Inv-loop μ-loop
+mul-look c = search needs
+
+sub-look : tie.Need-sub-look Inv-loop μ-loop
+sub-look c = search needs
+
+part-look-start : tie.Need-part-look-start Inv-loop μ-loop
+part-look-start c = search needs
+
+part-look-end : tie.Need-part-look-end Inv-loop μ-loop
+part-look-end c = search needs
+
+look-requires : tie.Need-look-requires Inv-loop μ-loop
+look-requires c κs = search needs
 
 add-join : tie.Need-add-join Inv-loop μ-loop
 add-join c = search needs
 
-join-requires-2 : tie.Need-join-requires-2 Inv-loop μ-loop
-join-requires-2 c κs = search needs
+join-requires : tie.Need-join-requires Inv-loop μ-loop
+join-requires c κs = search needs
 
 mul-items : tie.Need-mul-items Inv-loop μ-loop
 mul-items c = search needs
@@ -52,14 +67,19 @@ loop-less : tie.Need-loop-less Inv-loop μ-loop
 loop-less c = search needs
 
 loop-again : tie.Need-loop-again Inv-loop μ-loop
-loop-again c =
-    (met-next _ _ _ _ _ _ _ _ _ _ _ (c .before .before .before .before .loop .inv .3) (c .before .before .before .loop-test .taken) (c .before .before .before .before .loop .inv .2) (c .before .before .look2 .ensures) (c .join2 .ensures) (c .before .before .before .before .loop .inv .0), omega arith, search needs, search needs)
+loop-again c = (met-next _ _ _ _ _ _ _ _ _ _ _ _ _ (c .before .before .before .before .before .before .before .loop .inv .3) (c .before .before .before .before .before .before .before .loop .inv .4) (c .before .before .before .before .before .before .loop-test .taken) (c .before .before .before .before .before .before .before .loop .inv .2) (c .before .before .before .lists .given .0) (c .before .before .before .before .look .ensures) (c .join .ensures) (c .before .before .before .before .before .before .before .loop .inv .0), omega arith, search needs, search needs, search needs)
+
+tail-atoms-requires : tie.Need-tail-atoms-requires Inv-loop μ-loop
+tail-atoms-requires c κs = search needs
 
 wrong-tail-requires : tie.Need-wrong-tail-requires Inv-loop μ-loop
 wrong-tail-requires c κs = search needs
 
 due-requires : tie.Need-due-requires Inv-loop μ-loop
 due-requires c κs = search needs
+
+same-length : tie.Need-same-length Inv-loop μ-loop
+same-length c = search needs
 
 returns : tie.Need-returns Inv-loop μ-loop
 returns c = search tokens-judged
@@ -70,18 +90,25 @@ judge-tokens-spec =
     (tie.spec
     Inv-loop
     μ-loop
-    look-requires
+    no-chains-requires
     new-requires
-    join-requires
     loop-holds
-    look-requires-2
+    mul-from
+    add-to
+    mul-look
+    sub-look
+    part-look-start
+    part-look-end
+    look-requires
     add-join
-    join-requires-2
+    join-requires
     mul-items
     array-set-from-items
     add-i
     loop-less
     loop-again
+    tail-atoms-requires
     wrong-tail-requires
     due-requires
+    same-length
     returns)

@@ -6,6 +6,12 @@ use Rattle.pins.proofs.pin_too_far.Tie as tie
 returns : tie.Need-returns
 returns c = search far-located
 
+groups-part-requires : tie.Need-groups-part-requires
+groups-part-requires c κs = search needs
+
+rings-part-requires : tie.Need-rings-part-requires
+rings-part-requires c κs = search needs
+
 no-pins-requires : tie.Need-no-pins-requires
 no-pins-requires c κs = search needs
 
@@ -32,6 +38,8 @@ pin-too-far-spec =
     tie.close
     (tie.spec
     returns
+    groups-part-requires
+    rings-part-requires
     no-pins-requires
     returns-2
     pin-bound-requires

@@ -6,11 +6,20 @@ use Rattle.reach.proofs.prefix_end.Tie as tie
 cast-first : tie.Need-cast-first
 cast-first c = search needs
 
+bonds-part-requires : tie.Need-bonds-part-requires
+bonds-part-requires c κs = search needs
+
 bonds-reach-requires : tie.Need-bonds-reach-requires
 bonds-reach-requires c κs = search needs
 
+groups-part-requires : tie.Need-groups-part-requires
+groups-part-requires c κs = search needs
+
 groups-reach-requires : tie.Need-groups-reach-requires
 groups-reach-requires c κs = search needs
+
+rings-part-requires : tie.Need-rings-part-requires
+rings-part-requires c κs = search needs
 
 rings-reach-requires : tie.Need-rings-reach-requires
 rings-reach-requires c κs = search needs
@@ -32,8 +41,11 @@ prefix-end-spec =
     tie.close
     (tie.spec
     cast-first
+    bonds-part-requires
     bonds-reach-requires
+    groups-part-requires
     groups-reach-requires
+    rings-part-requires
     rings-reach-requires
     cast-if1
     cast-result

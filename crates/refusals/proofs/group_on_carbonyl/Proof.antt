@@ -3,6 +3,9 @@ use borrow.Author.Needs.{needs}
 use Rattle.refusals.proofs.group_on_carbonyl.Statement.{statement}
 use Rattle.refusals.proofs.group_on_carbonyl.Tie as tie
 
+groups-part-requires : tie.Need-groups-part-requires
+groups-part-requires c κs = search needs
+
 group-at-requires : tie.Need-group-at-requires
 group-at-requires c κs = search needs
 
@@ -13,4 +16,5 @@ returns-2 : tie.Need-returns-2
 returns-2 c = search no-carbonyl
 
 pub group-on-carbonyl-spec : {M : Type 1} → statement M
-group-on-carbonyl-spec = tie.close (tie.spec group-at-requires returns returns-2)
+group-on-carbonyl-spec =
+    tie.close (tie.spec groups-part-requires group-at-requires returns returns-2)

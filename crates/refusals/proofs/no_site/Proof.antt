@@ -3,6 +3,9 @@ use borrow.Author.Needs.{needs}
 use Rattle.refusals.proofs.no_site.Statement.{statement}
 use Rattle.refusals.proofs.no_site.Tie as tie
 
+floats-part-requires : tie.Need-floats-part-requires
+floats-part-requires c κs = search needs
+
 groups-len-requires : tie.Need-groups-len-requires
 groups-len-requires c κs = search needs
 
@@ -20,4 +23,11 @@ returns-2 c = search site-some
 
 pub no-site-spec : {M : Type 1} → statement M
 no-site-spec =
-    tie.close (tie.spec groups-len-requires returns site-skip-requires drawn-count-requires returns-2)
+    tie.close
+    (tie.spec
+    floats-part-requires
+    groups-len-requires
+    returns
+    site-skip-requires
+    drawn-count-requires
+    returns-2)

@@ -1,5 +1,5 @@
-use borrow.Author.Needs.{needs}
 use Rattle.strand.proofs.Laws.{indexed}
+use borrow.Author.Needs.{needs}
 use Rattle.strand.proofs.put_indices.Statement.{statement}
 use Rattle.strand.proofs.put_indices.Tie as tie
 

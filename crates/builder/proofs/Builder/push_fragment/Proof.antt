@@ -12,11 +12,8 @@ put-strand-requires c κs = search needs
 figures-of-requires : tie.Need-figures-of-requires
 figures-of-requires c κs = search needs
 
-note-chain-requires : tie.Need-note-chain-requires
-note-chain-requires c κs = search needs
-
-advance-requires : tie.Need-advance-requires
-advance-requires c κs = search needs
+settle-requires : tie.Need-settle-requires
+settle-requires c κs = search needs
 
 same-length : tie.Need-same-length
 same-length c = search needs
@@ -29,9 +26,9 @@ same-length-3 c = search needs
 
 returns : tie.Need-returns
 returns c =
-    let laid = c .before .before .before .before .before .before .before .before .before in
+    let laid = c .before .before .before .before .before .before .before .before in
     let label = laid .before .before .before .before in
-    fragment-pushed (label .in-labels .ensures) (laid .put-strand .ensures) (c .before .before .figures-of .ensures) (c .before .note-chain .ensures) (c .advance .ensures)
+    fragment-pushed (label .in-labels .ensures) (laid .put-strand .ensures) (c .before .figures-of .ensures) (c .settle .ensures)
 
 pub push-fragment-spec : {M : Type 1} → statement M
 push-fragment-spec =
@@ -40,8 +37,7 @@ push-fragment-spec =
     in-labels-requires
     put-strand-requires
     figures-of-requires
-    note-chain-requires
-    advance-requires
+    settle-requires
     same-length
     same-length-2
     same-length-3
