@@ -1,12 +1,11 @@
 -- Laws of the index lists.
 -- Assumes nothing.
 use Prim.Native.Nat.{ℕ, zero, suc, _+_, _-_, _*_, _≤_, _<_, _^_, min}
-use native.Mathlib.Numerals.{add-one}
 use native.Mathlib.Omega.{arith}
 use mathlib.Core.Path.{_≡_, refl, sym, ap, ap₂, _∙_}
 use mathlib.Core.List.{List, [], _∷_, _++_, append-assoc, map}
 use lib.ListN.{length, take, drop, getD, length-drop, length-map, drop-of-length-le, take-append-drop}
-use lib.Seq.{take-suc, take-all, take-nil, take-at, drop-at, drop-drop}
+use lib.Seq.{take-all, take-nil, take-at, drop-at, drop-drop}
 use Rattle.emit.specs.Text.{Written}
 use Rattle.emit.proofs.Laws.{written-nil, written-append}
 use Rattle.reading.proofs.PartingLaws.{All}
@@ -17,42 +16,36 @@ use Rattle.placed.specs.Fragment.{noted, gathered, summed}
 use Rattle.placed.proofs.Laws.{gathered-append}
 use Rattle.rising.specs.declared.Rising.{Rising}
 use Rattle.rising.specs.Order.{picked, placesIn, InOrder}
-use Rattle.rising.proofs.OrderLaws.{take-places}
+use Rattle.rising.proofs.OrderLaws.{take-places, take-behind, drop-past}
 use Rattle.rising.proofs.Picked.{gathered-one, picked-here, picked-past}
 use Rattle.rising.proofs.Sorted.{picked-sorted, take-counted}
 use Rattle.indices.specs.Index.{partsOf, indicesAt, Starts}
 
 -- ---- where a part starts
 
--- what each chain counts
-abbrev own : Placed → ℕ
-own p = p .count
+-- those of the first n chains from the one at i on
+pub record SumBehind (l : List Placed) (n i sum : ℕ) : Type 0 where
+  pub is : sum ≡ summed (λ (p : Placed). p .count) (drop i (take n l))
+  pub few : sum + 65535 * i ≤ 262140
 
-summed-snoc : (ps : List Placed) (p : Placed) → summed own (ps ++ p ∷ []) ≡ summed own ps + p .count
+pub sum-none : (l : List Placed) (n k : ℕ) → n ≡ min k 4 → SumBehind l n n 0
 unfolding summed
-summed-snoc [] p = omega arith
-summed-snoc (q ∷ ps) p = omega (arith, summed-snoc ps p)
+sum-none l n k h = record { is = rw (drop-past l n) refl; few = omega arith }
 
--- those of the first i chains
-pub record SumTo (l : List Placed) (i sum : ℕ) : Type 0 where
-  pub is : sum ≡ summed (λ (p : Placed). p .count) (take i l)
-  pub few : sum ≤ 65535 * i
-
-pub sum-none : (l : List Placed) → SumTo l 0 0
+pub sum-more : (l : List Placed) (n i sum : ℕ) (d : Placed) → length l ≡ 4 → n ≤ 4 → 0 < i → i ≤ n → getD l (i - 1) d .count < 65536 → SumBehind l n i sum
+    → SumBehind l n (i - 1) (sum + getD l (i - 1) d .count)
 unfolding summed
-sum-none l = record { is = refl; few = omega arith }
-
-pub sum-more : (l : List Placed) (i n sum : ℕ) (d : Placed) → length l ≡ 4 → n ≤ 4 → i < n → getD l i d .count < 65536 → SumTo l i sum → SumTo l (i + 1) (sum + getD l i d .count)
-sum-more l i n sum d k m h f s =
+sum-more l n i sum d k m h g f s =
     record {
-      is = rw (add-one i, take-suc l i d (omega arith), summed-snoc (take i l) (getD l i d)) (omega (arith, s .is));
+      is = rw (take-behind l i n d h g (omega arith)) (omega (arith, s .is));
       few = omega (arith, s .few);
     }
 
-pub sum-all : (l : List Placed) (i n sum k : ℕ) → length l ≡ 4 → n ≡ min k 4 → i ≤ n → n ≤ i → SumTo l i sum → Starts l k sum
-sum-all l i n sum k m e h g s =
-    let q : i ≡ n = omega arith in
-    record { is = s .is ∙ rw (q, take-places l 4 k n m e); few = omega (arith, s .few) }
+pub sum-all : (l : List Placed) (n i sum k : ℕ) → length l ≡ 4 → n ≡ min k 4 → i ≤ 0 → SumBehind l n i sum → Starts l k sum
+sum-all l n i sum k m e h s =
+    let z : i ≡ 0 = omega arith in
+    let all : sum ≡ summed (λ (p : Placed). p .count) (drop 0 (take n l)) = s .is ∙ ap (λ (j : ℕ). summed (λ (p : Placed). p .count) (drop j (take n l))) z in
+    record { is = all ∙ rw (take-places l 4 k n m e); few = omega (arith, s .few) }
 
 -- ---- a part
 

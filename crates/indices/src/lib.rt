@@ -15,11 +15,11 @@ fn start_of(placed: [Placed; MAX_CHAINS], place: usize) -> usize
 {
     let n = placed::in_places(place);
     let mut sum = 0;
-    let mut i = 0;
-    while i < n {
+    let mut i = n;
+    while 0 < i {
+        i -= 1;
         let p = placed[i];
         sum += p.count as usize;
-        i += 1;
     }
     sum
 }

@@ -5,37 +5,44 @@ use native.Mathlib.Numerals.{add-one}
 use native.Mathlib.Omega.{arith}
 use mathlib.Core.Path.{_≡_, refl, ap, ap₂, _∙_}
 use mathlib.Core.List.{List, [], _∷_, _++_, map, map-append}
-use lib.ListN.{length, take, getD, length-append}
+use lib.ListN.{length, take, getD, set, replicate, length-append}
 use lib.Seq.{take-suc}
 use Rattle.reading.proofs.PartingLaws.{All}
 use Rattle.template.specs.Request as request
 use Rattle.template.specs.Request.{bySn, indicesOf, allIndices}
 use Rattle.placed.specs.declared.Placed.{Placed}
-use Rattle.placed.specs.Fragment.{noted}
+use Rattle.placed.specs.Fragment.{noted, gathered}
 use Rattle.rising.specs.declared.Rising.{Rising}
+use Rattle.rising.specs.Four.{Filled}
 use Rattle.rising.specs.Order.{picked, placesIn, InOrder}
+use Rattle.rising.proofs.FourLaws.{filled-none, added-more}
 use Rattle.rising.proofs.OrderLaws.{take-places}
 use Rattle.rising.proofs.Picked.{picked-here, picked-past}
 use Rattle.rising.proofs.Sorted.{in-order}
 use Rattle.listing.specs.declared.Listed.{Listed}
-use Rattle.listing.specs.declared.Lists.{Lists}
-use Rattle.listing.specs.Lists.{noList, listOf, listIn, listsAt, countsOf, Counted, ListsHeld, ListsAdded}
+use Rattle.listing.specs.Lists.{noList, listOf, listIn, listsAt, countsOf, Counted}
 
 -- ---- the lists of all chains
 
 module _ (ps : List Placed) (l : List ℕ) (i n : ℕ) where
-  pub lists-more : (x y : Lists) (d : Placed) → length ps ≡ 4 → length l ≡ 4 → n ≤ 4 → i < n → getD l i 0 < 4 → ListsHeld (listsAt ps (take i l)) x
-      → ListsAdded (listIn (getD ps (getD l i 0) d) ∷ []) x y → ListsHeld (listsAt ps (take (i + 1) l)) y
+  pub lists-more : (q : ℕ) (xs : List Listed) (d : Placed) → length ps ≡ 4 → length l ≡ 4 → n ≤ 4 → i < n → getD l i 0 < 4 → q ≤ i → Filled noList (listsAt ps (take i l)) q xs
+      → Filled noList (listsAt ps (take (i + 1) l)) (q + 1) (set xs q (record { sn = getD ps (getD l i 0) d .sn; count = getD ps (getD l i 0) d .count }))
   unfolding listsAt
-  lists-more x y d k m b h g f u =
-      rw (picked-here ps l i d (omega arith) (omega arith), map-append listIn (picked ps (take i l)) (getD ps (getD l i 0) d ∷ [])) (u .holds (map listIn (picked ps (take i l))) f)
+  lists-more q xs d k m b h g w f =
+      rw (picked-here ps l i d (omega arith) (omega arith), map-append listIn (picked ps (take i l)) (getD ps (getD l i 0) d ∷ []))
+      (added-more noList (listIn (getD ps (getD l i 0) d)) q xs (omega arith) .holds (map listIn (picked ps (take i l))) f)
 
-  pub lists-past : (x : Lists) → length ps ≡ 4 → length l ≡ 4 → n ≤ 4 → i < n → 4 ≤ getD l i 0 → ListsHeld (listsAt ps (take i l)) x → ListsHeld (listsAt ps (take (i + 1) l)) x
+  pub lists-past : (q : ℕ) (xs : List Listed) → length ps ≡ 4 → length l ≡ 4 → n ≤ 4 → i < n → 4 ≤ getD l i 0 → Filled noList (listsAt ps (take i l)) q xs
+      → Filled noList (listsAt ps (take (i + 1) l)) q xs
   unfolding listsAt
-  lists-past x k m b h g f = rw (picked-past ps l i (omega arith) (omega arith)) f
+  lists-past q xs k m b h g f = rw (picked-past ps l i (omega arith) (omega arith)) f
 
-  pub lists-all : (x : Lists) (count : ℕ) → length l ≡ 4 → n ≡ min count 4 → i ≤ n → n ≤ i → ListsHeld (listsAt ps (take i l)) x → ListsHeld (listsAt ps (take count l)) x
-  lists-all x count k e h g f = let q : i ≡ n = omega arith in rw (q, take-places l 4 count n k e) at f
+  pub lists-all : (q : ℕ) (xs : List Listed) (count : ℕ) → length l ≡ 4 → n ≡ min count 4 → i ≤ n → n ≤ i → Filled noList (listsAt ps (take i l)) q xs → Filled noList (listsAt ps (take count l)) q xs
+  lists-all q xs count k e h g f = let z : i ≡ n = omega arith in rw (z, take-places l 4 count n k e) at f
+
+pub lists-first : (ps : List Placed) → Filled noList (listsAt ps []) 0 (replicate 4 noList)
+unfolding listsAt picked gathered
+lists-first ps = filled-none noList noList
 
 -- ---- their indices together
 

@@ -3,11 +3,11 @@
 use Prim.Native.Nat.{ℕ, zero, suc, _+_, _≤_, _<_, min}
 use native.Mathlib.Omega.{arith}
 use mathlib.Core.Path.{_≡_, refl, sym, ap, ap₂, _∙_}
-use mathlib.Core.Bool.{Bool, true, false, cond}
+use mathlib.Core.Bool.{Bool, true, false, cond, false≢true}
 use mathlib.Core.Option.{Option}
-use mathlib.Core.List.{List, [], _∷_, _++_, map, map-append}
+use mathlib.Core.List.{List, [], _∷_, _++_, append-nil, map, map-append}
 use lib.Dec.{eqb, ltb}
-use lib.ListN.{length, take, getD, length-append, length-map, length-take}
+use lib.ListN.{length, take, getD, set, replicate, length-append, length-map, length-take}
 use lib.Seq.{take-all}
 use borrow.Author.Tests.{lt-ltb, eqb-true}
 use Rattle.record.specs.Chain.{Chain}
@@ -29,13 +29,14 @@ use Rattle.placed.specs.declared.Placed.{Placed}
 use Rattle.placed.specs.Fragment.{noted, siteOr, gathered}
 use Rattle.placed.proofs.Laws.{gathered-append}
 use Rattle.rising.specs.declared.Rising.{Rising}
+use Rattle.rising.specs.Four.{Filled}
 use Rattle.rising.specs.Order.{snsOf, placesOf, placesFrom, picked, placesIn, InOrder}
-use Rattle.rising.proofs.FourLaws.{added-none, filled-held}
+use Rattle.rising.proofs.FourLaws.{filled-none, added-more, filled-held}
 use Rattle.rising.proofs.OrderLaws.{take-places, sns-length, from-few}
 use Rattle.rising.proofs.Picked.{picked-append, picked-none, picked-take, picked-here, picked-past, picked-of, picked-few, gathered-one, from-within}
 use Rattle.rising.proofs.Sorted.{picked-sorted}
 use Rattle.listing.specs.declared.Sites.{Sites}
-use Rattle.listing.specs.Sites.{noSite, siteIn, siteList, sitesAt, allSiteList, SitesAre, SitesHeld, SitesAdded}
+use Rattle.listing.specs.Sites.{noSite, siteIn, hasSite, siteList, sitesAt, allSiteList, SitesAre, SitesHeld}
 use Rattle.listing.proofs.PlacedLaws.{each-all, Sited, sns-told, places-few, sites-placed}
 
 -- what is counted are the sites, as far as there is room
@@ -44,18 +45,24 @@ sites-held {l} {r} s = filled-held noSite l (r .count) (r .items) (s .count) (s 
 
 -- ---- the site of a chain
 
-module _ (x y : Sites) (p : Placed) where
-  pub add-slot : p .role ≡ Slot → SitesAdded (record { sn = p .sn; atom = p .site } ∷ []) x y → SitesAdded (siteList p) x y
+module _ (p : Placed) where
+  site-own : hasSite (p .role) ≡ true → siteList p ≡ record { sn = p .sn; atom = p .site } ∷ []
   unfolding siteList
-  add-slot e w = rw e w
+  site-own h = go (p .role) h
+    where
+      go : (r : Role) → hasSite r ≡ true → siteIn r (record { sn = p .sn; atom = p .site }) ≡ record { sn = p .sn; atom = p .site } ∷ []
+      go Slot e = refl
+      go Acyl e = refl
+      go Base e = absurd (false≢true e)
 
-  pub add-acyl : p .role ≡ Acyl → SitesAdded (record { sn = p .sn; atom = p .site } ∷ []) x y → SitesAdded (siteList p) x y
+  site-none : hasSite (p .role) ≡ false → siteList p ≡ []
   unfolding siteList
-  add-acyl e w = rw e w
-
-  pub add-base : p .role ≡ Base → SitesAdded (siteList p) x x
-  unfolding siteList
-  add-base e = rw e (added-none noSite (x .count) (x .items))
+  site-none h = go (p .role) h
+    where
+      go : (r : Role) → hasSite r ≡ false → siteIn r (record { sn = p .sn; atom = p .site }) ≡ []
+      go Slot e = absurd (false≢true (sym e))
+      go Acyl e = absurd (false≢true (sym e))
+      go Base e = refl
 
 -- ---- each sn is a digit
 
@@ -113,19 +120,36 @@ digits-all ps = digits-gathered (picked ps (placesFrom 1 4 (snsOf ps))) (sns-fro
 -- ---- the sites of all chains
 
 module _ (ps : List Placed) (l : List ℕ) (i n : ℕ) where
-  pub sites-more : (x y : Sites) (d : Placed) → length ps ≡ 4 → length l ≡ 4 → n ≤ 4 → i < n → getD l i 0 < 4 → SitesHeld (sitesAt ps (take i l)) x
-      → SitesAdded (siteList (getD ps (getD l i 0) d)) x y → SitesHeld (sitesAt ps (take (i + 1) l)) y
+  sites-added : (d : Placed) → length ps ≡ 4 → length l ≡ 4 → n ≤ 4 → i < n → getD l i 0 < 4 → sitesAt ps (take (i + 1) l) ≡ sitesAt ps (take i l) ++ siteList (getD ps (getD l i 0) d)
   unfolding sitesAt
-  sites-more x y d k m b h g f u =
-      rw (picked-here ps l i d (omega arith) (omega arith), gathered-append siteList (picked ps (take i l)) (getD ps (getD l i 0) d ∷ []), gathered-one siteList (getD ps (getD l i 0) d))
-      (u .holds (gathered siteList (picked ps (take i l))) f)
+  sites-added d k m b h g =
+      rw (picked-here ps l i d (omega arith) (omega arith), gathered-append siteList (picked ps (take i l)) (getD ps (getD l i 0) d ∷ []), gathered-one siteList (getD ps (getD l i 0) d)) refl
 
-  pub sites-past : (x : Sites) → length ps ≡ 4 → length l ≡ 4 → n ≤ 4 → i < n → 4 ≤ getD l i 0 → SitesHeld (sitesAt ps (take i l)) x → SitesHeld (sitesAt ps (take (i + 1) l)) x
+  -- one more, which has a site
+  pub sites-more : (q : ℕ) (xs : List Site) (d : Placed) (b : Bool) → length ps ≡ 4 → length l ≡ 4 → n ≤ 4 → i < n → getD l i 0 < 4 → q ≤ i → Filled noSite (sitesAt ps (take i l)) q xs
+      → b ≡ hasSite (getD ps (getD l i 0) d .role) → b ≡ true
+      → Filled noSite (sitesAt ps (take (i + 1) l)) (q + 1) (set xs q (record { sn = getD ps (getD l i 0) d .sn; atom = getD ps (getD l i 0) d .site }))
+  sites-more q xs d b k m few h g w f e t =
+      let p : Placed = getD ps (getD l i 0) d in
+      rw (sites-added d k m few h g, site-own p (sym e ∙ t)) (added-more noSite (record { sn = p .sn; atom = p .site }) q xs (omega arith) .holds (sitesAt ps (take i l)) f)
+
+  -- one more, which has none
+  pub sites-base : (q : ℕ) (xs : List Site) (d : Placed) (b : Bool) → length ps ≡ 4 → length l ≡ 4 → n ≤ 4 → i < n → getD l i 0 < 4 → Filled noSite (sitesAt ps (take i l)) q xs
+      → b ≡ hasSite (getD ps (getD l i 0) d .role) → b ≡ false → Filled noSite (sitesAt ps (take (i + 1) l)) q xs
+  sites-base q xs d b k m few h g f e t =
+      rw (sites-added d k m few h g, site-none (getD ps (getD l i 0) d) (sym e ∙ t), append-nil (sitesAt ps (take i l))) f
+
+  pub sites-past : (q : ℕ) (xs : List Site) → length ps ≡ 4 → length l ≡ 4 → n ≤ 4 → i < n → 4 ≤ getD l i 0 → Filled noSite (sitesAt ps (take i l)) q xs
+      → Filled noSite (sitesAt ps (take (i + 1) l)) q xs
   unfolding sitesAt
-  sites-past x k m b h g f = rw (picked-past ps l i (omega arith) (omega arith)) f
+  sites-past q xs k m b h g f = rw (picked-past ps l i (omega arith) (omega arith)) f
 
-  pub sites-all : (x : Sites) (count : ℕ) → length l ≡ 4 → n ≡ min count 4 → i ≤ n → n ≤ i → SitesHeld (sitesAt ps (take i l)) x → SitesHeld (sitesAt ps (take count l)) x
-  sites-all x count k e h g f = let q : i ≡ n = omega arith in rw (q, take-places l 4 count n k e) at f
+  pub sites-all : (q : ℕ) (xs : List Site) (count : ℕ) → length l ≡ 4 → n ≡ min count 4 → i ≤ n → n ≤ i → Filled noSite (sitesAt ps (take i l)) q xs → Filled noSite (sitesAt ps (take count l)) q xs
+  sites-all q xs count k e h g f = let z : i ≡ n = omega arith in rw (z, take-places l 4 count n k e) at f
+
+pub sites-first : (ps : List Placed) → Filled noSite (sitesAt ps []) 0 (replicate 4 noSite)
+unfolding sitesAt gathered picked
+sites-first ps = filled-none noSite noSite
 
 -- the sites of the chains that are in order
 pub sites-in-order : (l : List Placed) (count : ℕ) (o : Rising) (r : Sites) → InOrder (take count l) o → SitesHeld (sitesAt l (placesIn o)) r → SitesAre (allSiteList (take count l)) r

@@ -6,7 +6,7 @@ use lib.ListN.{length}
 use Rattle.template.specs.Request as request
 use Rattle.template.specs.Request.{indicesOf}
 use Rattle.placed.specs.declared.Placed.{Placed}
-use Rattle.rising.specs.Four.{Filled, Added}
+use Rattle.rising.specs.Four.{Filled}
 use Rattle.rising.specs.Order.{picked}
 use Rattle.listing.specs.declared.Listed.{Listed}
 use Rattle.listing.specs.declared.Lists.{Lists}
@@ -42,11 +42,3 @@ pub record Counted (ls : List Listed) (n : ℕ) : Type 0 where
 -- r holds the first four of some listed chains; its other places are zero
 abbrev pub ListsHeld : List Listed → Lists → Type 0
 ListsHeld l r = Filled noList l (r .count) (r .items)
-
--- ---- while they are gathered
-
-abbrev pub NoLists : Lists → Type 0
-NoLists r = ListsHeld [] r
-
-abbrev pub ListsAdded : List Listed → Lists → Lists → Type 0
-ListsAdded more x r = Added noList more (x .count) (x .items) (r .count) (r .items)

@@ -1,6 +1,7 @@
 -- The sn sites of chains in their places, by numbers alone. Assumes nothing.
 use Prim.Native.Nat.{ℕ}
 use mathlib.Core.Path.{_≡_}
+use mathlib.Core.Bool.{Bool, true, false}
 use mathlib.Core.List.{List, [], _∷_}
 use lib.ListN.{length, take}
 use Rattle.chain.specs.declared.Role.{Role}
@@ -9,7 +10,7 @@ use Rattle.shown.specs.declared.Site.{Site}
 use Rattle.shown.specs.Notes.{Digits}
 use Rattle.placed.specs.declared.Placed.{Placed}
 use Rattle.placed.specs.Fragment.{gathered}
-use Rattle.rising.specs.Four.{four, Filled, Added}
+use Rattle.rising.specs.Four.{four, Filled}
 use Rattle.rising.specs.Order.{snsOf, placesFrom, picked}
 use Rattle.listing.specs.declared.Sites.{Sites}
 
@@ -22,6 +23,11 @@ abbrev pub siteIn : Role → Site → List Site
 siteIn Slot s = s ∷ []
 siteIn Acyl s = s ∷ []
 siteIn Base s = []
+
+abbrev pub hasSite : Role → Bool
+hasSite Slot = true
+hasSite Acyl = true
+hasSite Base = false
 
 unfoldable pub siteList : Placed → List Site
 siteList p = siteIn (p .role) (record { sn = p .sn; atom = p .site })
@@ -45,11 +51,3 @@ pub record SitesAre (l : List Site) (r : Sites) : Type 0 where
   pub count : r .count ≡ length (take 4 l)
   pub items : r .items ≡ four noSite l
   pub digits : Digits (take (r .count) (r .items))
-
--- ---- while they are gathered
-
-abbrev pub NoSites : Sites → Type 0
-NoSites r = SitesHeld [] r
-
-abbrev pub SitesAdded : List Site → Sites → Sites → Type 0
-SitesAdded more x r = Added noSite more (x .count) (x .items) (r .count) (r .items)

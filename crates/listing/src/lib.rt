@@ -8,11 +8,10 @@ pub use rising::by_sn;
 use shown::MAX_SITES;
 use shown::Site;
 ghost use mathlib.Core.Path.{_≡_};
-ghost use mathlib.Core.List.{[], _∷_};
 ghost use lib.ListN.{take};
 ghost use Rattle.rising.specs.Order.{placesIn};
-ghost use Rattle.listing.specs.Sites.{siteList, sitesAt, NoSites, SitesAdded, SitesHeld};
-ghost use Rattle.listing.specs.Lists.{listsAt, NoLists, ListsAdded, ListsHeld, Counted};
+ghost use Rattle.listing.specs.Sites.{hasSite, sitesAt, SitesHeld};
+ghost use Rattle.listing.specs.Lists.{listsAt, ListsHeld, Counted};
 
 // ---- the sn sites
 
@@ -22,42 +21,14 @@ pub struct Sites {
     pub items: [Site; MAX_SITES],
 }
 
-impl Sites {
-    fn new() -> Sites
-        ensures { λ r. ⌜ NoSites r ⌝ }
-    {
-        let site = Site { sn: 0, atom: 0 };
-        let items = [site; MAX_SITES];
-        Sites { count: 0, items }
-    }
-
-    // One more, while there is room.
-    fn push(mut self, site: Site) -> Sites
-        ensures { λ r. ⌜ SitesAdded (site ∷ []) self r ⌝ }
-    {
-        let at = self.count;
-        if at < MAX_SITES {
-            self.items[at] = site;
-            self.count = at + 1;
-            return self;
-        }
-        self
-    }
-
-    // The site of a chain; a base has none.
-    fn add(self, p: Placed) -> Sites
-        ensures { λ r. ⌜ SitesAdded (siteList p) self r ⌝ }
-    {
-        let role = p.role;
-        let site = Site {
-            sn: p.sn,
-            atom: p.site,
-        };
-        match role {
-            Role::Slot => self.push(site),
-            Role::Acyl => self.push(site),
-            Role::Base => self,
-        }
+// Whether a chain has a site; a base has none.
+fn has_site(role: Role) -> bool
+    ensures { λ r. ⌜ r ≡ hasSite role ⌝ }
+{
+    match role {
+        Role::Slot => true,
+        Role::Acyl => true,
+        Role::Base => false,
     }
 }
 
@@ -67,19 +38,34 @@ pub fn sites_by_sn(placed: [Placed; MAX_CHAINS], order: Rising) -> Sites
 {
     let n = placed::in_places(order.count);
     let items = order.items;
-    let mut sites = Sites::new();
+    let none = Site { sn: 0, atom: 0 };
+    let mut sites = [none; MAX_SITES];
+    let mut count = 0;
     let mut i = 0;
     while i < n {
         let k = items[i];
         if k < MAX_CHAINS {
             let p = placed[k];
-            sites = sites.add(p);
+            let role = p.role;
+            if has_site(role) {
+                let site = Site {
+                    sn: p.sn,
+                    atom: p.site,
+                };
+                sites[count] = site;
+                count += 1;
+                i += 1;
+                continue;
+            }
             i += 1;
             continue;
         }
         i += 1;
     }
-    sites
+    Sites {
+        count,
+        items: sites,
+    }
 }
 
 // ---- the listed chains
@@ -96,36 +82,15 @@ pub struct Lists {
     pub items: [Listed; MAX_CHAINS],
 }
 
-impl Lists {
-    fn new() -> Lists
-        ensures { λ r. ⌜ NoLists r ⌝ }
-    {
-        let list = Listed { sn: 0, count: 0 };
-        let items = [list; MAX_CHAINS];
-        Lists { count: 0, items }
-    }
-
-    // One more, while there is room.
-    fn push(mut self, list: Listed) -> Lists
-        ensures { λ r. ⌜ ListsAdded (list ∷ []) self r ⌝ }
-    {
-        let at = self.count;
-        if at < MAX_CHAINS {
-            self.items[at] = list;
-            self.count = at + 1;
-            return self;
-        }
-        self
-    }
-}
-
 // The lists of the chains at some places.
 pub fn lists_by_sn(placed: [Placed; MAX_CHAINS], order: Rising) -> Lists
     ensures { λ r. ⌜ ListsHeld (listsAt placed (placesIn order)) r ⌝ }
 {
     let n = placed::in_places(order.count);
     let items = order.items;
-    let mut lists = Lists::new();
+    let none = Listed { sn: 0, count: 0 };
+    let mut lists = [none; MAX_CHAINS];
+    let mut count = 0;
     let mut i = 0;
     while i < n {
         let k = items[i];
@@ -135,13 +100,17 @@ pub fn lists_by_sn(placed: [Placed; MAX_CHAINS], order: Rising) -> Lists
                 sn: p.sn,
                 count: p.count,
             };
-            lists = lists.push(list);
+            lists[count] = list;
+            count += 1;
             i += 1;
             continue;
         }
         i += 1;
     }
-    lists
+    Lists {
+        count,
+        items: lists,
+    }
 }
 
 // How many indices they have together.

@@ -1,3 +1,4 @@
+pub mod FallingLaws
 pub mod FourLaws
 pub mod OrderLaws
 pub mod Picked

@@ -1,6 +1,6 @@
 -- Laws of the places by rising sn.
 -- Assumes nothing.
-use Prim.Native.Nat.{ℕ, zero, suc, _+_, _≤_, _<_, min}
+use Prim.Native.Nat.{ℕ, zero, suc, _+_, _-_, _≤_, _<_, min}
 use native.Mathlib.Nat.{add-zero, add-suc, suc-add, zero-add}
 use native.Mathlib.Numerals.{add-one}
 use native.Mathlib.Omega.{arith}
@@ -9,13 +9,13 @@ use mathlib.Core.Path.{_≡_, refl, sym, ap, _∙_}
 use mathlib.Core.Bool.{Bool, true, false, cond}
 use mathlib.Core.List.{List, [], _∷_, _++_, append-nil, map}
 use lib.Dec.{eqb}
-use lib.ListN.{length, take, drop, getD, length-append, length-take, length-map}
+use lib.ListN.{length, take, drop, getD, set, length-append, length-take, length-map}
 use lib.Seq.{take-suc, take-all, length-take-le}
 use borrow.Author.Tests.{eq-eqb, ne-eqb}
 use Rattle.placed.specs.declared.Placed.{Placed}
 use Rattle.rising.specs.declared.Rising.{Rising}
 use Rattle.rising.specs.Four.{Filled, Added}
-use Rattle.rising.specs.Order.{snsOf, placesOf, placesFrom, NoPlaces, PlacesAdded, InOrder}
+use Rattle.rising.specs.Order.{snsOf, placesOf, placesFrom, InOrder}
 use Rattle.rising.proofs.FourLaws.{added-none, added-then, filled-held}
 
 -- what counts of an array
@@ -54,16 +54,16 @@ pub sn-none : (sn n : ℕ) (xs : List ℕ) → Added 0 (placesOf sn 0 []) n xs n
 unfolding placesOf
 sn-none sn n xs = added-none 0 n xs
 
-module _ (sn : ℕ) (l : List ℕ) (k : length l ≡ 4) (count n i : ℕ) (e : n ≡ min count 4) where
-  pub sn-here : (x y z : Rising) → i < n → getD l i 0 ≡ sn → PlacesAdded (placesOf sn 0 (take i l)) x y → PlacesAdded (i ∷ []) y z
-      → PlacesAdded (placesOf sn 0 (take (i + 1) l)) x z
-  sn-here x y z h q u w = rw (of-more sn l i 0 (omega arith), of-own sn i (getD l i 0) q) (added-then 0 (placesOf sn 0 (take i l)) (i ∷ []) u w)
+module _ (sn : ℕ) (l : List ℕ) (k : length l ≡ 4) (n i a b : ℕ) (few : n ≤ 4) (xs ys : List ℕ) where
+  pub sn-here : (c : ℕ) (zs : List ℕ) → i < n → getD l i 0 ≡ sn → Added 0 (placesOf sn 0 (take i l)) a xs b ys → Added 0 (i ∷ []) b ys c zs
+      → Added 0 (placesOf sn 0 (take (i + 1) l)) a xs c zs
+  sn-here c zs h q u w = rw (of-more sn l i 0 (omega arith), of-own sn i (getD l i 0) q) (added-then 0 (placesOf sn 0 (take i l)) (i ∷ []) u w)
 
-  pub sn-other : (x y : Rising) → i < n → (getD l i 0 ≡ sn → ⊥) → PlacesAdded (placesOf sn 0 (take i l)) x y → PlacesAdded (placesOf sn 0 (take (i + 1) l)) x y
-  sn-other x y h q u = rw (of-more sn l i 0 (omega arith), of-other sn i (getD l i 0) q, append-nil (placesOf sn 0 (take i l))) u
+  pub sn-other : i < n → (getD l i 0 ≡ sn → ⊥) → Added 0 (placesOf sn 0 (take i l)) a xs b ys → Added 0 (placesOf sn 0 (take (i + 1) l)) a xs b ys
+  sn-other h q u = rw (of-more sn l i 0 (omega arith), of-other sn i (getD l i 0) q, append-nil (placesOf sn 0 (take i l))) u
 
-  pub sn-all : (x y : Rising) → i ≤ n → n ≤ i → PlacesAdded (placesOf sn 0 (take i l)) x y → PlacesAdded (placesOf sn 0 (take count l)) x y
-  sn-all x y h g u = let q : i ≡ n = omega arith in rw (q, take-places l 4 count n k e) at u
+  pub sn-all : i ≤ n → n ≤ i → Added 0 (placesOf sn 0 (take i l)) a xs b ys → Added 0 (placesOf sn 0 (take n l)) a xs b ys
+  sn-all h g u = let q : i ≡ n = omega arith in rw q at u
 
 -- ---- no chain is there twice
 
@@ -88,36 +88,63 @@ from-few ns =
     rw (four-sns ns, length-append, length-append, length-append)
     (omega (arith, few-of 0 ns))
 
+-- ---- the sns alone, one more at a time from behind
+
+take-here : {A : Type 0} (l : List A) (i n : ℕ) (d : A) → i < n → n ≤ length l → drop i (take n l) ≡ getD l i d ∷ drop (suc i) (take n l)
+take-here [] i n d h g = absurd (omega arith)
+take-here (x ∷ l) i zero d h g = absurd (omega arith)
+take-here (x ∷ l) zero (suc n) d h g = refl
+take-here (x ∷ l) (suc i) (suc n) d h g = take-here l i n d (omega arith) (omega arith)
+
+pub take-behind : {A : Type 0} (l : List A) (i n : ℕ) (d : A) → 0 < i → i ≤ n → n ≤ length l → drop (i - 1) (take n l) ≡ getD l (i - 1) d ∷ drop i (take n l)
+take-behind l i n d h g k =
+    let s : suc (i - 1) ≡ i = omega arith in
+    take-here l (i - 1) n d (omega arith) k ∙ ap (λ (j : ℕ). getD l (i - 1) d ∷ drop j (take n l)) s
+
+set-here : (xs : List ℕ) (i n v : ℕ) → i < n → n ≤ length xs → drop i (take n (set xs i v)) ≡ v ∷ drop (suc i) (take n xs)
+set-here [] i n v h g = absurd (omega arith)
+set-here (x ∷ xs) i zero v h g = absurd (omega arith)
+set-here (x ∷ xs) zero (suc n) v h g = refl
+set-here (x ∷ xs) (suc i) (suc n) v h g = set-here xs i n v (omega arith) (omega arith)
+
+pub drop-past : {A : Type 0} (l : List A) (n : ℕ) → drop n (take n l) ≡ []
+drop-past l zero = refl
+drop-past [] (suc n) = refl
+drop-past (x ∷ l) (suc n) = drop-past l n
+
+pub behind-none : (l : List Placed) (xs : List ℕ) (n : ℕ) → drop n (take n xs) ≡ snsOf (drop n (take n l))
+unfolding snsOf
+behind-none l xs n = rw (drop-past xs n, drop-past l n) refl
+
+module _ (l : List Placed) (k : length l ≡ 4) (n i : ℕ) (few : n ≤ 4) (h : 0 < i) (g : i ≤ n) where
+  pub behind-more : (xs : List ℕ) (d : Placed) → length xs ≡ 4 → drop i (take n xs) ≡ snsOf (drop i (take n l))
+      → drop (i - 1) (take n (set xs (i - 1) (getD l (i - 1) d .sn))) ≡ snsOf (drop (i - 1) (take n l))
+  unfolding snsOf
+  behind-more xs d m e =
+      let s : suc (i - 1) ≡ i = omega arith in
+      (set-here xs (i - 1) n (getD l (i - 1) d .sn) (omega arith) (omega arith) ∙ ap (λ (j : ℕ). getD l (i - 1) d .sn ∷ drop j (take n xs)) s)
+      ∙ (ap (λ (z : List ℕ). getD l (i - 1) d .sn ∷ z) e ∙ sym (ap snsOf (take-behind l i n d h g (omega arith))))
+
+pub behind-all : (l : List Placed) (xs : List ℕ) (n i : ℕ) → i ≤ 0 → drop i (take n xs) ≡ snsOf (drop i (take n l)) → take n xs ≡ snsOf (take n l)
+behind-all l xs n i h e = let z : i ≡ 0 = omega arith in rw z at e
+
 -- ---- all of them
-
-pub sns-are : (l : List Placed) (d : Placed) → length l ≡ 4 → getD l 0 d .sn ∷ getD l 1 d .sn ∷ getD l 2 d .sn ∷ getD l 3 d .sn ∷ [] ≡ snsOf l
-unfolding snsOf
-sns-are [] d h = absurd (omega arith)
-sns-are (a ∷ []) d h = absurd (omega arith)
-sns-are (a ∷ b ∷ []) d h = absurd (omega arith)
-sns-are (a ∷ b ∷ c ∷ []) d h = absurd (omega arith)
-sns-are (a ∷ b ∷ c ∷ e ∷ []) d h = refl
-sns-are (a ∷ b ∷ c ∷ e ∷ f ∷ l) d h = absurd (omega arith)
-
-sns-taken : (n : ℕ) (l : List Placed) → take n (snsOf l) ≡ snsOf (take n l)
-unfolding snsOf
-sns-taken zero l = refl
-sns-taken (suc n) [] = refl
-sns-taken (suc n) (p ∷ l) = ap (λ (ns : List ℕ). p .sn ∷ ns) (sns-taken n l)
 
 pub sns-length : (l : List Placed) → length (snsOf l) ≡ length l
 unfolding snsOf
 sns-length l = length-map l (λ (p : Placed). p .sn)
 
-pub places-are : (l : List Placed) (count : ℕ) (sns : List ℕ) (o x y z r : Rising) → length l ≡ 4 → sns ≡ snsOf l → NoPlaces o → PlacesAdded (placesOf 1 0 (take count sns)) o x
-    → PlacesAdded (placesOf 2 0 (take count sns)) x y → PlacesAdded (placesOf 3 0 (take count sns)) y z → PlacesAdded (placesOf 4 0 (take count sns)) z r → InOrder (take count l) r
-places-are l count sns o x y z r k e none a b c d =
-    let ns : List ℕ = take count sns in
-    let is : ns ≡ snsOf (take count l) = ap (λ (m : List ℕ). take count m) e ∙ sns-taken count l in
-    let s = added-then 0 (placesOf 1 0 ns) (placesOf 2 0 ns ++ (placesOf 3 0 ns ++ placesOf 4 0 ns)) a (added-then 0 (placesOf 2 0 ns) (placesOf 3 0 ns ++ placesOf 4 0 ns) b (added-then 0 (placesOf 3 0 ns) (placesOf 4 0 ns) c d)) in
-    let f : Filled 0 (placesFrom 1 4 ns) (r .count) (r .items) = rw (four-sns ns) (s .holds [] none) in
-    let few : length (placesFrom 1 4 ns) ≤ 4 = omega (arith, from-few ns, ap length is, sns-length (take count l), length-take count l) in
+pub places-are : (l : List Placed) (n : ℕ) (sns os xs ys zs rs : List ℕ) (a b c d : ℕ) → n ≤ 4 → take n sns ≡ snsOf (take n l) → Filled 0 [] 0 os → Added 0 (placesOf 1 0 (take n sns)) 0 os a xs
+    → Added 0 (placesOf 2 0 (take n sns)) a xs b ys → Added 0 (placesOf 3 0 (take n sns)) b ys c zs → Added 0 (placesOf 4 0 (take n sns)) c zs d rs → InOrder (take n l) (record { count = d; items = rs })
+places-are l n sns os xs ys zs rs a b c d h is none s1 s2 s3 s4 =
+    let ns : List ℕ = take n sns in
+    let s = added-then 0 (placesOf 1 0 ns) (placesOf 2 0 ns ++ (placesOf 3 0 ns ++ placesOf 4 0 ns)) s1 (added-then 0 (placesOf 2 0 ns) (placesOf 3 0 ns ++ placesOf 4 0 ns) s2 (added-then 0 (placesOf 3 0 ns) (placesOf 4 0 ns) s3 s4)) in
+    let f : Filled 0 (placesFrom 1 4 ns) d rs = rw (four-sns ns) (s .holds [] none) in
+    let few : length (placesFrom 1 4 ns) ≤ 4 = omega (arith, from-few ns, length-take n sns) in
     record {
       room = omega (arith, f .count, length-take 4 (placesFrom 1 4 ns));
-      held = (filled-held 0 (placesFrom 1 4 ns) (r .count) (r .items) (f .count) (f .items) ∙ take-all 4 (placesFrom 1 4 ns) few) ∙ ap (placesFrom 1 4) is;
+      held = (filled-held 0 (placesFrom 1 4 ns) d rs (f .count) (f .items) ∙ take-all 4 (placesFrom 1 4 ns) few) ∙ ap (placesFrom 1 4) is;
     }
+
+pub in-places : (l : List Placed) (count n : ℕ) (r : Rising) → length l ≡ 4 → n ≡ min count 4 → InOrder (take n l) r → InOrder (take count l) r
+in-places l count n r k e o = rw (take-places l 4 count n k e) at o

@@ -1,14 +1,13 @@
 -- The chains of a line by rising sn, as their places in it. Assumes nothing.
-use Prim.Native.Nat.{ℕ, zero, suc, _≤_}
+use Prim.Native.Nat.{ℕ, zero, suc, _≤_, _<_}
 use mathlib.Core.Path.{_≡_}
-use mathlib.Core.Bool.{cond}
+use mathlib.Core.Bool.{Bool, true, cond}
 use mathlib.Core.List.{List, [], _∷_, _++_, map}
 use lib.Dec.{eqb}
 use lib.ListN.{take, drop}
 use Rattle.placed.specs.declared.Placed.{Placed}
 use Rattle.placed.specs.Fragment.{gathered}
 use Rattle.rising.specs.declared.Rising.{Rising}
-use Rattle.rising.specs.Four.{Filled, Added}
 
 unfoldable pub snsOf : List Placed → List ℕ
 snsOf ps = map (λ p. p .sn) ps
@@ -39,8 +38,13 @@ pub record InOrder (ps : List Placed) (r : Rising) : Type 0 where
   pub room : r .count ≤ 4
   pub held : placesIn r ≡ placesFrom 1 4 (snsOf ps)
 
-abbrev pub NoPlaces : Rising → Type 0
-NoPlaces r = Filled 0 [] (r .count) (r .items)
+-- ---- while they are gathered
 
-abbrev pub PlacesAdded : List ℕ → Rising → Rising → Type 0
-PlacesAdded more x r = Added 0 more (x .count) (x .items) (r .count) (r .items)
+-- numbers that fall from below m on, none of them 0
+unfoldable pub Falling : ℕ → List ℕ → Type 0
+Falling m [] = Unit {0}
+Falling m (n ∷ ns) = (n < m) × (1 ≤ n) × Falling n ns
+
+-- the sns of these chains fall, from 4 at most, where r says so
+pub record Falls (ps : List Placed) (r : Bool) : Type 0 where
+  pub told : r ≡ true → Falling 5 (snsOf ps)

@@ -1,77 +1,134 @@
 // The chains of a line by rising sn. They stand in the line in the order of the text; here they are put in order, once for all that goes
-// by sn, as their places in that text.
+// by sn, as their places in that text. In nearly every class the text has them by falling sn, so that the last goes first; only CL has them
+// otherwise. The chains are looked at from the last on: their array is then copied whole, and not in the parts that are looked at.
 use placed::MAX_CHAINS;
 use placed::Placed;
 ghost use mathlib.Core.Path.{_≡_};
 ghost use mathlib.Core.List.{[], _∷_};
+ghost use Prim.Native.Nat.{_-_, _≤_};
 ghost use lib.ListN.{take};
-ghost use Rattle.rising.specs.Order.{snsOf, placesOf, NoPlaces, PlacesAdded, InOrder};
+ghost use Rattle.rising.specs.Four.{Added};
+ghost use Rattle.rising.specs.Order.{snsOf, placesOf, Falls, InOrder};
 
-// Places of chains with their count; what it does not count is zero.
+// Places of chains with their count.
 pub struct Rising {
     pub count: usize,
     pub items: [usize; MAX_CHAINS],
 }
 
-impl Rising {
-    fn new() -> Rising
-        ensures { λ r. ⌜ NoPlaces r ⌝ }
-    {
-        let items = [0usize; MAX_CHAINS];
-        Rising { count: 0, items }
-    }
+// ---- where the sns fall
 
-    // One more, while there is room.
-    fn push(mut self, place: usize) -> Rising
-        ensures { λ r. ⌜ PlacesAdded (place ∷ []) self r ⌝ }
-    {
-        let at = self.count;
-        if at < MAX_CHAINS {
-            self.items[at] = place;
-            self.count = at + 1;
-            return self;
-        }
-        self
-    }
-
-    // The places of an sn, where the sns of the chains are given.
-    fn add_sn(self, sns: [u8; MAX_CHAINS], count: usize, sn: u8) -> Rising
-        ensures { λ r. ⌜ PlacesAdded (placesOf sn 0 (take count sns)) self r ⌝ }
-    {
-        let n = placed::in_places(count);
-        let mut places = self;
-        let mut i = 0;
-        while i < n {
-            if sns[i] == sn {
-                places = places.push(i);
-                i += 1;
-                continue;
-            }
-            i += 1;
-        }
-        places
-    }
-}
-
-// The sns alone, which are gone through four times.
-fn sns_of(placed: [Placed; MAX_CHAINS]) -> [u8; MAX_CHAINS]
-    ensures { λ r. ⌜ r ≡ snsOf placed ⌝ }
+// Whether the sns of the first n chains fall, from 4 at most to 1 at least.
+fn falling(placed: [Placed; MAX_CHAINS], n: usize) -> bool
+    requires { ⌜ n ≤ 4 ⌝ }
+    ensures { λ r. ⌜ Falls (take n placed) r ⌝ }
 {
-    let a = placed[0];
-    let b = placed[1];
-    let c = placed[2];
-    let d = placed[3];
-    [a.sn, b.sn, c.sn, d.sn]
+    let mut last = 0;
+    let mut i = n;
+    while 0 < i {
+        i -= 1;
+        let p = placed[i];
+        let sn = p.sn;
+        if sn <= last {
+            return false;
+        }
+        last = sn;
+    }
+    if 4 < last {
+        return false;
+    }
+    true
 }
+
+// A place counted from behind.
+fn behind(n: usize, k: usize) -> usize
+    ensures { λ r. ⌜ r ≡ n - k ⌝ }
+{
+    if k <= n {
+        return n - k;
+    }
+    0
+}
+
+// ---- where they do not
+
+// The sns of the first n chains, which are gone through four times.
+fn sns_of(placed: [Placed; MAX_CHAINS], n: usize) -> [u8; MAX_CHAINS]
+    requires { ⌜ n ≤ 4 ⌝ }
+    ensures { λ r. ⌜ take n r ≡ snsOf (take n placed) ⌝ }
+{
+    let mut sns = [0u8; MAX_CHAINS];
+    let mut i = n;
+    while 0 < i {
+        i -= 1;
+        let p = placed[i];
+        sns[i] = p.sn;
+    }
+    sns
+}
+
+// One place more, while there is room.
+fn put(places: &mut [usize; MAX_CHAINS], at: usize, place: usize) -> usize
+    ensures { λ r. ⌜ Added 0 (place ∷ []) at (now (places .entry)) r (now (places .exit)) ⌝ }
+{
+    if at < MAX_CHAINS {
+        places[at] = place;
+        return at + 1;
+    }
+    at
+}
+
+// The places of an sn among the first n sns.
+fn add_sn(
+    places: &mut [usize; MAX_CHAINS],
+    at: usize,
+    sns: [u8; MAX_CHAINS],
+    n: usize,
+    sn: u8,
+) -> usize
+    requires { ⌜ n ≤ 4 ⌝ }
+    ensures { λ r. ⌜ Added 0 (placesOf sn 0 (take n sns)) at (now (places .entry)) r (now (places .exit)) ⌝ }
+{
+    let mut q = at;
+    let mut i = 0;
+    while i < n {
+        if sns[i] == sn {
+            q = put(places, q, i);
+            i += 1;
+            continue;
+        }
+        i += 1;
+    }
+    q
+}
+
+// The places of those with an sn from 1 to 4, one sn after the other.
+fn in_turn(placed: [Placed; MAX_CHAINS], n: usize) -> Rising
+    requires { ⌜ n ≤ 4 ⌝ }
+    ensures { λ r. ⌜ InOrder (take n placed) r ⌝ }
+{
+    let sns = sns_of(placed, n);
+    let mut items = [0usize; MAX_CHAINS];
+    let a = add_sn(&mut items, 0, sns, n, 1);
+    let b = add_sn(&mut items, a, sns, n, 2);
+    let c = add_sn(&mut items, b, sns, n, 3);
+    let d = add_sn(&mut items, c, sns, n, 4);
+    Rising { count: d, items }
+}
+
+// ---- all of them
 
 // The places of all chains with an sn from 1 to 4.
 pub fn by_sn(placed: [Placed; MAX_CHAINS], count: usize) -> Rising
     ensures { λ r. ⌜ InOrder (take count placed) r ⌝ }
 {
-    let sns = sns_of(placed);
-    let none = Rising::new();
-    let a = none.add_sn(sns, count, 1);
-    let b = a.add_sn(sns, count, 2);
-    let c = b.add_sn(sns, count, 3);
-    c.add_sn(sns, count, 4)
+    let n = placed::in_places(count);
+    if falling(placed, n) {
+        let a = behind(n, 1);
+        let b = behind(n, 2);
+        let c = behind(n, 3);
+        let items = [a, b, c, 0];
+        return Rising { count: n, items };
+    }
+    in_turn(placed, n)
 }

@@ -1,24 +1,27 @@
 use native.Mathlib.Omega.{arith}
-use Prim.Native.Nat.{_≤_, _-_, min}
+use Prim.Native.Nat.{_≤_}
 use mathlib.Core.Path.{_≡_}
 use lib.ListN.{length}
 use Rattle.record.proofs.Laws.{length-mapped}
-use Rattle.indices.proofs.IndexLaws.{SumTo, sum-none, sum-more, sum-all}
+use Rattle.indices.proofs.IndexLaws.{SumBehind, sum-none, sum-more, sum-all}
 use borrow.Author.Needs.{needs}
 use Rattle.indices.proofs.start_of.Statement.{statement}
 use Rattle.indices.proofs.start_of.Tie as tie
 
 abbrev Inv-loop : tie.InvT-loop
-Inv-loop place placed n sum₀ i₀ sum i = (i ≤ n) × (n ≤ 4) × (length placed ≡ 4) × SumTo placed i sum
+Inv-loop place placed n sum₀ i₀ sum i = (i ≤ n) × (n ≤ 4) × (length placed ≡ 4) × SumBehind placed n i sum
 
 abbrev μ-loop : tie.MeasureT-loop
-μ-loop place placed n sum₀ i₀ sum i = n - i
+μ-loop place placed n sum₀ i₀ sum i = i
 
 in-places-requires : tie.Need-in-places-requires Inv-loop μ-loop
 in-places-requires c κs = search needs
 
 loop-holds : tie.Need-loop-holds Inv-loop μ-loop
-loop-holds c = (omega arith, omega arith, search length-mapped, sum-none _)
+loop-holds c = (omega arith, omega arith, search length-mapped, search sum-none)
+
+sub-i : tie.Need-sub-i Inv-loop μ-loop
+sub-i c = search needs
 
 mul-p : tie.Need-mul-p Inv-loop μ-loop
 mul-p c = search needs
@@ -31,9 +34,6 @@ cast-sum c = search needs
 
 add-sum : tie.Need-add-sum Inv-loop μ-loop
 add-sum c = search needs
-
-add-i : tie.Need-add-i Inv-loop μ-loop
-add-i c = search needs
 
 loop-less : tie.Need-loop-less Inv-loop μ-loop
 loop-less c = search needs
@@ -52,11 +52,11 @@ start-of-spec =
     μ-loop
     in-places-requires
     loop-holds
+    sub-i
     mul-p
     array-copy-out-p
     cast-sum
     add-sum
-    add-i
     loop-less
     loop-again
     returns)

@@ -1,31 +1,26 @@
 use native.Mathlib.Omega.{arith}
-use Prim.Native.Nat.{_≤_, _-_, min}
+use Prim.Native.Nat.{_≤_, _-_}
 use mathlib.Core.Path.{_≡_}
 use lib.ListN.{length, take}
 use Rattle.record.proofs.Laws.{length-mapped}
-use Rattle.placed.specs.Fragment.{gathered}
-use Rattle.rising.specs.Order.{picked}
-use Rattle.listing.specs.Lists.{listsAt, ListsHeld}
-use Rattle.listing.proofs.ListsLaws.{lists-more, lists-past, lists-all}
+use Rattle.rising.specs.Four.{Filled}
+use Rattle.listing.specs.Lists.{noList, listsAt}
+use Rattle.listing.proofs.ListsLaws.{lists-first, lists-more, lists-past, lists-all}
 use borrow.Author.Needs.{needs}
 use Rattle.listing.proofs.lists_by_sn.Statement.{statement}
 use Rattle.listing.proofs.lists_by_sn.Tie as tie
 
 abbrev Inv-loop : tie.InvT-loop
-Inv-loop placed n items lists₀ i₀ lists i = (i ≤ n) × (n ≤ 4) × (length items ≡ 4) × (length placed ≡ 4) × ListsHeld (listsAt placed (take i items)) lists
+Inv-loop placed n items lists₀ count₀ i₀ lists count i = (i ≤ n) × (n ≤ 4) × (count ≤ i) × (length items ≡ 4) × (length placed ≡ 4) × (length lists ≡ 4) × Filled noList (listsAt placed (take i items)) count lists
 
 abbrev μ-loop : tie.MeasureT-loop
-μ-loop placed n items lists₀ i₀ lists i = n - i
+μ-loop placed n items lists₀ count₀ i₀ lists count i = n - i
 
 in-places-requires : tie.Need-in-places-requires Inv-loop μ-loop
 in-places-requires c κs = search needs
 
-new-requires : tie.Need-new-requires Inv-loop μ-loop
-new-requires c κs = search needs
-
 loop-holds : tie.Need-loop-holds Inv-loop μ-loop
-unfolding gathered picked listsAt
-loop-holds c = (omega arith, omega arith, search needs, search length-mapped, search needs)
+loop-holds c = (omega arith, omega arith, omega arith, search needs, search length-mapped, search needs, lists-first _)
 
 mul-k : tie.Need-mul-k Inv-loop μ-loop
 mul-k c = search needs
@@ -39,8 +34,14 @@ mul-p c = search needs
 array-copy-out-p : tie.Need-array-copy-out-p Inv-loop μ-loop
 array-copy-out-p c = search needs
 
-push-requires : tie.Need-push-requires Inv-loop μ-loop
-push-requires c κs = search needs
+mul-lists : tie.Need-mul-lists Inv-loop μ-loop
+mul-lists c = search needs
+
+array-set-from-lists : tie.Need-array-set-from-lists Inv-loop μ-loop
+array-set-from-lists c = search needs
+
+add-count : tie.Need-add-count Inv-loop μ-loop
+add-count c = search needs
 
 add-i : tie.Need-add-i Inv-loop μ-loop
 add-i c = search needs
@@ -49,14 +50,7 @@ loop-less : tie.Need-loop-less Inv-loop μ-loop
 loop-less c = search needs
 
 loop-again : tie.Need-loop-again Inv-loop μ-loop
-loop-again c =
-    let v = c .before .before .before .before .loop in (
-      omega arith,
-      omega arith,
-      search needs,
-      search needs,
-      lists-more _ _ _ _ _ _ _ (v .inv .3) (v .inv .2) (v .inv .1) (c .before .before .before .loop-test .taken) (c .before .before .if1 .taken) (v .inv .4) (c .push .ensures),
-    )
+loop-again c = (omega arith, omega arith, omega arith, search needs, search needs, search needs, search lists-more)
 
 add-i-2 : tie.Need-add-i-2 Inv-loop μ-loop
 add-i-2 c = search needs
@@ -65,7 +59,7 @@ loop-less-2 : tie.Need-loop-less-2 Inv-loop μ-loop
 loop-less-2 c = search needs
 
 loop-again-2 : tie.Need-loop-again-2 Inv-loop μ-loop
-loop-again-2 c = (omega arith, omega arith, search needs, search needs, search lists-past)
+loop-again-2 c = (omega arith, omega arith, omega arith, search needs, search needs, search needs, search lists-past)
 
 returns : tie.Need-returns Inv-loop μ-loop
 returns c = search lists-all
@@ -77,13 +71,14 @@ lists-by-sn-spec =
     Inv-loop
     μ-loop
     in-places-requires
-    new-requires
     loop-holds
     mul-k
     array-read-k
     mul-p
     array-copy-out-p
-    push-requires
+    mul-lists
+    array-set-from-lists
+    add-count
     add-i
     loop-less
     loop-again

@@ -1,31 +1,26 @@
 use native.Mathlib.Omega.{arith}
-use Prim.Native.Nat.{_≤_, _-_, min}
+use Prim.Native.Nat.{_≤_, _-_}
 use mathlib.Core.Path.{_≡_}
 use lib.ListN.{length, take}
 use Rattle.record.proofs.Laws.{length-mapped}
-use Rattle.placed.specs.Fragment.{gathered}
-use Rattle.rising.specs.Order.{picked}
-use Rattle.listing.specs.Sites.{sitesAt, SitesHeld}
-use Rattle.listing.proofs.SitesLaws.{sites-more, sites-past, sites-all}
+use Rattle.rising.specs.Four.{Filled}
+use Rattle.listing.specs.Sites.{noSite, sitesAt}
+use Rattle.listing.proofs.SitesLaws.{sites-first, sites-more, sites-base, sites-past, sites-all}
 use borrow.Author.Needs.{needs}
 use Rattle.listing.proofs.sites_by_sn.Statement.{statement}
 use Rattle.listing.proofs.sites_by_sn.Tie as tie
 
 abbrev Inv-loop : tie.InvT-loop
-Inv-loop placed n items sites₀ i₀ sites i = (i ≤ n) × (n ≤ 4) × (length items ≡ 4) × (length placed ≡ 4) × SitesHeld (sitesAt placed (take i items)) sites
+Inv-loop placed n items sites₀ count₀ i₀ sites count i = (i ≤ n) × (n ≤ 4) × (count ≤ i) × (length items ≡ 4) × (length placed ≡ 4) × (length sites ≡ 4) × Filled noSite (sitesAt placed (take i items)) count sites
 
 abbrev μ-loop : tie.MeasureT-loop
-μ-loop placed n items sites₀ i₀ sites i = n - i
+μ-loop placed n items sites₀ count₀ i₀ sites count i = n - i
 
 in-places-requires : tie.Need-in-places-requires Inv-loop μ-loop
 in-places-requires c κs = search needs
 
-new-requires : tie.Need-new-requires Inv-loop μ-loop
-new-requires c κs = search needs
-
 loop-holds : tie.Need-loop-holds Inv-loop μ-loop
-unfolding gathered picked sitesAt
-loop-holds c = (omega arith, omega arith, search needs, search length-mapped, search needs)
+loop-holds c = (omega arith, omega arith, omega arith, search needs, search length-mapped, search needs, sites-first _)
 
 mul-k : tie.Need-mul-k Inv-loop μ-loop
 mul-k c = search needs
@@ -39,8 +34,17 @@ mul-p c = search needs
 array-copy-out-p : tie.Need-array-copy-out-p Inv-loop μ-loop
 array-copy-out-p c = search needs
 
-add-requires : tie.Need-add-requires Inv-loop μ-loop
-add-requires c κs = search needs
+has-site-requires : tie.Need-has-site-requires Inv-loop μ-loop
+has-site-requires c κs = search needs
+
+mul-sites : tie.Need-mul-sites Inv-loop μ-loop
+mul-sites c = search needs
+
+array-set-from-sites : tie.Need-array-set-from-sites Inv-loop μ-loop
+array-set-from-sites c = search needs
+
+add-count : tie.Need-add-count Inv-loop μ-loop
+add-count c = search needs
 
 add-i : tie.Need-add-i Inv-loop μ-loop
 add-i c = search needs
@@ -49,14 +53,7 @@ loop-less : tie.Need-loop-less Inv-loop μ-loop
 loop-less c = search needs
 
 loop-again : tie.Need-loop-again Inv-loop μ-loop
-loop-again c =
-    let v = c .before .before .before .before .loop in (
-      omega arith,
-      omega arith,
-      search needs,
-      search needs,
-      sites-more _ _ _ _ _ _ _ (v .inv .3) (v .inv .2) (v .inv .1) (c .before .before .before .loop-test .taken) (c .before .before .if1 .taken) (v .inv .4) (c .add .ensures),
-    )
+loop-again c = let v = c .before .before .before .before .before .loop in (omega arith, omega arith, omega arith, search needs, search needs, search needs, sites-more _ _ _ _ _ _ _ _ (v .inv .4) (v .inv .3) (v .inv .1) (c .before .before .before .before .loop-test .taken) (c .before .before .before .if1 .taken) (v .inv .2) (v .inv .6) (c .before .has-site .ensures) (c .if2 .taken))
 
 add-i-2 : tie.Need-add-i-2 Inv-loop μ-loop
 add-i-2 c = search needs
@@ -65,7 +62,16 @@ loop-less-2 : tie.Need-loop-less-2 Inv-loop μ-loop
 loop-less-2 c = search needs
 
 loop-again-2 : tie.Need-loop-again-2 Inv-loop μ-loop
-loop-again-2 c = (omega arith, omega arith, search needs, search needs, search sites-past)
+loop-again-2 c = let v = c .before .before .before .before .before .loop in (omega arith, omega arith, omega arith, search needs, search needs, search needs, sites-base _ _ _ _ _ _ _ _ (v .inv .4) (v .inv .3) (v .inv .1) (c .before .before .before .before .loop-test .taken) (c .before .before .before .if1 .taken) (v .inv .6) (c .before .has-site .ensures) (c .if2 .left))
+
+add-i-3 : tie.Need-add-i-3 Inv-loop μ-loop
+add-i-3 c = search needs
+
+loop-less-3 : tie.Need-loop-less-3 Inv-loop μ-loop
+loop-less-3 c = search needs
+
+loop-again-3 : tie.Need-loop-again-3 Inv-loop μ-loop
+loop-again-3 c = (omega arith, omega arith, omega arith, search needs, search needs, search needs, search sites-past)
 
 returns : tie.Need-returns Inv-loop μ-loop
 returns c = search sites-all
@@ -77,17 +83,22 @@ sites-by-sn-spec =
     Inv-loop
     μ-loop
     in-places-requires
-    new-requires
     loop-holds
     mul-k
     array-read-k
     mul-p
     array-copy-out-p
-    add-requires
+    has-site-requires
+    mul-sites
+    array-set-from-sites
+    add-count
     add-i
     loop-less
     loop-again
     add-i-2
     loop-less-2
     loop-again-2
+    add-i-3
+    loop-less-3
+    loop-again-3
     returns)

@@ -1,37 +1,42 @@
-use Rattle.rising.proofs.OrderLaws.{places-are}
+use Rattle.rising.proofs.OrderLaws.{in-places}
+use Rattle.rising.proofs.FallingLaws.{falling-held}
 use borrow.Author.Needs.{needs}
 use Rattle.rising.proofs.by_sn.Statement.{statement}
 use Rattle.rising.proofs.by_sn.Tie as tie
 
-sns-of-requires : tie.Need-sns-of-requires
-sns-of-requires c κs = search needs
+in-places-requires : tie.Need-in-places-requires
+in-places-requires c κs = search needs
 
-new-requires : tie.Need-new-requires
-new-requires c κs = search needs
+falling-requires : tie.Need-falling-requires
+falling-requires c κs = search needs
 
-add-sn-requires : tie.Need-add-sn-requires
-add-sn-requires c κs = search needs
+behind-requires : tie.Need-behind-requires
+behind-requires c κs = search needs
 
-add-sn-requires-2 : tie.Need-add-sn-requires-2
-add-sn-requires-2 c κs = search needs
+behind-requires-2 : tie.Need-behind-requires-2
+behind-requires-2 c κs = search needs
 
-add-sn-requires-3 : tie.Need-add-sn-requires-3
-add-sn-requires-3 c κs = search needs
-
-add-sn-requires-4 : tie.Need-add-sn-requires-4
-add-sn-requires-4 c κs = search needs
+behind-requires-3 : tie.Need-behind-requires-3
+behind-requires-3 c κs = search needs
 
 returns : tie.Need-returns
-returns c = search places-are
+returns c = search falling-held
+
+in-turn-requires : tie.Need-in-turn-requires
+in-turn-requires c κs = search needs
+
+returns-2 : tie.Need-returns-2
+returns-2 c = search in-places
 
 pub by-sn-spec : {M : Type 1} → statement M
 by-sn-spec =
     tie.close
     (tie.spec
-    sns-of-requires
-    new-requires
-    add-sn-requires
-    add-sn-requires-2
-    add-sn-requires-3
-    add-sn-requires-4
-    returns)
+    in-places-requires
+    falling-requires
+    behind-requires
+    behind-requires-2
+    behind-requires-3
+    returns
+    in-turn-requires
+    returns-2)

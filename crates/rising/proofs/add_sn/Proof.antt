@@ -1,21 +1,19 @@
 use native.Mathlib.Omega.{arith}
-use Prim.Native.Nat.{_≤_, _-_, min}
+use Prim.Native.Nat.{_≤_, _-_}
 use mathlib.Core.Path.{_≡_}
 use lib.ListN.{length, take}
-use Rattle.rising.specs.Order.{placesOf, PlacesAdded}
+use Rattle.rising.specs.Four.{Added}
+use Rattle.rising.specs.Order.{placesOf}
 use Rattle.rising.proofs.OrderLaws.{sn-none, sn-here, sn-other, sn-all}
 use borrow.Author.Needs.{needs}
-use Rattle.rising.proofs.Rising.add_sn.Statement.{statement}
-use Rattle.rising.proofs.Rising.add_sn.Tie as tie
+use Rattle.rising.proofs.add_sn.Statement.{statement}
+use Rattle.rising.proofs.add_sn.Tie as tie
 
 abbrev Inv-loop : tie.InvT-loop
-Inv-loop count sn sns n places₀ i₀ places i = (i ≤ n) × (n ≡ min count 4) × (length sns ≡ 4) × PlacesAdded (placesOf sn 0 (take i sns)) places₀ places
+Inv-loop places₀ at n sn sns q₀ i₀ places q i = (i ≤ n) × (n ≤ 4) × (length sns ≡ 4) × Added 0 (placesOf sn 0 (take i sns)) at places₀ q places
 
 abbrev μ-loop : tie.MeasureT-loop
-μ-loop count sn sns n places₀ i₀ places i = n - i
-
-in-places-requires : tie.Need-in-places-requires Inv-loop μ-loop
-in-places-requires c κs = search needs
+μ-loop places₀ at n sn sns q₀ i₀ places q i = n - i
 
 loop-holds : tie.Need-loop-holds Inv-loop μ-loop
 loop-holds c = (omega arith, omega arith, search needs, sn-none _ _ _)
@@ -23,8 +21,8 @@ loop-holds c = (omega arith, omega arith, search needs, sn-none _ _ _)
 array-read-if1 : tie.Need-array-read-if1 Inv-loop μ-loop
 array-read-if1 c = search needs
 
-push-requires : tie.Need-push-requires Inv-loop μ-loop
-push-requires c κs = search needs
+put-requires : tie.Need-put-requires Inv-loop μ-loop
+put-requires c κs = search needs
 
 add-i : tie.Need-add-i Inv-loop μ-loop
 add-i c = search needs
@@ -53,10 +51,9 @@ add-sn-spec =
     (tie.spec
     Inv-loop
     μ-loop
-    in-places-requires
     loop-holds
     array-read-if1
-    push-requires
+    put-requires
     add-i
     loop-less
     loop-again

@@ -1,0 +1,58 @@
+use native.Mathlib.Omega.{arith}
+use Prim.Native.Nat.{_≤_}
+use mathlib.Core.Path.{_≡_}
+use lib.ListN.{length}
+use Rattle.record.proofs.Laws.{length-mapped}
+use Rattle.rising.proofs.FallingLaws.{FallsBehind, falls-none, falls-more, falls-not, falls-all}
+use borrow.Author.Needs.{needs}
+use Rattle.rising.proofs.falling.Statement.{statement}
+use Rattle.rising.proofs.falling.Tie as tie
+
+abbrev Inv-loop : tie.InvT-loop
+Inv-loop n placed last₀ i₀ last i = (i ≤ n) × (n ≤ 4) × (length placed ≡ 4) × FallsBehind placed n i last
+
+abbrev μ-loop : tie.MeasureT-loop
+μ-loop n placed last₀ i₀ last i = i
+
+loop-holds : tie.Need-loop-holds Inv-loop μ-loop
+loop-holds c = (omega arith, omega arith, search length-mapped, search falls-none)
+
+sub-i : tie.Need-sub-i Inv-loop μ-loop
+sub-i c = search needs
+
+mul-p : tie.Need-mul-p Inv-loop μ-loop
+mul-p c = search needs
+
+array-copy-out-p : tie.Need-array-copy-out-p Inv-loop μ-loop
+array-copy-out-p c = search needs
+
+returns : tie.Need-returns Inv-loop μ-loop
+returns c = falls-not _
+
+loop-less : tie.Need-loop-less Inv-loop μ-loop
+loop-less c = search needs
+
+loop-again : tie.Need-loop-again Inv-loop μ-loop
+loop-again c = (omega arith, omega arith, search needs, search falls-more)
+
+returns-2 : tie.Need-returns-2 Inv-loop μ-loop
+returns-2 c = falls-not _
+
+returns-3 : tie.Need-returns-3 Inv-loop μ-loop
+returns-3 c = search falls-all
+
+pub falling-spec : {M : Type 1} → statement M
+falling-spec =
+    tie.close
+    (tie.spec
+    Inv-loop
+    μ-loop
+    loop-holds
+    sub-i
+    mul-p
+    array-copy-out-p
+    returns
+    loop-less
+    loop-again
+    returns-2
+    returns-3)

@@ -1,0 +1,22 @@
+use Rattle.rising.proofs.FourLaws.{added-more, added-full}
+use borrow.Author.Needs.{needs}
+use Rattle.rising.proofs.put.Statement.{statement}
+use Rattle.rising.proofs.put.Tie as tie
+
+mul-places : tie.Need-mul-places
+mul-places c = search needs
+
+element-write-places : tie.Need-element-write-places
+element-write-places c = search needs
+
+add-result : tie.Need-add-result
+add-result c = search needs
+
+returns : tie.Need-returns
+returns c = search added-more
+
+returns-2 : tie.Need-returns-2
+returns-2 c = search added-full
+
+pub put-spec : {M : Type 1} → statement M
+put-spec = tie.close (tie.spec mul-places element-write-places add-result returns returns-2)
