@@ -9,7 +9,7 @@ use mathlib.Core.List.{List, [], _∷_}
 use lib.Dec.{eqb, ltb}
 use lib.ListN.{length, drop, getD, set, replicate, getD-replicate, length-set, length-replicate}
 use lib.Seq.{set-out, getD-set-same, getD-set-other}
-use borrow.Author.Tests.{lt-ltb, le-ltb, eq-eqb, ne-eqb, eqb-true, eqb-false}
+use borrow.Author.Tests.{lt-ltb, le-ltb, eq-eqb, ne-eqb, ltb-true, eqb-true, eqb-false}
 use Rattle.record.specs.declared.Geometry.{Geometry}
 use Rattle.record.specs.declared.Geometry.the-variants.{Unstated, Cis, Trans}
 use Rattle.record.specs.declared.Bridge.the-variants.{Epoxide, Carbocycle}
@@ -20,8 +20,8 @@ use Rattle.chain.specs.Lists.{anyOf}
 use Rattle.chain.specs.Refusals.{isEpoxide}
 use Rattle.chain.specs.Bonds.{openMark, opensDown, closeMark, closeByte, markBond, markFrom, geometryAt, plainBond, bridged, double}
 use Rattle.drawable.specs.Drawn.{Length, noBond, noGroup, noRing}
-use Rattle.carbons.specs.ByCarbon.{geometryByte, geometryOf, doubleAt, bridgeAt, groupOn, ringOn, SetWhere, Geometries, Marks, PlainBonds}
-use Rattle.carbons.proofs.Fronts.{back-one, none-left}
+use Rattle.carbons.specs.ByCarbon.{geometryByte, geometryOf, doubleAt, bridgeAt, groupOn, ringOn, risesFrom, SetWhere, Geometries, Marks}
+use Rattle.carbons.proofs.Fronts.{next-of, back-one, none-left}
 
 -- ---- a store
 
@@ -158,6 +158,19 @@ geometry-back Unstated = refl
 geometry-back Cis = refl
 geometry-back Trans = refl
 
+module _ (b : ℕ) where
+  pub byte-cis : b ≡ 90 → Cis ≡ geometryOf b
+  unfolding geometryOf
+  byte-cis e = rw e
+
+  pub byte-trans : b ≡ 69 → Trans ≡ geometryOf b
+  unfolding geometryOf
+  byte-trans e = rw e
+
+  pub byte-none : (b ≡ 90 → ⊥) → (b ≡ 69 → ⊥) → Unstated ≡ geometryOf b
+  unfolding geometryOf
+  byte-none n e = rw (ne-eqb b 90 n, ne-eqb b 69 e)
+
 -- ---- marks
 
 module _ (p : ℕ) (ks : List ℕ) where
@@ -194,18 +207,18 @@ module _ (p : ℕ) (ks : List ℕ) where
         let g : c ≤ suc p = omega arith in
         rw (le-ltb (suc p) c g)
 
-  module _ (c g : ℕ) where
-    pub mark-cis : {mid js : List ℕ} → g ≡ 90 → mid ≡ openMark p ks → js ≡ closeMark c false p mid → js ≡ markBond c (geometryOf g) p ks
-    unfolding markBond geometryOf
+  module _ (c : ℕ) (g : Geometry) where
+    pub mark-cis : {mid js : List ℕ} → g ≡ Cis → mid ≡ openMark p ks → js ≡ closeMark c false p mid → js ≡ markBond c g p ks
+    unfolding markBond
     mark-cis e u v = rw (e, v, u)
 
-    pub mark-trans : {mid js : List ℕ} → (g ≡ 90 → ⊥) → g ≡ 69 → mid ≡ openMark p ks → js ≡ closeMark c true p mid → js ≡ markBond c (geometryOf g) p ks
-    unfolding markBond geometryOf
-    mark-trans n e u v = rw (e, v, u)
+    pub mark-trans : {mid js : List ℕ} → g ≡ Trans → mid ≡ openMark p ks → js ≡ closeMark c true p mid → js ≡ markBond c g p ks
+    unfolding markBond
+    mark-trans e u v = rw (e, v, u)
 
-    pub mark-none : (g ≡ 90 → ⊥) → (g ≡ 69 → ⊥) → ks ≡ markBond c (geometryOf g) p ks
-    unfolding markBond geometryOf
-    mark-none n e = rw (ne-eqb g 90 n, ne-eqb g 69 e)
+    pub mark-none : g ≡ Unstated → ks ≡ markBond c g p ks
+    unfolding markBond
+    mark-none e = rw e
 
 -- a mark keeps the length
 length-if : (b : Bool) (ks : List ℕ) (p v : ℕ) → length (cond b (set ks p v) ks) ≡ length ks
@@ -231,17 +244,8 @@ unfolding markFrom
 length-marks c bs p zero ks = refl
 length-marks c bs p (suc n) ks = length-marks c bs (suc p) n (markBond c (geometryAt p bs) p ks) ∙ length-mark c (geometryAt p bs) p ks
 
-pub opened-length : (ks js : List ℕ) (p : ℕ) → js ≡ openMark p ks → length js ≡ length ks
-opened-length ks js p e = rw e (length-open p ks)
-
-pub closed-length : (ks js : List ℕ) (c : ℕ) (t : Bool) (p : ℕ) → js ≡ closeMark c t p ks → length js ≡ length ks
-closed-length ks js c t p e = rw e (length-close c t p ks)
-
 pub marked-length : (ks js : List ℕ) (c : ℕ) (g : Geometry) (p : ℕ) → js ≡ markBond c g p ks → length js ≡ length ks
 marked-length ks js c g p e = rw e (length-mark c g p ks)
-
-pub both-length : (ks js is : List ℕ) (c : ℕ) (t : Bool) (p : ℕ) → js ≡ openMark p ks → is ≡ closeMark c t p js → length is ≡ length ks
-both-length ks js is c t p e f = closed-length js is c t p f ∙ opened-length ks js p e
 
 -- what is left to be marked, from p on
 pub record MarksLeft (c : ℕ) (geoms before now : List ℕ) (p : ℕ) : Type 0 where
@@ -254,15 +258,16 @@ module _ {c : ℕ} {geoms ks : List ℕ} where
       let z : suc c - 1 ≡ c = omega arith in
       record { size = refl; are = λ bs g. rw z }
 
-  pub marks-less : {js is : List ℕ} (p : ℕ) → MarksLeft c geoms ks js p → p ≤ c → c < length geoms → is ≡ markBond c (geometryOf (getD geoms p 0)) p js → MarksLeft c geoms ks is (p + 1)
+  pub marks-less : {js is : List ℕ} (p : ℕ) (r : Geometry) → MarksLeft c geoms ks js p → p ≤ c → c < length geoms → r ≡ geometryOf (getD geoms p 0)
+      → is ≡ markBond c r p js → MarksLeft c geoms ks is (p + 1)
   unfolding markFrom
-  marks-less {js} p w h m e =
+  marks-less {js} p r w h m f e =
       record {
-        size = marked-length js _ c (geometryOf (getD geoms p 0)) p e ∙ w .size;
+        size = marked-length js _ c r p e ∙ w .size;
         are = λ bs g.
             let z : suc c - p ≡ suc (c - p) = omega arith in
             let y : suc c - suc p ≡ c - p = omega arith in
-            w .are bs g ∙ (rw (z, add-one p, y, e, g .at p (omega (arith, g .size)), geometry-back));
+            w .are bs g ∙ (rw (z, add-one p, y, e, f, g .at p (omega (arith, g .size)), geometry-back));
       }
 
   pub marks-end : {js : List ℕ} (p : ℕ) → MarksLeft c geoms ks js p → c < p → Marks c geoms ks js
@@ -273,3 +278,126 @@ module _ {c : ℕ} {geoms ks : List ℕ} where
             let z : suc c - p ≡ 0 = omega arith in
             sym (w .are bs g ∙ (rw z));
       }
+
+pub marks-by : {bs : List DbPos} {geoms ks js : List ℕ} {c : ℕ} → Geometries bs geoms → Marks c geoms ks js → js ≡ markFrom c bs 1 c ks
+marks-by {bs} g v = v .are bs g
+
+-- ---- positions that rise
+
+-- the test, turn by turn
+module _ {room n : ℕ} {bs : List DbPos} {t : Bool} (s : Length room bs n) (i m : ℕ) (e : t ≡ risesFrom m (drop i bs)) where
+  pub rises-more : (b : DbPos) → b ≡ getD bs i noBond → i < n → m < b .pos → t ≡ risesFrom (b .pos) (drop (i + 1) bs)
+  unfolding risesFrom
+  rises-more b f h g = e ∙ (rw (next-of s noBond b i f h, lt-ltb m (b .pos) g))
+
+  pub rises-not : (b : DbPos) → b ≡ getD bs i noBond → i < n → b .pos ≤ m → false ≡ t
+  unfolding risesFrom
+  rises-not b f h g = sym (e ∙ (rw (next-of s noBond b i f h, le-ltb m (b .pos) g)))
+
+  pub rises-end : n ≤ i → true ≡ t
+  unfolding risesFrom
+  rises-end h = sym (e ∙ (rw (none-left s i h)))
+
+pub rises-so : (t : Bool) (bs : List DbPos) → t ≡ risesFrom 0 bs → t ≡ true → risesFrom 0 bs ≡ true
+rises-so t bs e f = sym e ∙ f
+
+-- what rising says of the first bond of a list, and of the others
+module _ (m : ℕ) (b : DbPos) (bs : List DbPos) where
+  rises-past : risesFrom m (b ∷ bs) ≡ true → m < b .pos
+  unfolding risesFrom
+  rises-past e = go (ltb m (b .pos)) refl e
+    where
+      go : (t : Bool) → ltb m (b .pos) ≡ t → (t && risesFrom (b .pos) bs) ≡ true → m < b .pos
+      go true f g = ltb-true m (b .pos) f
+      go false f g = let z : _≡_ {A = ℕ} 0 1 = cc in absurd (omega arith)
+
+  rises-rest : risesFrom m (b ∷ bs) ≡ true → risesFrom (b .pos) bs ≡ true
+  unfolding risesFrom
+  rises-rest e = go (ltb m (b .pos)) e
+    where
+      go : (t : Bool) → (t && risesFrom (b .pos) bs) ≡ true → risesFrom (b .pos) bs ≡ true
+      go true g = g
+      go false g = let z : _≡_ {A = ℕ} 0 1 = cc in absurd (omega arith)
+
+-- from further back they rise as well
+rises-back : (m k : ℕ) (bs : List DbPos) → k ≤ m → risesFrom m bs ≡ true → risesFrom k bs ≡ true
+unfolding risesFrom
+rises-back m k [] h e = refl
+rises-back m k (b ∷ bs) h e =
+    let p = rises-past m b bs e in
+    let q : k < b .pos = omega arith in
+    rw (lt-ltb k (b .pos) q) (rises-rest m b bs e)
+
+-- before the first of them no geometry is stated, so that no mark is made
+unstated-before : (m k : ℕ) (bs : List DbPos) → k ≤ m → risesFrom m bs ≡ true → geometryAt k bs ≡ Unstated
+unfolding geometryAt
+unstated-before m k [] h e = refl
+unstated-before m k (b ∷ bs) h e =
+    let p = rises-past m b bs e in
+    rw (ne-eqb (b .pos) k (λ f. omega arith)) (unstated-before (b .pos) k bs (omega arith) (rises-rest m b bs e))
+
+marks-before : (c m p n : ℕ) (bs : List DbPos) (ks : List ℕ) → p + n ≤ suc m → risesFrom m bs ≡ true → markFrom c bs p n ks ≡ ks
+unfolding markFrom
+marks-before c m p zero bs ks h e = refl
+marks-before c m p (suc n) bs ks h e = rw (unstated-before m p bs (omega arith) e) (marks-before c m (suc p) n bs ks (omega arith) e)
+
+-- past the first of them only the others count
+marks-after : (c p n : ℕ) (b : DbPos) (bs : List DbPos) (ks : List ℕ) → b .pos < p → markFrom c (b ∷ bs) p n ks ≡ markFrom c bs p n ks
+unfolding markFrom
+marks-after c p zero b bs ks h = refl
+marks-after c p (suc n) b bs ks h =
+    rw (ne-eqb (b .pos) p (λ f. omega arith)) (marks-after c (suc p) n b bs (markBond c (geometryAt p bs) p ks) (omega arith))
+
+-- the marks of the first of them may be made before all others
+marks-first : (c p n : ℕ) (b : DbPos) (bs : List DbPos) (ks : List ℕ) → risesFrom (b .pos) bs ≡ true → p ≤ b .pos → b .pos < p + n
+    → markFrom c (b ∷ bs) p n ks ≡ markFrom c bs p n (markBond c (b .geom) (b .pos) ks)
+unfolding markFrom
+marks-first c p zero b bs ks e h m = absurd (omega arith)
+marks-first c p (suc n) b bs ks e h m = go (eqb (b .pos) p) refl (λ l. marks-first c (suc p) n b bs ks e l (omega arith))
+  where
+    go : (t : Bool) → eqb (b .pos) p ≡ t → (suc p ≤ b .pos → markFrom c (b ∷ bs) (suc p) n ks ≡ markFrom c bs (suc p) n (markBond c (b .geom) (b .pos) ks))
+        → markFrom c (b ∷ bs) (suc p) n (markBond c (cond t (b .geom) (geometryAt p bs)) p ks)
+        ≡ markFrom c bs (suc p) n (markBond c (geometryAt p bs) p (markBond c (b .geom) (b .pos) ks))
+    go true f next =
+        let z : b .pos ≡ p = eqb-true (b .pos) p f in
+        rw (← z, unstated-before (b .pos) (b .pos) bs (omega arith) e) (marks-after c (suc (b .pos)) n b bs (markBond c (b .geom) (b .pos) ks) (omega arith))
+    go false f next =
+        let z : b .pos ≡ p → ⊥ = eqb-false (b .pos) p f in
+        let l : suc p ≤ b .pos = omega arith in
+        rw (unstated-before (b .pos) p bs h e) (next l)
+
+-- what is left to be marked, from the i-th double bond on
+pub record RisingLeft (c : ℕ) (bs : List DbPos) (before now : List ℕ) (i : ℕ) : Type 0 where
+  pub size : length now ≡ length before
+  pub rises : risesFrom 0 (drop i bs) ≡ true
+  pub are : markFrom c bs 1 c before ≡ markFrom c (drop i bs) 1 c now
+
+pub rising-all : {c : ℕ} {bs : List DbPos} {ks : List ℕ} → risesFrom 0 bs ≡ true → RisingLeft c bs ks ks 0
+rising-all e = record { size = refl; rises = e; are = refl }
+
+module _ {room n c : ℕ} {bs : List DbPos} {ks js : List ℕ} (s : Length room bs n) (i : ℕ) (w : RisingLeft c bs ks js i) where
+  pub rising-end : n ≤ i → js ≡ markFrom c bs 1 c ks
+  unfolding risesFrom
+  rising-end h = sym (w .are ∙ (rw (none-left s i h) (marks-before c (suc c) 1 c [] js (omega arith) refl)))
+
+  module _ (b : DbPos) (e : b ≡ getD bs i noBond) (h : i < n) where
+    first-left : risesFrom 0 (b ∷ drop (i + 1) bs) ≡ true
+    first-left = rw (next-of s noBond b i e h) at (w .rises)
+
+    pub rising-one : 1 ≤ b .pos
+    rising-one = rises-past 0 b (drop (i + 1) bs) first-left
+
+    pub rising-past : c < b .pos → js ≡ markFrom c bs 1 c ks
+    unfolding risesFrom
+    rising-past p =
+        let z : risesFrom c (b ∷ drop (i + 1) bs) ≡ true = rw (lt-ltb c (b .pos) p) (rises-rest 0 b (drop (i + 1) bs) first-left) in
+        sym (w .are ∙ (rw (next-of s noBond b i e h) (marks-before c c 1 c (b ∷ drop (i + 1) bs) js (omega arith) z)))
+
+    pub rising-less : {is : List ℕ} → b .pos ≤ c → is ≡ markBond c (b .geom) (b .pos) js → RisingLeft c bs ks is (i + 1)
+    rising-less {is} p f =
+        let q = rises-rest 0 b (drop (i + 1) bs) first-left in
+        record {
+          size = marked-length js is c (b .geom) (b .pos) f ∙ w .size;
+          rises = rises-back (b .pos) 0 (drop (i + 1) bs) (omega arith) q;
+          are = w .are ∙ (rw (next-of s noBond b i e h, f) (marks-first c 1 c b (drop (i + 1) bs) js q rising-one (omega arith)));
+        }

@@ -22,7 +22,7 @@ use Rattle.chain.specs.Bonds.{openMark, opensDown, closeMark, closeByte, markBo
 use Rattle.drawable.specs.declared.Shape.{Shape}
 use Rattle.drawable.specs.Drawn.{Drawn, bondsIn, groupsIn, ringsIn, bondsPart, groupsPart, ringsPart, drawnOf, bondsDrawn, groupsDrawn, ringsDrawn, SaysUpTo}
 use Rattle.carbons.specs.Tokens.{tokens, TokensOf}
-use Rattle.carbons.specs.ByCarbon.{doubleAt, bridgeAt, groupOn, ringOn, carbonylOn, busyAt, SetWhere, Geometries, Marks, PlainBonds, BondsBy, Busy}
+use Rattle.carbons.specs.ByCarbon.{doubleAt, bridgeAt, groupOn, ringOn, carbonylOn, busyAt, SetWhere, PlainBonds, BondsBy, Busy}
 use Rattle.carbons.proofs.BondLaws.{where-none, where-one, length-marks}
 
 -- ---- values
@@ -115,14 +115,14 @@ take-marks c bs p zero ks h = refl
 take-marks c bs p (suc n) ks h =
     take-marks c bs (suc p) n (markBond c (geometryAt p bs) p ks) (omega arith) ∙ ap (markFrom c bs (suc p) n) (take-mark c (geometryAt p bs) p ks (omega arith))
 
-pub bonds-marked : {bs : List DbPos} {rs : List Ring} {geoms ks js : List ℕ} (c m : ℕ) → PlainBonds bs rs ks → Geometries bs geoms → m ≡ min c 255
-    → Marks m geoms ks js → BondsBy bs rs c js
-bonds-marked {bs} {rs} {geoms} {ks} {js} c m w g e v =
+pub bonds-marked : {bs : List DbPos} {rs : List Ring} {ks js : List ℕ} (c m : ℕ) → PlainBonds bs rs ks → m ≡ min c 255 → js ≡ markFrom m bs 1 m ks
+    → BondsBy bs rs c js
+bonds-marked {bs} {rs} {ks} {js} c m w e v =
     record {
-      size = ap length (v .are bs g) ∙ (length-marks m bs 1 m ks ∙ w .size);
+      size = ap length v ∙ (length-marks m bs 1 m ks ∙ w .size);
       are = λ h.
           let z : m ≡ c = omega arith in
-          let y : js ≡ markFrom c bs 1 c ks = rw z at (v .are bs g) in
+          let y : js ≡ markFrom c bs 1 c ks = rw z at v in
           ap (take (suc c)) y ∙ (take-marks c bs 1 c ks (omega arith) ∙ ap (markFrom c bs 1 c) (plain-taken bs rs c ks h w));
     }
 

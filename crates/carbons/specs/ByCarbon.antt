@@ -2,9 +2,9 @@
 use Prim.Native.Nat.{ℕ, suc, _<_, _≤_}
 use Prim.Native.Char.{code}
 use mathlib.Core.Path.{_≡_}
-use mathlib.Core.Bool.{Bool, cond, _||_, _&&_}
-use mathlib.Core.List.{List}
-use lib.Dec.{eqb}
+use mathlib.Core.Bool.{Bool, true, cond, _||_, _&&_}
+use mathlib.Core.List.{List, [], _∷_}
+use lib.Dec.{eqb, ltb}
 use lib.ListN.{length, getD, take}
 use Rattle.record.specs.declared.Geometry.{Geometry}
 use Rattle.record.specs.declared.Geometry.the-variants.{Unstated, Cis, Trans}
@@ -28,6 +28,11 @@ geometryOf b = cond (eqb b (code "Z")) Cis (cond (eqb b (code "E")) Trans Unstat
 unfoldable pub doubleAt : List DbPos → ℕ → Bool
 unfolding anyOf
 doubleAt bs k = anyOf (λ b. eqb (b .pos) k) bs
+
+-- whether the positions rise from past m: each double bond is further on than the one before it
+unfoldable pub risesFrom : ℕ → List DbPos → Bool
+risesFrom m [] = true
+risesFrom m (b ∷ bs) = ltb m (b .pos) && risesFrom (b .pos) bs
 
 -- whether an epoxide starts at k
 unfoldable pub bridgeAt : List Ring → ℕ → Bool

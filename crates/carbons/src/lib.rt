@@ -4,11 +4,12 @@ use drawable::Shape;
 use record::Bridge;
 use record::Geometry;
 ghost use mathlib.Core.Path.{_≡_};
+ghost use mathlib.Core.Bool.{true};
 ghost use Prim.Native.Nat.{_≤_, _<_, min, max};
 ghost use lib.ListN.{length, set, replicate};
-ghost use Rattle.chain.specs.Bonds.{openMark, closeMark, markBond, closeByte, bridged, double};
+ghost use Rattle.chain.specs.Bonds.{openMark, closeMark, markBond, closeByte, markFrom, bridged, double};
 ghost use Rattle.drawable.specs.Drawn.{bondsIn, groupsIn, ringsIn, drawnOf};
-ghost use Rattle.carbons.specs.ByCarbon.{geometryByte, geometryOf, doubleAt, bridgeAt, groupOn, ringOn, carbonylOn, SetWhere, Geometries, Marks, PlainBonds, BondsBy, Busy};
+ghost use Rattle.carbons.specs.ByCarbon.{geometryByte, geometryOf, doubleAt, bridgeAt, groupOn, ringOn, carbonylOn, risesFrom, SetWhere, Geometries, Marks, PlainBonds, BondsBy, Busy};
 ghost use Rattle.carbons.specs.Tokens.{tokens, TokensOf};
 
 // Carbons 0 to 255.
@@ -127,32 +128,98 @@ fn close_mark(bonds: &mut [u8], carbon: usize, trans: bool, p: usize)
     }
 }
 
-// The marks of one double bond.
-fn mark_bond(bonds: &mut [u8], carbon: usize, geometry: u8, p: usize)
-    requires { ⌜ (1 ≤ p) × (p ≤ carbon) × (carbon < length (now bonds)) ⌝ }
-    ensures { λ _. ⌜ now (bonds .exit) ≡ markBond carbon (geometryOf geometry) p (now (bonds .entry)) ⌝ }
+// The geometry that a byte states.
+fn geometry_of(b: u8) -> Geometry
+    ensures { λ r. ⌜ r ≡ geometryOf b ⌝ }
 {
-    if geometry == b'Z' {
-        open_mark(bonds, p);
-        close_mark(bonds, carbon, false, p);
-        return;
+    if b == b'Z' {
+        return Geometry::Cis;
     }
-    if geometry == b'E' {
-        open_mark(bonds, p);
-        close_mark(bonds, carbon, true, p);
-        return;
+    if b == b'E' {
+        return Geometry::Trans;
+    }
+    Geometry::Unstated
+}
+
+// The marks of one double bond.
+fn mark_bond(bonds: &mut [u8], carbon: usize, geometry: Geometry, p: usize)
+    requires { ⌜ (1 ≤ p) × (p ≤ carbon) × (carbon < length (now bonds)) ⌝ }
+    ensures { λ _. ⌜ now (bonds .exit) ≡ markBond carbon geometry p (now (bonds .entry)) ⌝ }
+{
+    match geometry {
+        Geometry::Unstated => {
+            return;
+        }
+        Geometry::Cis => {
+            open_mark(bonds, p);
+            close_mark(bonds, carbon, false, p);
+            return;
+        }
+        Geometry::Trans => {
+            open_mark(bonds, p);
+            close_mark(bonds, carbon, true, p);
+            return;
+        }
     }
 }
 
-// The marks of all double bonds, by rising position.
+// The marks of all double bonds whose geometries a table has, by rising position.
 fn mark_bonds(bonds: &mut [u8], geoms: &[u8], carbon: usize)
     requires { ⌜ (carbon < length (now bonds)) × (carbon < length (now geoms)) ⌝ }
     ensures { λ _. ⌜ Marks carbon (now (geoms .entry)) (now (bonds .entry)) (now (bonds .exit)) ⌝ }
 {
     let mut p = 1;
     while p <= carbon {
-        mark_bond(bonds, carbon, geoms[p], p);
+        mark_bond(bonds, carbon, geometry_of(geoms[p]), p);
         p += 1;
+    }
+}
+
+// The marks of double bonds in any order: a table of the geometry stated at each carbon puts them in order.
+fn mark_any(bonds: &mut [u8], doubles: &[u64], count: usize, carbon: usize)
+    requires { ⌜ (carbon ≤ 255) × (carbon < length (now bonds)) ⌝ }
+    ensures { λ _. ⌜ now (bonds .exit) ≡ markFrom carbon (bondsIn count (now (doubles .entry))) 1 carbon (now (bonds .entry)) ⌝ }
+{
+    let mut geoms = [0u8; CARBON_ROOM];
+    set_geometries(&mut geoms, doubles, count);
+    mark_bonds(bonds, &geoms, carbon);
+}
+
+// Whether each double bond is further on than the one before it, as in nearly every name.
+fn rises(doubles: &[u64], count: usize) -> bool
+    ensures { λ r. ⌜ r ≡ risesFrom 0 (bondsIn count (now (doubles .entry))) ⌝ }
+{
+    let n = drawable::bonds_len(doubles, count);
+    let mut last = 0;
+    let mut i = 0;
+    while i < n {
+        let b = drawable::nth_bond(doubles, count, i);
+        if b.pos <= last {
+            return false;
+        }
+        last = b.pos;
+        i += 1;
+    }
+    true
+}
+
+// The marks of double bonds whose positions rise: no other carbon need be looked at, and past the last one of the chain none.
+fn mark_rising(bonds: &mut [u8], doubles: &[u64], count: usize, carbon: usize)
+    requires { ⌜ risesFrom 0 (bondsIn count (now doubles)) ≡ true ⌝ }
+    requires { ⌜ carbon < length (now bonds) ⌝ }
+    ensures { λ _. ⌜ now (bonds .exit) ≡ markFrom carbon (bondsIn count (now (doubles .entry))) 1 carbon (now (bonds .entry)) ⌝ }
+{
+    let n = drawable::bonds_len(doubles, count);
+    let mut i = 0;
+    while i < n {
+        let b = drawable::nth_bond(doubles, count, i);
+        let g = b.geom;
+        let p = b.pos as usize;
+        if carbon < p {
+            return;
+        }
+        mark_bond(bonds, carbon, g, p);
+        i += 1;
     }
 }
 
@@ -238,10 +305,13 @@ fn marked_bonds<'a>(
     requires { ⌜ now bonds ≡ replicate 256 0 ⌝ }
     ensures { λ _. ⌜ BondsBy (bondsIn «bond_count» (now (doubles .entry))) (ringsIn «ring_count» (now (rings .entry))) carbon (now (bonds .exit)) ⌝ }
 {
-    let mut geoms = [0u8; CARBON_ROOM];
-    set_geometries(&mut geoms, doubles, bond_count);
     plain_bonds(bonds, doubles, bond_count, rings, ring_count);
-    mark_bonds(bonds, &geoms, in_room(carbon) as usize);
+    let last = in_room(carbon) as usize;
+    if rises(doubles, bond_count) {
+        mark_rising(bonds, doubles, bond_count, last);
+        return;
+    }
+    mark_any(bonds, doubles, bond_count, last);
 }
 
 // The carbons that carry anything beside a bridge, in an array of noughts.

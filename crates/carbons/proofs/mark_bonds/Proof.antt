@@ -14,8 +14,11 @@ abbrev μ-loop : tie.MeasureT-loop
 loop-holds : tie.Need-loop-holds Inv-loop μ-loop
 loop-holds c = (omega arith, marks-all)
 
-shared-slice-read-mark-bond : tie.Need-shared-slice-read-mark-bond Inv-loop μ-loop
-shared-slice-read-mark-bond c = search needs
+shared-slice-read-geometry-of : tie.Need-shared-slice-read-geometry-of Inv-loop μ-loop
+shared-slice-read-geometry-of c = search needs
+
+geometry-of-requires : tie.Need-geometry-of-requires Inv-loop μ-loop
+geometry-of-requires c κs = search needs
 
 mark-bond-requires : tie.Need-mark-bond-requires Inv-loop μ-loop
 mark-bond-requires c κs = search needs
@@ -42,7 +45,8 @@ mark-bonds-spec =
     Inv-loop
     μ-loop
     loop-holds
-    shared-slice-read-mark-bond
+    shared-slice-read-geometry-of
+    geometry-of-requires
     mark-bond-requires
     add-p
     loop-less

@@ -1,28 +1,23 @@
+use Rattle.carbons.proofs.BondLaws.{rises-so}
 use Rattle.carbons.proofs.TokenLaws.{bonds-marked}
 use borrow.Author.Needs.{needs}
 use Rattle.carbons.proofs.marked_bonds.Statement.{statement}
 use Rattle.carbons.proofs.marked_bonds.Tie as tie
 
-slice-aggregate-set-geometries : tie.Need-slice-aggregate-set-geometries
-slice-aggregate-set-geometries c = search needs
-
-set-geometries-requires : tie.Need-set-geometries-requires
-set-geometries-requires c κs = search needs
-
 plain-bonds-requires : tie.Need-plain-bonds-requires
 plain-bonds-requires c κs = search needs
-
-slice-aggregate-mark-bonds : tie.Need-slice-aggregate-mark-bonds
-slice-aggregate-mark-bonds c = search needs
 
 in-room-requires : tie.Need-in-room-requires
 in-room-requires c κs = search needs
 
-cast-mark-bonds : tie.Need-cast-mark-bonds
-cast-mark-bonds c = search needs
+cast-last : tie.Need-cast-last
+cast-last c = search needs
 
-mark-bonds-requires : tie.Need-mark-bonds-requires
-mark-bonds-requires c κs = search needs
+rises-requires : tie.Need-rises-requires
+rises-requires c κs = search needs
+
+mark-rising-requires : tie.Need-mark-rising-requires
+mark-rising-requires c κs = (search rises-so, search needs)
 
 same-length : tie.Need-same-length
 same-length c = search needs
@@ -30,16 +25,26 @@ same-length c = search needs
 returns : tie.Need-returns
 returns c = search bonds-marked
 
+mark-any-requires : tie.Need-mark-any-requires
+mark-any-requires c κs = search needs
+
+same-length-2 : tie.Need-same-length-2
+same-length-2 c = search needs
+
+returns-2 : tie.Need-returns-2
+returns-2 c = search bonds-marked
+
 pub marked-bonds-spec : {M : Type 1} → statement M
 marked-bonds-spec =
     tie.close
     (tie.spec
-    slice-aggregate-set-geometries
-    set-geometries-requires
     plain-bonds-requires
-    slice-aggregate-mark-bonds
     in-room-requires
-    cast-mark-bonds
-    mark-bonds-requires
+    cast-last
+    rises-requires
+    mark-rising-requires
     same-length
-    returns)
+    returns
+    mark-any-requires
+    same-length-2
+    returns-2)
