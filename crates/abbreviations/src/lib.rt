@@ -1,128 +1,78 @@
 // The group that an abbreviation means: a row of the group table. Every byte string has an answer. The table and the words beside it:
-// Groups.antt of `groups`. The abbreviations stand here once more, without the branches, so that a search lays out no more than it looks at.
+// Groups.antt of `groups`. A text is held against all of them at once, as one number: its key, which specs/Key.antt defines.
 use groups::Found;
 use groups::HYDROXY;
 use groups::KETO;
-use groups::MAX_ABBR;
-use groups::ROW_COUNT;
+use groups::METHYL;
 ghost use mathlib.Core.Path.{_≡_};
-ghost use Rattle.scan.specs.Part.{sameBytes};
-ghost use Rattle.groups.specs.Groups.{entryAt, entries, lookupFrom, substituentOf};
-ghost use Rattle.abbreviations.specs.Names.{NameIs};
+ghost use Prim.Native.Nat.{_+_, _*_, _^_, _<_};
+ghost use Rattle.groups.specs.Groups.{substituentOf};
+ghost use Rattle.abbreviations.specs.Key.{keyOf};
 
-// The abbreviation of a row.
-pub struct Name {
-    pub size: u8,
-    pub bytes: [u8; MAX_ABBR],
+// A key with one more byte.
+fn after(k: u64, b: u8) -> u64
+    requires { ⌜ k < 2 ^ 32 ⌝ }
+    ensures { λ r. ⌜ (r ≡ k * 256 + b) × (r < (k + 1) * 256) ⌝ }
+{
+    k * 256 + b as u64
 }
 
-const NAMES: [Name; 17] = [
-    Name {
-        size: 2,
-        bytes: [b'E', b't', 0, 0],
-    },
-    Name {
-        size: 2,
-        bytes: [b'M', b'e', 0, 0],
-    },
-    Name {
-        size: 2,
-        bytes: [b'B', b'r', 0, 0],
-    },
-    Name {
-        size: 2,
-        bytes: [b'C', b'l', 0, 0],
-    },
-    Name {
-        size: 1,
-        bytes: [b'F', 0, 0, 0],
-    },
-    Name {
-        size: 1,
-        bytes: [b'I', 0, 0, 0],
-    },
-    Name {
-        size: 3,
-        bytes: [b'N', b'O', b'2', 0],
-    },
-    Name {
-        size: 3,
-        bytes: [b'O', b'M', b'e', 0],
-    },
-    Name {
-        size: 3,
-        bytes: [b'N', b'H', b'2', 0],
-    },
-    Name {
-        size: 3,
-        bytes: [b'O', b'O', b'H', 0],
-    },
-    Name {
-        size: 2,
-        bytes: [b'S', b'H', 0, 0],
-    },
-    Name {
-        size: 2,
-        bytes: [b'O', b'H', 0, 0],
-    },
-    Name {
-        size: 3,
-        bytes: [b'o', b'x', b'o', 0],
-    },
-    Name {
-        size: 2,
-        bytes: [b'C', b'N', 0, 0],
-    },
-    Name {
-        size: 1,
-        bytes: [b'P', 0, 0, 0],
-    },
-    Name {
-        size: 1,
-        bytes: [b'S', 0, 0, 0],
-    },
-    Name {
-        size: 4,
-        bytes: [b'C', b'O', b'O', b'H'],
-    },
-];
-
-// Whether s is the abbreviation of row i, which is at hand.
-fn named(s: &[u8], i: u8, name: Name) -> bool
-    requires { ⌜ NameIs i name ⌝ }
-    ensures { λ b. ⌜ b ≡ sameBytes (now (s .entry)) (entryAt i .abbr) ⌝ }
+// The key of a text: a 1, so that the length shows, and then the bytes. More than four bytes have the key 0, since of the abbreviations only
+// hydroxy is as long.
+fn key(s: &[u8]) -> u64
+    ensures { λ r. ⌜ r ≡ keyOf (now (s .entry)) ⌝ }
 {
-    let n = name.size as usize;
-    let bytes = name.bytes;
-    scan::same(s, &bytes[0..n])
-}
-
-// The row of the table with an abbreviation. The abbreviations are laid out once for the whole search.
-fn lookup(s: &[u8]) -> Found
-    ensures { λ r. ⌜ r ≡ lookupFrom 0 entries (now (s .entry)) ⌝ }
-{
-    let names = NAMES;
-    let mut i = 0;
-    while i < ROW_COUNT {
-        let at = i as usize;
-        let name = names[at];
-        if named(s, i, name) {
-            return Found::At(i);
-        }
-        i += 1;
+    if s.len() == 0 {
+        return 1;
     }
-    Found::Nothing
+    let one = after(1, s[0]);
+    if s.len() == 1 {
+        return one;
+    }
+    let two = after(one, s[1]);
+    if s.len() == 2 {
+        return two;
+    }
+    let three = after(two, s[2]);
+    if s.len() == 3 {
+        return three;
+    }
+    let four = after(three, s[3]);
+    if s.len() == 4 {
+        return four;
+    }
+    0
 }
 
-// The group that an abbreviation means: a row's own, and hydroxy and keto.
+// The group that an abbreviation means: a row's own, and hydroxy and keto. Beside each key stands the text that it is of.
 pub fn substituent(s: &[u8]) -> Found
     ensures { λ r. ⌜ r ≡ substituentOf (now (s .entry)) ⌝ }
 {
-    if scan::same(s, b"hydroxy") {
-        return Found::At(HYDROXY);
+    let k = key(s);
+    match k {
+        0x1_6b_65_74_6f => Found::At(KETO), // keto
+        0x1_45_74 => Found::At(0), // Et
+        0x1_4d_65 => Found::At(METHYL), // Me
+        0x1_42_72 => Found::At(2), // Br
+        0x1_43_6c => Found::At(3), // Cl
+        0x1_46 => Found::At(4), // F
+        0x1_49 => Found::At(5), // I
+        0x1_4e_4f_32 => Found::At(6), // NO2
+        0x1_4f_4d_65 => Found::At(7), // OMe
+        0x1_4e_48_32 => Found::At(8), // NH2
+        0x1_4f_4f_48 => Found::At(9), // OOH
+        0x1_53_48 => Found::At(10), // SH
+        0x1_4f_48 => Found::At(HYDROXY), // OH
+        0x1_6f_78_6f => Found::At(KETO), // oxo
+        0x1_43_4e => Found::At(13), // CN
+        0x1_50 => Found::At(14), // P
+        0x1_53 => Found::At(15), // S
+        0x1_43_4f_4f_48 => Found::At(16), // COOH
+        _ => {
+            if scan::same(s, b"hydroxy") {
+                return Found::At(HYDROXY);
+            }
+            Found::Nothing
+        }
     }
-    if scan::same(s, b"keto") {
-        return Found::At(KETO);
-    }
-    lookup(s)
 }

@@ -1,7 +1,14 @@
-use Rattle.groups.proofs.Laws.{hydroxy-found, keto-found, row-looked}
+use Rattle.scan.specs.Part.{sameBytes}
+use Rattle.groups.specs.Groups.{substituentOf, lookupFrom, entries}
+use Rattle.groups.proofs.Laws.{hydroxy-found}
+use Rattle.abbreviations.specs.Key.{numberFrom, keyOf}
+use Rattle.abbreviations.proofs.Laws.{textFrom, textOf, named-by, names-none}
 use borrow.Author.Needs.{needs}
 use Rattle.abbreviations.proofs.substituent.Statement.{statement}
 use Rattle.abbreviations.proofs.substituent.Tie as tie
+
+key-requires : tie.Need-key-requires
+key-requires c κs = search needs
 
 slice-aggregate-same : tie.Need-slice-aggregate-same
 slice-aggregate-same c = search needs
@@ -12,30 +19,106 @@ same-requires c κs = search needs
 returns : tie.Need-returns
 returns c = search hydroxy-found
 
-slice-aggregate-same-2 : tie.Need-slice-aggregate-same-2
-slice-aggregate-same-2 c = search needs
-
-same-requires-2 : tie.Need-same-requires-2
-same-requires-2 c κs = search needs
-
 returns-2 : tie.Need-returns-2
-returns-2 c = search keto-found
-
-lookup-requires : tie.Need-lookup-requires
-lookup-requires c κs = search needs
+unfolding substituentOf lookupFrom entries sameBytes textOf textFrom
+returns-2 c = search named-by
 
 returns-3 : tie.Need-returns-3
-returns-3 c = search row-looked
+unfolding substituentOf lookupFrom entries sameBytes textOf textFrom
+returns-3 c = search named-by
+
+returns-4 : tie.Need-returns-4
+unfolding substituentOf lookupFrom entries sameBytes textOf textFrom
+returns-4 c = search named-by
+
+returns-5 : tie.Need-returns-5
+unfolding substituentOf lookupFrom entries sameBytes textOf textFrom
+returns-5 c = search named-by
+
+returns-6 : tie.Need-returns-6
+unfolding substituentOf lookupFrom entries sameBytes textOf textFrom
+returns-6 c = search named-by
+
+returns-7 : tie.Need-returns-7
+unfolding substituentOf lookupFrom entries sameBytes textOf textFrom
+returns-7 c = search named-by
+
+returns-8 : tie.Need-returns-8
+unfolding substituentOf lookupFrom entries sameBytes textOf textFrom
+returns-8 c = search named-by
+
+returns-9 : tie.Need-returns-9
+unfolding substituentOf lookupFrom entries sameBytes textOf textFrom
+returns-9 c = search named-by
+
+returns-10 : tie.Need-returns-10
+unfolding substituentOf lookupFrom entries sameBytes textOf textFrom
+returns-10 c = search named-by
+
+returns-11 : tie.Need-returns-11
+unfolding substituentOf lookupFrom entries sameBytes textOf textFrom
+returns-11 c = search named-by
+
+returns-12 : tie.Need-returns-12
+unfolding substituentOf lookupFrom entries sameBytes textOf textFrom
+returns-12 c = search named-by
+
+returns-13 : tie.Need-returns-13
+unfolding substituentOf lookupFrom entries sameBytes textOf textFrom
+returns-13 c = search named-by
+
+returns-14 : tie.Need-returns-14
+unfolding substituentOf lookupFrom entries sameBytes textOf textFrom
+returns-14 c = search named-by
+
+returns-15 : tie.Need-returns-15
+unfolding substituentOf lookupFrom entries sameBytes textOf textFrom
+returns-15 c = search named-by
+
+returns-16 : tie.Need-returns-16
+unfolding substituentOf lookupFrom entries sameBytes textOf textFrom
+returns-16 c = search named-by
+
+returns-17 : tie.Need-returns-17
+unfolding substituentOf lookupFrom entries sameBytes textOf textFrom
+returns-17 c = search named-by
+
+returns-18 : tie.Need-returns-18
+unfolding substituentOf lookupFrom entries sameBytes textOf textFrom
+returns-18 c = search named-by
+
+returns-19 : tie.Need-returns-19
+unfolding substituentOf lookupFrom entries sameBytes textOf textFrom
+returns-19 c = search named-by
+
+returns-20 : tie.Need-returns-20
+unfolding keyOf numberFrom entries
+returns-20 c = search names-none
 
 pub substituent-spec : {M : Type 1} → statement M
 substituent-spec =
     tie.close
     (tie.spec
+    key-requires
     slice-aggregate-same
     same-requires
     returns
-    slice-aggregate-same-2
-    same-requires-2
     returns-2
-    lookup-requires
-    returns-3)
+    returns-3
+    returns-4
+    returns-5
+    returns-6
+    returns-7
+    returns-8
+    returns-9
+    returns-10
+    returns-11
+    returns-12
+    returns-13
+    returns-14
+    returns-15
+    returns-16
+    returns-17
+    returns-18
+    returns-19
+    returns-20)
