@@ -70,6 +70,10 @@ module _ {row : ℕ} {g : Row} (w : RowIs row g) where
   unfolding entryOf
   branch-written v = rw (branch-text row, ← ap (λ (e : Entry). e .branch) (w .entry-is), ← sub-zero (g .«branch_len»)) v
 
+-- the branch of a row that the code knows
+pub branch-known : {xs ys : List ℕ} {at p : ℕ} (row n : ℕ) (ts : List ℕ) → row ≡ n → entryAt n .branch ≡ ts → Written xs at ts ys p → Written xs at (branchText row) ys p
+branch-known row n ts e f w = rw (e, branch-text n, f) w
+
 -- ---- groups
 
 pub parts-cons : (p : Part) (ps : List Part) → show (partPieces (p ∷ ps)) ≡ show (partPieces (p ∷ [])) ++ show (partPieces ps)

@@ -1,17 +1,36 @@
 // The groups of a chain, written at a place of a lent slice: those on a carbon, the carbonyl's O, and those without a position.
 use drawable::Shape;
+use groups::HYDROXY;
+use groups::KETO;
+use groups::METHYL;
 ghost use Rattle.emit.specs.Text.{Written};
 ghost use Rattle.drawable.specs.Drawn.{groupsIn, drawnOf};
 ghost use Rattle.branches.specs.Text.{branchText, groupText, sitting, groupsText, floatText, floatsText, carbonylText, rowsIn, RowsPut};
 
-// The branch of a group, by its row of the table.
-fn put_branch(out: &mut [u8], at: usize, row: u8) -> usize
+// The branch of a group, from its row of the table.
+fn put_table_branch(out: &mut [u8], at: usize, row: u8) -> usize
     ensures { λ r. ⌜ Written (now (out .entry)) at (branchText row) (now (out .exit)) r ⌝ }
 {
     let group = groups::row_at(row);
     let n = group.branch_len as usize;
     let branch = group.branch;
     emit::put_text(out, at, &branch[0..n])
+}
+
+// The branch of a group, by its row. Those that most groups have stand here once more, since a look into the table lays out the whole of it.
+fn put_branch(out: &mut [u8], at: usize, row: u8) -> usize
+    ensures { λ r. ⌜ Written (now (out .entry)) at (branchText row) (now (out .exit)) r ⌝ }
+{
+    if row == HYDROXY {
+        return emit::put_byte(out, at, b'O');
+    }
+    if row == KETO {
+        return emit::put_text(out, at, b"=O");
+    }
+    if row == METHYL {
+        return emit::put_byte(out, at, b'C');
+    }
+    put_table_branch(out, at, row)
 }
 
 // A group on its carbon: `(branch)`.
