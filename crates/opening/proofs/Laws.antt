@@ -1,13 +1,13 @@
 -- Laws of the opening of a token: one for each way out of its readers.
 -- Assumes nothing.
-use Prim.Native.Nat.{ℕ, _+_, _-_, _≤_, _<_}
+use Prim.Native.Nat.{ℕ, zero, suc, _+_, _-_, _≤_, _<_}
 use native.Mathlib.Omega.{arith}
 use mathlib.Core.Path.{_≡_, refl, sym, ap, _∙_}
-use mathlib.Core.Bool.{Bool, true, false, not, cond}
+use mathlib.Core.Bool.{Bool, true, false, not, cond, true≢false}
 use mathlib.Core.List.{List, [], _∷_}
 use lib.ListN.{length, take, drop, getD, length-drop}
 use lib.Dec.{eqb, ltb}
-use borrow.Author.Tests.{lt-ltb, le-ltb, not-true, not-false, ltb-false}
+use borrow.Author.Tests.{lt-ltb, le-ltb, ne-eqb, not-true, not-false, ltb-false}
 use Rattle.scan.specs.Part.{startsWith}
 use Rattle.scan.specs.Number.{isDigit, numberUpTo, numberLimit}
 use Rattle.scan.specs.declared.Number.{Number}
@@ -116,6 +116,56 @@ module _ (t : List ℕ) (first : Branch) (n : ℕ) (prefix : ChainPrefix) (m : �
       let z : Word (drop m (drop n t)) second = rw q at v in
       let l : branchLength second ≤ length t - n - m = rw (length-drop m (drop n t), length-drop n t) at (z .room) in
       record { is = sym (begun ∙ rw (g, ← z .is, ← h)); within = omega (arith, room) }
+
+-- ---- the opening before a digit
+
+-- a digit is no byte that is none
+no-digit : (k y : ℕ) → isDigit k ≡ false → isDigit y ≡ true → y ≡ k → ⊥
+no-digit k y n d e = true≢false (sym d ∙ ap isDigit e ∙ n)
+
+other-first : (a : ℕ) (q : List ℕ) (y : ℕ) (s : List ℕ) → (y ≡ a → ⊥) → startsWith (a ∷ q) (y ∷ s) ≡ false
+unfolding startsWith
+other-first a q y s n = rw (ne-eqb y a n)
+
+other-second : (a b : ℕ) (q : List ℕ) (x y : ℕ) (s : List ℕ) → (y ≡ b → ⊥) → startsWith (a ∷ b ∷ q) (x ∷ y ∷ s) ≡ false
+unfolding startsWith
+other-second a b q x y s n = rw (ne-eqb y b n) (go (eqb x a))
+  where
+    go : (c : Bool) → cond c false false ≡ false
+    go true = refl
+    go false = refl
+
+module _ (x y : ℕ) (s : List ℕ) (d : isDigit y ≡ true) where
+  straight-here : branchOf (y ∷ s) ≡ Straight
+  unfolding branchOf isDigit
+  straight-here = rw (other-first 105 _ y s (no-digit 105 y refl d), other-first 97 _ y s (no-digit 97 y refl d))
+
+  straight-next : branchOf (x ∷ y ∷ s) ≡ Straight
+  unfolding branchOf isDigit
+  straight-next = rw (other-second 105 115 _ x y s (no-digit 115 y refl d), other-second 97 110 _ x y s (no-digit 110 y refl d))
+
+  prefix-next : prefixOf (x ∷ y ∷ s) ≡ sphingoidOf x
+  unfolding prefixOf beforeDigit isDigit
+  prefix-next = rw (other-second 79 45 _ x y s (no-digit 45 y refl d), other-second 80 45 _ x y s (no-digit 45 y refl d), d)
+
+  straight-after : (m : ℕ) → m ≤ 1 → branchOf (drop m (x ∷ y ∷ s)) ≡ Straight
+  straight-after zero h = straight-next
+  straight-after (suc zero) h = straight-here
+  straight-after (suc (suc m)) h = absurd (omega arith)
+
+  opening-digit : openingOf (x ∷ y ∷ s) ≡ record { prefix = sphingoidOf x; branch = Straight; carbons = prefixLength (sphingoidOf x) }
+  unfolding openingOf
+  opening-digit =
+      let z : 0 + prefixLength (sphingoidOf x) + 0 ≡ prefixLength (sphingoidOf x) = omega arith in
+      rw (straight-next, prefix-next, straight-after (prefixLength (sphingoidOf x)) (sphingoid-length x), z)
+
+pub opened-digit : (t : List ℕ) (d : Bool) (p : ChainPrefix) (m : ℕ) → 2 ≤ length t → d ≡ isDigit (getD t 1 0) → not d ≡ false → p ≡ sphingoidOf (getD t 0 0)
+    → m ≡ prefixLength p → Opened t (record { prefix = p; branch = Straight; carbons = m })
+opened-digit [] d p m h e n f g = absurd (omega arith)
+opened-digit (x ∷ []) d p m h e n f g = absurd (omega arith)
+opened-digit (x ∷ y ∷ s) d p m h e n f g =
+    let k : isDigit y ≡ true = sym e ∙ not-false d n in
+    rw (g, f) (record { is = sym (opening-digit x y s k); within = omega (arith, sphingoid-length x) })
 
 -- ---- the carbons
 

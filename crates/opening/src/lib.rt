@@ -99,7 +99,7 @@ pub struct Opening {
 }
 
 // A branch word, a prefix, and the branch word if it was not yet seen.
-pub fn read_opening(t: &[u8]) -> Opening
+fn read_words(t: &[u8]) -> Opening
     ensures { λ r. ⌜ Opened (now (t .entry)) r ⌝ }
 {
     let first = branch_word(t);
@@ -128,6 +128,25 @@ pub fn read_opening(t: &[u8]) -> Opening
             branch: first,
             carbons: n + m,
         },
+    }
+}
+
+// The opening. Where the second byte is a digit, and so for nearly every token, no word stands there and the prefix is at most the first letter.
+pub fn read_opening(t: &[u8]) -> Opening
+    ensures { λ r. ⌜ Opened (now (t .entry)) r ⌝ }
+{
+    if t.len() < 2 {
+        return read_words(t);
+    }
+    if !scan::is_digit(t[1]) {
+        return read_words(t);
+    }
+    let prefix = sphingoid(t[0]);
+    let carbons = prefix_length(prefix);
+    Opening {
+        prefix,
+        branch: Branch::Straight,
+        carbons,
     }
 }
 
