@@ -1,6 +1,6 @@
 -- Laws of the seats: the search by an array of used positions is the search by the definition.
 -- Assumes nothing.
-use Prim.Native.Nat.{ℕ, zero, suc, _+_, _-_, _≤_, _<_, min, max}
+use Prim.Native.Nat.{ℕ, zero, suc, _+_, _*_, _-_, _≤_, _<_, min, max}
 use native.Mathlib.Nat.{le-refl}
 use native.Mathlib.Numerals.{add-one}
 use native.Mathlib.Omega.{arith}
@@ -240,6 +240,43 @@ first-nine c h = omega arith
 pub first-low : (c s : ℕ) → s ≡ firstStart c → 2 ≤ s
 unfolding firstStart
 first-low c s e = omega arith
+
+-- ---- seats in a row, where nothing is used
+
+-- nothing is used from the seat below s on
+abbrev Clear : (ℕ → Bool) → ℕ → Type 0
+Clear u s = (k : ℕ) → s ≤ k + 1 → u k ≡ false
+
+row-free : (u : ℕ → Bool) (s : ℕ) → Clear u s → free u s ≡ true
+unfolding free
+row-free u s g = rw (g s (omega arith), g (s - 1) (omega arith), g (s + 1) (omega arith))
+
+row-seat : (c : ℕ) (u : ℕ → Bool) (s : ℕ) → s < c → Clear u s → seatFrom c u s ≡ At s
+unfolding seatFrom firstFree
+row-seat c u s h g =
+    let e : c - s ≡ suc (c - s - 1) = omega arith in
+    rw (lt-ltb s c h, e, row-free u s g)
+
+row-next : (u : ℕ → Bool) (s : ℕ) → Clear u s → Clear (also s u) (s + 3)
+unfolding also
+row-next u s g k h = rw (ne-eqb s k (λ e. omega arith)) (g k (omega arith))
+
+row-all : (c : ℕ) (u : ℕ → Bool) (s n : ℕ) → s + 3 * n < c + 3 → Clear u s → seatsFrom c u s n ≡ true
+unfolding seatsFrom
+row-all c u s zero h g = refl
+row-all c u s (suc n) h g = rw (row-seat c u s (omega arith) g) (row-all c (also s u) (s + 3) n (omega arith) (row-next u s g))
+
+pub seats-row : (c : ℕ) (bs : List ℕ) (l n : ℕ) (r : Bool) → (n ≡ 0 → ⊥) → c ≤ 255 → (r ≡ true → (l ≡ 0) × (6 + 3 * n < c)) → r ≡ true
+    → Seated c (positions (map bondIn (take l bs))) n true
+unfolding seated positions among
+seats-row c bs l n r z h f e =
+    let w = f e in
+    let k : 4 ≤ c = omega (arith, w .1) in
+    rw (w .0)
+    (record {
+      is = λ d. rw (ne-eqb n 0 z, le-ltb c 4 k, ← first-nine c (omega (arith, w .1))) (sym (row-all c (among []) 9 n (omega (arith, w .1)) (λ k h. refl)));
+      few = λ d. omega (arith, w .1);
+    })
 
 -- ---- no more seats than carbons
 

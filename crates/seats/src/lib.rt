@@ -2,7 +2,8 @@
 // The search goes by an array of used positions, by carbon, so its work is bounded by the carbons and not by the number declared.
 use record::MAX_CARBONS;
 ghost use mathlib.Core.Path.{_≡_};
-ghost use Prim.Native.Nat.{_≤_, _<_, _+_, _-_};
+ghost use Prim.Native.Nat.{_≤_, _<_, _+_, _*_, _-_};
+ghost use mathlib.Core.Bool.{true};
 ghost use mathlib.Core.List.{map};
 ghost use lib.ListN.{take, length};
 ghost use Rattle.record.specs.Chain.{maxCarbons};
@@ -126,6 +127,19 @@ fn first_start(carbon: u16) -> u16
     9
 }
 
+// Whether no position is listed and the seats 9, 12, 15 and so on are enough: nothing is used there, so the search needs no array.
+fn seats_in_row(carbon: u16, listed: usize, missing: u64) -> bool
+    ensures { λ r. ⌜ (r ≡ true → (listed ≡ 0) × (6 + 3 * missing < carbon)) ⌝ }
+{
+    if listed != 0 {
+        return false;
+    }
+    if (MAX_CARBONS as u64) < missing {
+        return false;
+    }
+    6 + 3 * missing < (carbon as u64)
+}
+
 // Whether each of the missing bonds finds a seat beside the first `listed` double bonds, which are numbers of the crate `codes`.
 pub fn placeholder_positions(carbon: u16, bonds: &[u64], listed: usize, missing: u64) -> bool
     ensures { λ r. ⌜ Seated carbon (positions (map bondIn (take listed (now (bonds .entry))))) missing r ⌝ }
@@ -138,6 +152,9 @@ pub fn placeholder_positions(carbon: u16, bonds: &[u64], listed: usize, missing:
     }
     if MAX_CARBONS < carbon {
         return false;
+    }
+    if seats_in_row(carbon, listed, missing) {
+        return true;
     }
     let mut used = no_marks();
     mark_listed(&mut used, bonds, listed);

@@ -1,4 +1,4 @@
-use Rattle.seats.proofs.Laws.{seats-none, seats-short, seats-large, seats-found, first-low, marked-room}
+use Rattle.seats.proofs.Laws.{seats-none, seats-short, seats-large, seats-row, seats-found, first-low, marked-room}
 use borrow.Author.Needs.{needs}
 use Rattle.seats.proofs.placeholder_positions.Statement.{statement}
 use Rattle.seats.proofs.placeholder_positions.Tie as tie
@@ -11,6 +11,12 @@ returns-2 c = search seats-short
 
 returns-3 : tie.Need-returns-3
 returns-3 c = search seats-large
+
+seats-in-row-requires : tie.Need-seats-in-row-requires
+seats-in-row-requires c κs = search needs
+
+returns-4 : tie.Need-returns-4
+returns-4 c = search seats-row
 
 no-marks-requires : tie.Need-no-marks-requires
 no-marks-requires c κs = search needs
@@ -30,8 +36,8 @@ slice-aggregate-take-seats c = search needs
 take-seats-requires : tie.Need-take-seats-requires
 take-seats-requires c κs = (search first-low, search needs, search needs, search marked-room)
 
-returns-4 : tie.Need-returns-4
-returns-4 c = search seats-found
+returns-5 : tie.Need-returns-5
+returns-5 c = search seats-found
 
 pub placeholder-positions-spec : {M : Type 1} → statement M
 placeholder-positions-spec =
@@ -40,10 +46,12 @@ placeholder-positions-spec =
     returns
     returns-2
     returns-3
+    seats-in-row-requires
+    returns-4
     no-marks-requires
     slice-aggregate-mark-listed
     mark-listed-requires
     first-start-requires
     slice-aggregate-take-seats
     take-seats-requires
-    returns-4)
+    returns-5)
