@@ -57,21 +57,19 @@ unfolding printable
 printable-test b h = rw (le-ltb b 32 h)
 
 module _ (A : Bool) where
-  pub printable-not : (t : List ℕ) (b : Bool) → 0 < length t → b ≡ printable (getD t 0 0) → not b ≡ true → A ≡ allPrintable t → false ≡ A
+  pub printable-more : (t : List ℕ) (a b r : Bool) → 0 < length t → A ≡ cond a (allPrintable t) false → b ≡ printable (getD t 0 0) → r ≡ cond a b false
+      → A ≡ cond r (allPrintable (take (length t - 1) (drop 1 t))) false
   unfolding allPrintable
-  printable-not [] b h e n v = absurd (omega arith)
-  printable-not (x ∷ t) b h e n v = sym (v ∙ rw (sym e ∙ not-true b n))
+  printable-more [] a b r h v e f = absurd (omega arith)
+  printable-more (x ∷ t) true true r h v e f = rw (to-end 1 (x ∷ t), f) (v ∙ rw (sym e))
+  printable-more (x ∷ t) true false r h v e f = rw f (v ∙ rw (sym e))
+  printable-more (x ∷ t) false b r h v e f = rw f v
 
-  pub printable-more : (t : List ℕ) (b : Bool) → 0 < length t → b ≡ printable (getD t 0 0) → not b ≡ false → A ≡ allPrintable t
-      → A ≡ allPrintable (take (length t - 1) (drop 1 t))
+  pub printable-all : (t : List ℕ) (a : Bool) → length t ≤ 0 → A ≡ cond a (allPrintable t) false → a ≡ A
   unfolding allPrintable
-  printable-more [] b h e n v = absurd (omega arith)
-  printable-more (x ∷ t) b h e n v = rw (to-end 1 (x ∷ t)) (v ∙ rw (sym e ∙ not-false b n))
-
-  pub printable-all : (t : List ℕ) → length t ≤ 0 → A ≡ allPrintable t → true ≡ A
-  unfolding allPrintable
-  printable-all [] h v = sym v
-  printable-all (x ∷ t) h v = absurd (omega arith)
+  printable-all [] true h v = sym v
+  printable-all [] false h v = sym v
+  printable-all (x ∷ t) a h v = absurd (omega arith)
 
 -- ---- the missing bonds
 

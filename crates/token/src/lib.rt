@@ -13,6 +13,7 @@ use record::MAX_GROUPS;
 use record::MAX_RINGS;
 use scan::Number;
 ghost use mathlib.Core.Path.{_≡_};
+ghost use mathlib.Core.Bool.{cond, false};
 ghost use mathlib.Core.List.{[]};
 ghost use Prim.Native.Nat.{_≤_};
 ghost use lib.ListN.{length};
@@ -33,17 +34,26 @@ fn is_printable(b: u8) -> bool
     b <= 126
 }
 
+fn both(a: bool, b: bool) -> bool
+    ensures { λ r. ⌜ r ≡ cond a b false ⌝ }
+{
+    if a {
+        return b;
+    }
+    false
+}
+
+// Nearly every token passes, so no byte ends the search: many bytes are then compared at a time.
 fn all_printable(s: &[u8]) -> bool
     ensures { λ r. ⌜ r ≡ allPrintable (now (s .entry)) ⌝ }
 {
     let mut t = s;
+    let mut all = true;
     while t.len() > 0 {
-        if !is_printable(t[0]) {
-            return false;
-        }
+        all = both(all, is_printable(t[0]));
         t = &t[1..];
     }
-    true
+    all
 }
 
 // The double bonds that a token declares without a position, where each finds a seat.

@@ -1,16 +1,17 @@
 use borrow.Author.Needs.{needs}
 use mathlib.Core.Path.{_≡_, refl}
+use mathlib.Core.Bool.{cond, false}
 use lib.ListN.{length}
 use Rattle.token.specs.Token.{allPrintable}
-use Rattle.token.proofs.Laws.{printable-not, printable-more, printable-all}
+use Rattle.token.proofs.Laws.{printable-more, printable-all}
 use Rattle.token.proofs.all_printable.Statement.{statement}
 use Rattle.token.proofs.all_printable.Tie as tie
 
 abbrev Inv-loop : tie.InvT-loop
-Inv-loop s t₀ t = allPrintable s ≡ allPrintable t
+Inv-loop s t₀ all₀ t all = allPrintable s ≡ cond all (allPrintable t) false
 
 abbrev μ-loop : tie.MeasureT-loop
-μ-loop s t₀ t = length t
+μ-loop s t₀ all₀ t all = length t
 
 loop-holds : tie.Need-loop-holds Inv-loop μ-loop
 loop-holds c = refl
@@ -21,8 +22,8 @@ shared-slice-read-is-printable c = search needs
 is-printable-requires : tie.Need-is-printable-requires Inv-loop μ-loop
 is-printable-requires c κs = search needs
 
-returns : tie.Need-returns Inv-loop μ-loop
-returns c = search printable-not
+both-requires : tie.Need-both-requires Inv-loop μ-loop
+both-requires c κs = search needs
 
 sub-t : tie.Need-sub-t Inv-loop μ-loop
 sub-t c = search needs
@@ -39,8 +40,8 @@ loop-less c = search needs
 loop-again : tie.Need-loop-again Inv-loop μ-loop
 loop-again c = search printable-more
 
-returns-2 : tie.Need-returns-2 Inv-loop μ-loop
-returns-2 c = search printable-all
+returns : tie.Need-returns Inv-loop μ-loop
+returns c = search printable-all
 
 pub all-printable-spec : {M : Type 1} → statement M
 all-printable-spec =
@@ -51,10 +52,10 @@ all-printable-spec =
     loop-holds
     shared-slice-read-is-printable
     is-printable-requires
-    returns
+    both-requires
     sub-t
     part-t-start
     part-t-end
     loop-less
     loop-again
-    returns-2)
+    returns)
