@@ -4,21 +4,79 @@ use Prim.Native.Nat.{ℕ, suc, _+_, _-_, _≤_, _<_}
 use native.Mathlib.Nat.{sub-zero}
 use native.Mathlib.Numerals.{add-one}
 use native.Mathlib.Omega.{arith}
-use mathlib.Core.Path.{_≡_, sym, _∙_}
-use mathlib.Core.Bool.{Bool, true, false, not, true≢false}
+use mathlib.Core.Path.{_≡_, refl, sym, _∙_}
+use mathlib.Core.Bool.{Bool, true, false, not, cond, true≢false}
 use mathlib.Core.List.{List, [], _∷_}
 use lib.ListN.{length, take, drop, getD, length-take, drop-of-length-le}
 use lib.Dec.{eqb}
-use borrow.Author.Tests.{eq-eqb, ne-eqb, not-false}
+use borrow.Author.Tests.{eq-eqb, ne-eqb, not-true, not-false}
 use Rattle.scan.proofs.Laws.{to-end, found-room}
-use Rattle.scan.specs.Part.{Place, indexOf, indexOfText}
+use Rattle.scan.specs.Part.{Place, firstByte, indexOf, indexOfText, startsWith}
 use Rattle.form.specs.declared.Form.{Form}
 use Rattle.form.specs.declared.Form.the-variants.{Ring, Repeated, Listed, Parts}
 use Rattle.form.specs.Form.{cyText, groupForm, spanForm, formOf, PlacedIn, Formed, endsInParenthesis, afterPlace}
 pub use Rattle.split.proofs.Laws.{parts-last, parts-more, parts-first, list-none, list-some}
 pub use Rattle.numbers.proofs.Laws.{trimmed-fits, position-fits, one-fits}
 
+-- ---- no `c` and no `(`
+
+-- a byte that is no `c`: the first `cy` is as far from the end of the rest
+pub unmarked-cy : (s t : List ℕ) → 0 < length t → (getD t 0 0 ≡ 99 → ⊥) → indexOfText cyText s + length t ≡ indexOfText cyText t + length s
+    → indexOfText cyText s + length (take (length t - 1) (drop 1 t)) ≡ indexOfText cyText (take (length t - 1) (drop 1 t)) + length s
+unfolding indexOfText startsWith
+unmarked-cy s [] l n v = absurd (omega arith)
+unmarked-cy s (x ∷ t) l n v = rw (to-end 1 (x ∷ t)) (let z = rw (ne-eqb x 99 n) at v in omega arith)
+
+-- and the first `(`, of a byte that is none
+pub unmarked-open : (s t : List ℕ) → 0 < length t → (getD t 0 0 ≡ 40 → ⊥) → indexOf 40 s + length t ≡ indexOf 40 t + length s
+    → indexOf 40 s + length (take (length t - 1) (drop 1 t)) ≡ indexOf 40 (take (length t - 1) (drop 1 t)) + length s
+unfolding firstByte
+unmarked-open s [] l n v = absurd (omega arith)
+unmarked-open s (x ∷ t) l n v = rw (to-end 1 (x ∷ t)) (let z = rw (ne-eqb x 40 n) at v in omega arith)
+
+pub unmarked-end : (s t : List ℕ) → length t ≤ 0 → indexOfText cyText s + length t ≡ indexOfText cyText t + length s → indexOf 40 s + length t ≡ indexOf 40 t + length s
+    → (indexOfText cyText s ≡ length s) × (indexOf 40 s ≡ length s)
+unfolding indexOfText firstByte
+unmarked-end s [] l v w = (omega arith, omega arith)
+unmarked-end s (x ∷ t) l v w = absurd (omega arith)
+
+-- ---- `cy`
+
+module _ (a b : ℕ) where
+  pub cy-second : a ≡ 99 → eqb b 121 ≡ cond (eqb a 99) (eqb b 121) false
+  cy-second e = rw (eq-eqb a 99 e)
+
+  pub cy-other : (a ≡ 99 → ⊥) → false ≡ cond (eqb a 99) (eqb b 121) false
+  cy-other n = rw (ne-eqb a 99 n)
+
+pub cy-starts : (s : List ℕ) (r : Bool) → 1 < length s → r ≡ cond (eqb (getD s 0 0) 99) (eqb (getD s 1 0) 121) false → r ≡ startsWith cyText s
+unfolding startsWith
+cy-starts [] r h e = absurd (omega arith)
+cy-starts (x ∷ []) r h e = absurd (omega arith)
+cy-starts (x ∷ y ∷ s) r h e = e ∙ go (eqb x 99) (eqb y 121)
+  where
+    go : (a b : Bool) → cond a b false ≡ cond a (cond b true false) false
+    go true true = refl
+    go true false = refl
+    go false b = refl
+
+pub cy-short : (s : List ℕ) → length s ≤ 1 → false ≡ startsWith cyText s
+unfolding startsWith
+cy-short [] h = refl
+cy-short (x ∷ []) h = go (eqb x 99)
+  where
+    go : (a : Bool) → false ≡ cond a false false
+    go true = refl
+    go false = refl
+cy-short (x ∷ y ∷ s) h = absurd (omega arith)
+
 -- ---- the form
+
+pub form-plain : (s : List ℕ) (b : Bool) → (b ≡ false → (indexOfText cyText s ≡ length s) × (indexOf 40 s ≡ length s)) → not b ≡ true → Formed s (formOf s) Parts
+unfolding formOf groupForm
+form-plain s b f n =
+    let w = f (not-true b n) in
+    record { is = rw (eq-eqb (indexOfText cyText s) (length s) (w .0), eq-eqb (indexOf 40 s) (length s) (w .1)); placed = tt }
 
 module _ (s : List ℕ) (n : ℕ) (f : Place s (indexOf 40 s) n) where
   pub form-parts : n ≡ length s → Formed s (groupForm s) Parts

@@ -2,7 +2,11 @@
 // brackets, the parts of a list and the numbers in it. Each function is defined for every byte string and refuses nothing. 01's sentences
 // stand in specs/Form.antt.
 ghost use mathlib.Core.Path.{_≡_};
-ghost use Rattle.form.specs.Form.{Formed, formOf, groupForm, endsInParenthesis, afterPlace};
+ghost use mathlib.Core.Bool.{cond, false};
+ghost use lib.ListN.{length};
+ghost use lib.Dec.{eqb};
+ghost use Rattle.scan.specs.Part.{Place, indexOf, indexOfText, startsWith};
+ghost use Rattle.form.specs.Form.{Formed, cyText, formOf, groupForm, endsInParenthesis, afterPlace};
 pub use brackets::segment_text;
 pub use numbers::leading_position;
 pub use numbers::number_or_one;
@@ -36,11 +40,66 @@ fn group_form(s: &[u8]) -> Form
     Form::Listed { open }
 }
 
-// Which form a segment has.
+// Whether a `c` or a `(` stands in s.
+fn has_mark(s: &[u8]) -> bool
+    ensures { λ r. ⌜ (r ≡ false → (indexOfText cyText (now (s .entry)) ≡ length (now (s .entry))) × (indexOf 40 (now (s .entry)) ≡ length (now (s .entry)))) ⌝ }
+{
+    let mut t = s;
+    while t.len() > 0 {
+        if t[0] == b'c' {
+            return true;
+        }
+        if t[0] == b'(' {
+            return true;
+        }
+        t = &t[1..];
+    }
+    false
+}
+
+fn is_cy(a: u8, b: u8) -> bool
+    ensures { λ r. ⌜ r ≡ cond (eqb a 99) (eqb b 121) false ⌝ }
+{
+    if a == b'c' {
+        return b == b'y';
+    }
+    false
+}
+
+// Whether s starts with `cy`.
+fn starts_with_cy(s: &[u8]) -> bool
+    ensures { λ r. ⌜ r ≡ startsWith cyText (now (s .entry)) ⌝ }
+{
+    if s.len() > 1 {
+        return is_cy(s[0], s[1]);
+    }
+    false
+}
+
+// The first place of `cy`, or the length.
+fn find_cy(s: &[u8]) -> usize
+    ensures { λ r. ⌜ Place (now (s .entry)) (indexOfText cyText (now (s .entry))) r ⌝ }
+{
+    let mut t = s;
+    let mut i = 0;
+    while t.len() > 0 {
+        if starts_with_cy(t) {
+            return i;
+        }
+        t = &t[1..];
+        i += 1;
+    }
+    i
+}
+
+// Which form a segment has. One without `c` and `(`, as most are, is parts between commas: that takes one look at each byte.
 pub fn form_of(s: &[u8]) -> Form
     ensures { λ r. ⌜ Formed (now (s .entry)) (formOf (now (s .entry))) r ⌝ }
 {
-    let cy = scan::find_text(s, b"cy");
+    if !has_mark(s) {
+        return Form::Parts;
+    }
+    let cy = find_cy(s);
     if cy == s.len() {
         return group_form(s);
     }
