@@ -1,15 +1,16 @@
 -- Laws of the spaces around a part: for each loop a turn and each way out.
 -- Assumes nothing.
 use Prim.Native.Nat.{ℕ, zero, suc, _+_, _-_, _≤_, _<_}
+use native.Mathlib.Nat.{le-refl}
 use native.Mathlib.Omega.{arith}
 use mathlib.Core.Path.{_≡_, refl, sym, ap, _∙_}
 use mathlib.Core.Bool.{Bool, true, false, not, cond}
 use mathlib.Core.List.{List, [], _∷_, _++_}
 use lib.ListN.{length, take, drop, getD}
-use lib.Seq.{take-suc, length-take-le}
+use lib.Seq.{take-suc, take-all, length-take-le}
 use lib.Dec.{eqb}
 use borrow.Author.Tests.{eq-eqb, ne-eqb}
-use Rattle.part.specs.Part.{part, Place, leading, endingAfter, ending, trimmed}
+use Rattle.part.specs.Part.{part, Place, firstByte, leading, endingAfter, ending, trimmed}
 use Rattle.part.proofs.Laws.{first-here, first-more}
 
 -- the test for a space, by what the code asks
@@ -65,3 +66,16 @@ trim-blank s from to f e h = let z : ending s - leading s ≡ 0 = omega (arith, 
 pub trim-part : (s : List ℕ) (from to : ℕ) → Place s (leading s) from → Place s (ending s) to → take (to - from) (drop from s) ≡ trimmed s
 unfolding trimmed
 trim-part s from to f e = rw (f .is, e .is)
+
+pub trim-none : (s : List ℕ) → length s ≡ 0 → s ≡ trimmed s
+unfolding trimmed ending firstByte
+trim-none [] l = refl
+trim-none (x ∷ xs) l = absurd (omega arith)
+
+-- no space leads and none ends
+pub trim-whole : (s : List ℕ) → (length s ≡ 0 → ⊥) → (getD s 0 0 ≡ 32 → ⊥) → (getD s (length s - 1) 0 ≡ 32 → ⊥) → s ≡ trimmed s
+trim-whole s l a b =
+    let m : 0 < length s = omega arith in
+    let from : Place s (leading s) 0 = space-end s s 0 m a (omega arith) in
+    let to : Place s (ending s) (length s) = end-here s (length s) m (le-refl (length s)) b (sym (ap ending (take-all (length s) s (le-refl (length s))))) in
+    sym (take-all (length s - 0) s (omega arith)) ∙ trim-part s 0 (length s) from to

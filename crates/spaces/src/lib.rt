@@ -33,8 +33,8 @@ fn text_end(s: &[u8]) -> usize
     n
 }
 
-// The part of the caller's bytes between leading and trailing spaces.
-pub fn trim(s: &[u8]) -> &[u8]
+// The part between leading and trailing spaces, where there may be some.
+fn within_spaces(s: &[u8]) -> &[u8]
     ensures { λ r. ⌜ now r ≡ trimmed (now (s .entry)) ⌝ }
 {
     let from = leading_spaces(s);
@@ -43,4 +43,20 @@ pub fn trim(s: &[u8]) -> &[u8]
         return &s[0..0];
     }
     &s[from..to]
+}
+
+// The part of the caller's bytes between leading and trailing spaces: all of them where no space leads and none ends, as is usual.
+pub fn trim(s: &[u8]) -> &[u8]
+    ensures { λ r. ⌜ now r ≡ trimmed (now (s .entry)) ⌝ }
+{
+    if s.len() == 0 {
+        return s;
+    }
+    if s[0] == b' ' {
+        return within_spaces(s);
+    }
+    if s[s.len() - 1] == b' ' {
+        return within_spaces(s);
+    }
+    s
 }

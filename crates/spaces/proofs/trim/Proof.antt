@@ -1,45 +1,45 @@
-use Rattle.spaces.proofs.Laws.{trim-blank, trim-part}
+use Rattle.spaces.proofs.Laws.{trim-none, trim-whole}
 use borrow.Author.Needs.{needs}
 use Rattle.spaces.proofs.trim.Statement.{statement}
 use Rattle.spaces.proofs.trim.Tie as tie
 
-leading-spaces-requires : tie.Need-leading-spaces-requires
-leading-spaces-requires c κs = search needs
-
-text-end-requires : tie.Need-text-end-requires
-text-end-requires c κs = search needs
-
-sub-result : tie.Need-sub-result
-sub-result c = search needs
-
-part-result-start : tie.Need-part-result-start
-part-result-start c = search needs
-
-part-result-end : tie.Need-part-result-end
-part-result-end c = search needs
-
 returns : tie.Need-returns
-returns c = search trim-blank
+returns c = search trim-none
 
-part-result-start-2 : tie.Need-part-result-start-2
-part-result-start-2 c = search needs
+shared-slice-read-if2 : tie.Need-shared-slice-read-if2
+shared-slice-read-if2 c = search needs
 
-part-result-end-2 : tie.Need-part-result-end-2
-part-result-end-2 c = search needs
+within-spaces-requires : tie.Need-within-spaces-requires
+within-spaces-requires c κs = search needs
 
 returns-2 : tie.Need-returns-2
-returns-2 c = search trim-part
+returns-2 c = search needs
+
+sub-if3 : tie.Need-sub-if3
+sub-if3 c = search needs
+
+shared-slice-read-if3 : tie.Need-shared-slice-read-if3
+shared-slice-read-if3 c = search needs
+
+within-spaces-requires-2 : tie.Need-within-spaces-requires-2
+within-spaces-requires-2 c κs = search needs
+
+returns-3 : tie.Need-returns-3
+returns-3 c = search needs
+
+returns-4 : tie.Need-returns-4
+returns-4 c = search trim-whole
 
 pub trim-spec : {M : Type 1} → statement M
 trim-spec =
     tie.close
     (tie.spec
-    leading-spaces-requires
-    text-end-requires
-    sub-result
-    part-result-start
-    part-result-end
     returns
-    part-result-start-2
-    part-result-end-2
-    returns-2)
+    shared-slice-read-if2
+    within-spaces-requires
+    returns-2
+    sub-if3
+    shared-slice-read-if3
+    within-spaces-requires-2
+    returns-3
+    returns-4)
