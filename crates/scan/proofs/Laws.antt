@@ -1,12 +1,14 @@
 -- Laws of numbers: for each loop a turn and each way out, and what callers use, of parts and places too.
 -- Assumes nothing.
-use Prim.Native.Nat.{ℕ, _+_, _*_, _-_, _/_, _≤_, _<_}
+use Prim.Native.Nat.{ℕ, zero, suc, _+_, _*_, _-_, _/_, _≤_, _<_}
 use native.Mathlib.Nat.{le-trans, le-refl}
 use native.Mathlib.Omega.{arith}
+use mir.Syntax.{w64}
+use mir.Val.{Fits}
 use mathlib.Core.Path.{_≡_, refl, sym, ap, _∙_}
 use mathlib.Core.Bool.{Bool, true, false, not, cond, true≢false}
 use mathlib.Core.List.{List, [], _∷_}
-use lib.ListN.{length, take, drop, getD}
+use lib.ListN.{length, take, drop, getD, length-drop}
 use lib.Dec.{ltb, leb}
 use borrow.Author.Tests.{lt-ltb, le-ltb, eq-eqb, ne-eqb, ltb-false, leb-true}
 use Rattle.part.specs.Part.{Place}
@@ -111,6 +113,9 @@ module _ (A : Number) (limit : ℕ) where
     pub digits-more : A ≡ checked limit (v * 10 + (d - 48)) (take (length t - 1) (drop 1 t))
     digits-more = rw (to-end 1 t) (h ∙ checked-digit limit t v d l e is)
 
+  pub digits-large : (t : List ℕ) (v : ℕ) → limit < v → A ≡ checked limit v t → Unreadable ≡ A
+  digits-large t v g h = sym (h ∙ large-unreadable limit v t g)
+
   pub digits-end : (t : List ℕ) (v : ℕ) → length t ≤ 0 → v ≤ limit → A ≡ checked limit v t → Value v ≡ A
   unfolding checked allDigits valueFrom
   digits-end [] v l b h = sym (rw (le-ltb limit v b) at h)
@@ -120,6 +125,43 @@ module _ (A : Number) (limit : ℕ) where
 pub digit-least : (t : List ℕ) (d : ℕ) (b : Bool) → b ≡ isDigit (getD t 0 0) → not b ≡ false → d ≡ getD t 0 0 → 48 ≤ d
 digit-least t d true f n e = digit-from d (ap isDigit e ∙ sym f)
 digit-least t d false f n e = absurd (true≢false n)
+
+-- ---- few digits
+
+-- the most that k digits say
+unfoldable pub most : ℕ → ℕ
+most zero = 0
+most (suc k) = most k * 10 + 9
+
+most-grows : (k n : ℕ) → most k ≤ most (n + k)
+unfolding most
+most-grows k zero = let e : 0 + k ≡ k = omega arith in rw e (le-refl (most k))
+most-grows k (suc n) = let e : suc n + k ≡ suc (n + k) = omega arith in rw e (omega (arith, most-grows k n))
+
+most-small : (k : ℕ) → k ≤ 9 → most k ≤ 999999999
+unfolding most
+most-small k h = let e : 9 - k + k ≡ 9 = omega arith in rw e at (most-grows k (9 - k))
+
+-- one digit more, of at most nine
+module _ (t : List ℕ) (v d : ℕ) (b : Bool) (l : 0 < length t) (m : length t ≤ 9) (f : b ≡ isDigit (getD t 0 0)) (n : not b ≡ false) (e : d ≡ getD t 0 0) where
+  digit-most : d - 48 ≤ 9
+  digit-most = go b f n
+    where
+      go : (c : Bool) → c ≡ isDigit (getD t 0 0) → not c ≡ false → d - 48 ≤ 9
+      go true f n = omega (arith, digit-to d (ap isDigit e ∙ sym f))
+      go false f n = absurd (true≢false n)
+
+  pub few-more : v ≤ most (9 - length t) → v * 10 + (d - 48) ≤ most (9 - length (take (length t - 1) (drop 1 t)))
+  unfolding most
+  few-more h =
+      let k : 9 - length (take (length t - 1) (drop 1 t)) ≡ suc (9 - length t) = rw (to-end 1 t, length-drop 1 t) (omega arith) in
+      rw k (omega (arith, digit-most))
+
+  pub few-small : v ≤ most (9 - length t) → v * 10 + (d - 48) ≤ 999999999
+  few-small h = le-trans (few-more h) (most-small (9 - length (take (length t - 1) (drop 1 t))) (omega arith))
+
+  pub few-fits : v ≤ 999999999 → Fits w64 (v * 10 + (d - 48))
+  few-fits h = record { fits = omega (arith, digit-most) }
 
 -- ---- one plus sign
 

@@ -2,6 +2,8 @@
 // every byte string of every length and refuses nothing; a number that cannot be read is an answer. Which number is said by
 // specs/Number.antt.
 ghost use mathlib.Core.Path.{_≡_};
+ghost use Prim.Native.Nat.{_≤_};
+ghost use lib.ListN.{length};
 ghost use Rattle.part.specs.Part.{Place};
 ghost use Rattle.scan.specs.Number.{isDigit, digitRun, afterPlus, digitsUpTo, numberUpTo};
 pub use part::find;
@@ -47,8 +49,32 @@ fn wide(x: u8) -> u64
     x as u64
 }
 
+// The number that at most nine digits say, at most the limit. It stays below 1,000,000,000, so it is compared with the limit once, at the end.
+fn read_few(s: &[u8], limit: u64) -> Number
+    requires { ⌜ length (now s) ≤ 9 ⌝ }
+    ensures { λ r. ⌜ r ≡ digitsUpTo limit (now (s .entry)) ⌝ }
+{
+    if s.len() == 0 {
+        return Number::Unreadable;
+    }
+    let mut t = s;
+    let mut v: u64 = 0;
+    while t.len() > 0 {
+        if !is_digit(t[0]) {
+            return Number::Unreadable;
+        }
+        let digit = wide(t[0]) - 48;
+        v = v * 10 + digit;
+        t = &t[1..];
+    }
+    if limit < v {
+        return Number::Unreadable;
+    }
+    Number::Value(v)
+}
+
 // The number that digits alone say, at most the limit. The value stays at most the limit on the way, so nothing overflows.
-pub fn read_digits(s: &[u8], limit: u64) -> Number
+fn read_many(s: &[u8], limit: u64) -> Number
     ensures { λ r. ⌜ r ≡ digitsUpTo limit (now (s .entry)) ⌝ }
 {
     if s.len() == 0 {
@@ -71,6 +97,16 @@ pub fn read_digits(s: &[u8], limit: u64) -> Number
         t = &t[1..];
     }
     Number::Value(v)
+}
+
+// The number that digits alone say, at most the limit. Nearly every number has few digits.
+pub fn read_digits(s: &[u8], limit: u64) -> Number
+    ensures { λ r. ⌜ r ≡ digitsUpTo limit (now (s .entry)) ⌝ }
+{
+    if s.len() < 10 {
+        return read_few(s, limit);
+    }
+    read_many(s, limit)
 }
 
 // The part after one plus sign, if there is one.

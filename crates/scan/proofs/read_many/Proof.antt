@@ -5,8 +5,8 @@ use lib.ListN.{length}
 use native.Mathlib.Omega.{arith}
 use Rattle.scan.proofs.Laws.{digits-none, digits-start, digits-other, digits-over, digits-past, digits-more, digits-end, digit-least}
 use Rattle.scan.specs.Number.{digitsUpTo, checked}
-use Rattle.scan.proofs.read_digits.Statement.{statement}
-use Rattle.scan.proofs.read_digits.Tie as tie
+use Rattle.scan.proofs.read_many.Statement.{statement}
+use Rattle.scan.proofs.read_many.Tie as tie
 
 abbrev Inv-loop : tie.InvT-loop
 Inv-loop s limit t₀ v₀ t v = (digitsUpTo limit s ≡ checked limit v t) × (v ≤ limit)
@@ -68,8 +68,8 @@ loop-again c = (search digits-more, omega arith)
 returns-5 : tie.Need-returns-5 Inv-loop μ-loop
 returns-5 c = search digits-end
 
-pub read-digits-spec : {M : Type 1} → statement M
-read-digits-spec =
+pub read-many-spec : {M : Type 1} → statement M
+read-many-spec =
     tie.close
     (tie.spec
     Inv-loop
