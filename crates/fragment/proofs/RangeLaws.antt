@@ -1,6 +1,7 @@
 -- Laws of the writers of whole stretches of carbons: what each turn writes, and that a carbon that is not busy carries nothing.
 -- Assumes nothing.
-use Prim.Native.Nat.{ℕ, suc, _+_, _-_, _^_, _≤_, _<_}
+use Prim.Native.Nat.{ℕ, zero, suc, _+_, _-_, _^_, _≤_, _<_}
+use native.Mathlib.Nat.{add-zero, suc-add}
 use native.Mathlib.Numerals.{add-one}
 use native.Mathlib.Omega.{arith}
 use mathlib.Core.Path.{_≡_, refl, sym, ap, _∙_}
@@ -20,6 +21,7 @@ use Rattle.chain.specs.Drawing.{branches, ringPairs}
 use Rattle.branches.specs.Text.{sitting, groupsText, carbonylOf, carbonylText}
 use Rattle.labels.specs.Text.{labelsText}
 use Rattle.backbone.specs.Text.{carbonText, bridgeText}
+use Rattle.runs.specs.Links.{linkText, linksText, Run}
 use Rattle.fragment.specs.Text.{featuresText, carbonOf, carbonsText}
 use Rattle.carbons.specs.ByCarbon.{groupOn, ringOn, carbonylOn, busyAt, Busy}
 use Rattle.carbons.proofs.Left.{Left, left-less, left-same, left-none, written-three}
@@ -110,6 +112,26 @@ carbons-none : (acyl : Bool) (ks : List ℕ) (gs : List Mod) (rs : List Closed) 
 unfolding carbonsText valuesFrom chainPieces show
 carbons-none acyl ks gs rs l k = refl
 
+-- a run of carbons that carry nothing, and the carbons after it
+carbons-run : (acyl : Bool) (ks : List ℕ) (gs : List Mod) (rs : List Closed) (l k m n : ℕ) → ((j : ℕ) → k ≤ j → j ≤ k + m → featuresText acyl gs rs l j ≡ [])
+    → carbonsText acyl ks gs rs l k (suc (m + n))
+    ≡ carbonText (getD ks (k - 1) 0) ++ (linksText ks (suc k) m ++ (bridgeText (getD ks (k + m) 0) ++ carbonsText acyl ks gs rs l (suc (k + m)) n))
+unfolding linksText linkText
+carbons-run acyl ks gs rs l k zero n f =
+    let y : zero + n ≡ n = omega arith in
+    rw (y, carbons-next acyl ks gs rs l k n, f k (omega arith) (omega arith), add-zero)
+carbons-run acyl ks gs rs l k (suc m) n f =
+    let y : k + suc m ≡ suc k + m = omega arith in
+    let x : suc k - 1 ≡ k = omega arith in
+    rw (
+      carbons-next acyl ks gs rs l k (suc m + n),
+      f k (omega arith) (omega arith),
+      suc-add m n,
+      carbons-run acyl ks gs rs l (suc k) m n (λ j a b. f j (omega arith) (omega arith)),
+      y,
+    )
+    (simp (append-assoc, x))
+
 -- a turn of the loop through the carbons, and its end
 module _ {xs ys ts : List ℕ} {at p : ℕ} (acyl : Bool) (ks : List ℕ) (gs : List Mod) (rs : List Closed) (l k last : ℕ) (m : length xs < 2 ^ 64)
     (v : Left xs at ts ys p (carbonsText acyl ks gs rs l k (suc last - k))) where
@@ -122,11 +144,15 @@ module _ {xs ys ts : List ℕ} {at p : ℕ} (acyl : Bool) (ks : List ℕ) (gs : 
       → Left xs at ts zs q (carbonsText acyl ks gs rs l (k + 1) (suc last - (k + 1)))
   carbon-busy h w = left-less _ m (turned h) (simp append-assoc) w
 
-  pub carbon-bare : {zs bs : List ℕ} {q : ℕ} → Busy acyl gs rs bs → last ≤ 255 → k ≤ last → getD bs k 0 ≡ 0
-      → Written ys p (carbonText (getD ks (k - 1) 0) ++ bridgeText (getD ks k 0)) zs q → Left xs at ts zs q (carbonsText acyl ks gs rs l (k + 1) (suc last - (k + 1)))
-  carbon-bare b f h e w =
-      let z : featuresText acyl gs rs l k ≡ [] = empty-features acyl gs rs l k (zero-false (busyAt acyl gs rs k) (sym (b .at k (omega arith)) ∙ e)) in
-      left-less _ m (turned h) (rw z (simp append-assoc)) w
+  pub carbon-run : {zs bs : List ℕ} {q c : ℕ} → Busy acyl gs rs bs → last ≤ 255 → Run ks bs k last ys p zs q c
+      → Left xs at ts zs q (carbonsText acyl ks gs rs l c (suc last - c))
+  carbon-run {c = c} b f r =
+      let z : suc last - k ≡ suc (c - (k + 1) + (suc last - c)) = omega (arith, r .low, r .high) in
+      let y : k + (c - (k + 1)) ≡ c - 1 = omega (arith, r .low) in
+      let x : suc (c - 1) ≡ c = omega (arith, r .low) in
+      let e : (j : ℕ) → k ≤ j → j ≤ k + (c - (k + 1)) → featuresText acyl gs rs l j ≡ []
+      = λ j a d. empty-features acyl gs rs l j (zero-false (busyAt acyl gs rs j) (sym (b .at j (omega (arith, r .low, r .high))) ∙ r .free j a (omega (arith, r .low)))) in
+      left-less _ m v (rw z (carbons-run acyl ks gs rs l k (c - (k + 1)) (suc last - c) e ∙ (rw (y, x, add-one k) (simp append-assoc)))) (r .text)
 
   pub carbons-end : last < k → Written xs at ts ys p
   carbons-end h =

@@ -1,5 +1,5 @@
-// The text of a chain, written at a place of a lent slice, carbon by carbon: its carbons, labels and groups by the crates below. The groups
-// and rings are gone through only at carbons that carry one. On an empty slice the same functions measure.
+// The text of a chain, written at a place of a lent slice: its carbons, labels and groups by the crates below. The groups and rings are gone
+// through only at carbons that carry one, and the carbons between them are written in runs. On an empty slice the same functions measure.
 use drawable::Shape;
 ghost use mathlib.Core.Path.{_≡_};
 ghost use mathlib.Core.List.{_++_};
@@ -65,7 +65,8 @@ fn put_busy<'a>(
     backbone::put_bridge(out, q, bond)
 }
 
-// The carbons from the first drawn one to the last literal one: the bonds by carbon and whether a carbon is busy are lent.
+// The carbons from the first drawn one to the last literal one, those that carry nothing in runs: the bonds by carbon and whether a carbon is
+// busy are lent.
 fn assemble_range<'a>(
     out: &mut [u8],
     at: usize,
@@ -84,14 +85,13 @@ fn assemble_range<'a>(
     ensures { λ r. ⌜ Written (now (out .entry)) at (carbonsText acyl (now (bonds .entry)) (groupsIn «group_count» (now (groups .entry))) (ringsIn «ring_count» (now (rings .entry))) label first (suc last - first)) (now (out .exit)) r ⌝ }
 {
     let mut p = at;
-    let mut k = first;
-    while k <= last {
-        let i = k as usize;
-        let before = bonds[i - 1];
-        let bond = bonds[i];
-        if busy[i] == 0 {
-            p = backbone::put_bare(out, p, before, bond);
-            k += 1;
+    let mut k = first as usize;
+    let end = last as usize;
+    while k <= end {
+        if busy[k] == 0 {
+            let r = runs::put_run(out, p, bonds, busy, k, end);
+            p = r.at;
+            k = r.carbon;
             continue;
         }
         p = put_busy(
@@ -102,10 +102,10 @@ fn assemble_range<'a>(
             group_count,
             rings,
             ring_count,
-            k,
+            k as u16,
             label,
-            before,
-            bond,
+            bonds[k - 1],
+            bonds[k],
         );
         k += 1;
     }

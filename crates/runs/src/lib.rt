@@ -1,0 +1,188 @@
+// Runs of carbons that carry nothing, written at a place of a lent slice: four carbons at a time, and without a look at the end of the slice
+// for each byte where there is room for all of them.
+ghost use mathlib.Core.Path.{_≡_};
+ghost use mathlib.Core.List.{[], _∷_, _++_};
+ghost use Prim.Native.Nat.{_+_, _-_, _*_, _≤_, _<_, min};
+ghost use lib.ListN.{length, getD};
+ghost use Rattle.emit.specs.Text.{Written};
+ghost use Rattle.runs.specs.Links.{linkText, linksText, Links, Run};
+
+// The place after what is written, and the first carbon that is not.
+pub struct Reached {
+    pub at: usize,
+    pub carbon: usize,
+}
+
+fn wide(x: u8) -> u32
+    ensures { λ r. ⌜ (r ≡ x) × (r < 256) ⌝ }
+{
+    x as u32
+}
+
+// Four bytes as one number, which is 0 exactly if each of them is: one load and one test in place of four.
+fn word(xs: &[u8], i: usize) -> u32
+    requires { ⌜ i + 3 < length (now xs) ⌝ }
+    ensures { λ r. ⌜ r ≡ getD (now (xs .entry)) i 0 + getD (now (xs .entry)) (i + 1) 0 * 256 + getD (now (xs .entry)) (i + 2) 0 * 65536 + getD (now (xs .entry)) (i + 3) 0 * 16777216 ⌝ }
+{
+    wide(xs[i]) + wide(xs[i + 1]) * 256 + wide(xs[i + 2]) * 65536 + wide(xs[i + 3]) * 16777216
+}
+
+// The place after a bond's own byte: an empty bond has none.
+fn past_bond(at: usize, bond: u8) -> usize
+    requires { ⌜ at < 18446744073709551615 ⌝ }
+    ensures { λ r. ⌜ r ≡ at + min bond 1 ⌝ }
+{
+    if bond == 0 { at } else { at + 1 }
+}
+
+// A bond and the carbon after it. The C is stored over an empty bond, so nothing depends on a branch.
+fn put_link(out: &mut [u8], at: usize, bond: u8) -> usize
+    requires { ⌜ at + 2 ≤ length (now out) ⌝ }
+    ensures { λ r. ⌜ Written (now (out .entry)) at (linkText bond) (now (out .exit)) r ⌝ }
+{
+    out[at] = bond;
+    let p = past_bond(at, bond);
+    out[p] = b'C';
+    p + 1
+}
+
+fn put_two(out: &mut [u8], at: usize, a: u8, b: u8) -> usize
+    requires { ⌜ at + 4 ≤ length (now out) ⌝ }
+    ensures { λ r. ⌜ Written (now (out .entry)) at (linkText a ++ linkText b) (now (out .exit)) r ⌝ }
+{
+    let p = put_link(out, at, a);
+    put_link(out, p, b)
+}
+
+// Four carbons between empty bonds.
+fn put_plain(out: &mut [u8], at: usize) -> usize
+    requires { ⌜ at + 4 ≤ length (now out) ⌝ }
+    ensures { λ r. ⌜ Written (now (out .entry)) at (67 ∷ 67 ∷ 67 ∷ 67 ∷ []) (now (out .exit)) r ⌝ }
+{
+    out[at] = b'C';
+    out[at + 1] = b'C';
+    out[at + 2] = b'C';
+    out[at + 3] = b'C';
+    at + 4
+}
+
+// The four carbons from C k on, each after the bond before it.
+fn put_four<'a>(out: &mut [u8], at: usize, bonds: &'a [u8], k: usize) -> usize
+    requires { ⌜ (at + 8 ≤ length (now out)) × (1 ≤ k) × (k + 2 < length (now bonds)) ⌝ }
+    ensures { λ r. ⌜ Written (now (out .entry)) at (linksText (now (bonds .entry)) k 4) (now (out .exit)) r ⌝ }
+{
+    let i = k - 1;
+    if word(bonds, i) == 0 {
+        return put_plain(out, at);
+    }
+    let p = put_two(out, at, bonds[i], bonds[i + 1]);
+    put_two(out, p, bonds[i + 2], bonds[i + 3])
+}
+
+// The carbons from C k on that carry nothing, as long as there are four of them.
+fn put_fours<'a>(
+    out: &mut [u8],
+    at: usize,
+    bonds: &'a [u8],
+    busy: &'a [u8],
+    k: usize,
+    last: usize,
+) -> Reached
+    requires { ⌜ (1 ≤ k) × (k ≤ last + 1) × (last ≤ 255) × (length (now bonds) ≡ 256) × (length (now busy) ≡ 256) × (at + (last + 1 - k) * 2 ≤ length (now out)) ⌝ }
+    ensures { λ r. ⌜ Links (now (bonds .entry)) (now (busy .entry)) k last (now (out .entry)) at (now (out .exit)) (r .at) (r .carbon) ⌝ }
+{
+    let mut p = at;
+    let mut j = k;
+    while j + 3 <= last {
+        if word(busy, j) != 0 {
+            return Reached { at: p, carbon: j };
+        }
+        p = put_four(out, p, bonds, j);
+        j += 4;
+    }
+    Reached { at: p, carbon: j }
+}
+
+// The carbons from C k on that carry nothing, one by one.
+fn put_ones<'a>(
+    out: &mut [u8],
+    at: usize,
+    bonds: &'a [u8],
+    busy: &'a [u8],
+    k: usize,
+    last: usize,
+) -> Reached
+    requires { ⌜ (1 ≤ k) × (k ≤ last + 1) × (last ≤ 255) × (length (now bonds) ≡ 256) × (length (now busy) ≡ 256) × (at + (last + 1 - k) * 2 ≤ length (now out)) ⌝ }
+    ensures { λ r. ⌜ Links (now (bonds .entry)) (now (busy .entry)) k last (now (out .entry)) at (now (out .exit)) (r .at) (r .carbon) ⌝ }
+{
+    let mut p = at;
+    let mut j = k;
+    while j <= last {
+        if busy[j] != 0 {
+            return Reached { at: p, carbon: j };
+        }
+        p = put_link(out, p, bonds[j - 1]);
+        j += 1;
+    }
+    Reached { at: p, carbon: j }
+}
+
+// The carbons from C k on that carry nothing, where there is room for all carbons up to the last with a bond before each.
+fn put_free<'a>(
+    out: &mut [u8],
+    at: usize,
+    bonds: &'a [u8],
+    busy: &'a [u8],
+    k: usize,
+    last: usize,
+) -> Reached
+    requires { ⌜ (1 ≤ k) × (k ≤ last + 1) × (last ≤ 255) × (length (now bonds) ≡ 256) × (length (now busy) ≡ 256) × (at + (last + 1 - k) * 2 ≤ length (now out)) ⌝ }
+    ensures { λ r. ⌜ Links (now (bonds .entry)) (now (busy .entry)) k last (now (out .entry)) at (now (out .exit)) (r .at) (r .carbon) ⌝ }
+{
+    let r = put_fours(out, at, bonds, busy, k, last);
+    put_ones(out, r.at, bonds, busy, r.carbon, last)
+}
+
+// The same; none of them where there may be no room.
+fn put_links<'a>(
+    out: &mut [u8],
+    at: usize,
+    bonds: &'a [u8],
+    busy: &'a [u8],
+    k: usize,
+    last: usize,
+) -> Reached
+    requires { ⌜ (1 ≤ k) × (k ≤ last + 1) × (last ≤ 255) × (length (now bonds) ≡ 256) × (length (now busy) ≡ 256) ⌝ }
+    ensures { λ r. ⌜ Links (now (bonds .entry)) (now (busy .entry)) k last (now (out .entry)) at (now (out .exit)) (r .at) (r .carbon) ⌝ }
+{
+    if at < out.len() {
+        if (last + 1 - k) * 2 <= out.len() - at {
+            return put_free(out, at, bonds, busy, k, last);
+        }
+        return Reached { at, carbon: k };
+    }
+    Reached { at, carbon: k }
+}
+
+// C k, which carries nothing, and carbons after it that carry nothing either: each with the bond before it, and the O of an epoxide after the
+// last of them.
+pub fn put_run<'a>(
+    out: &mut [u8],
+    at: usize,
+    bonds: &'a [u8],
+    busy: &'a [u8],
+    k: usize,
+    last: usize,
+) -> Reached
+    requires { ⌜ (1 ≤ k) × (k ≤ last) × (last ≤ 255) × (length (now bonds) ≡ 256) × (length (now busy) ≡ 256) × (getD (now busy) k 0 ≡ 0) ⌝ }
+    ensures { λ r. ⌜ Run (now (bonds .entry)) (now (busy .entry)) k last (now (out .entry)) at (now (out .exit)) (r .at) (r .carbon) ⌝ }
+{
+    let p = backbone::put_carbon(out, at, bonds[k - 1]);
+    let r = put_links(out, p, bonds, busy, k + 1, last);
+    let next = r.carbon;
+    let q = backbone::put_bridge(out, r.at, bonds[next - 1]);
+    Reached {
+        at: q,
+        carbon: next,
+    }
+}
