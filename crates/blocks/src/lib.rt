@@ -1,8 +1,7 @@
 // What a line has after its text, from what is noted of its chains: the blocks of labels, marks and site lists, and the trailer. The marks
 // and sums of all chains are those of `chain_marks`, the site lists those of `chain_sites`.
 use chain_marks::Next;
-use placed::MAX_CHAINS;
-use placed::Placed;
+use placed::NOTE_ROOM;
 use shown::MAX_SITES;
 use shown::Site;
 ghost use mathlib.Core.Path.{_≡_};
@@ -14,6 +13,7 @@ ghost use Rattle.reading.specs.Show.{labelBlocks, swapTexts, blockTexts, traile
 ghost use Rattle.template.specs.Request.{labels};
 ghost use Rattle.shown.specs.Chained.{shownParts};
 ghost use Rattle.shown.specs.Notes.{labelsOf, Digits};
+ghost use Rattle.placed.specs.Notes.{chainsIn};
 ghost use Rattle.chain_marks.specs.Put.{startAt, PutBlocks, PutParts};
 ghost use Rattle.chain_marks.specs.Marks.{marksIn, sumsIn};
 ghost use Rattle.chain_sites.specs.Sites.{siteListsIn};
@@ -66,16 +66,16 @@ fn put_block_texts(
     n: usize,
     numbers: &[u16],
     rows: &[u8],
-    placed: [Placed; MAX_CHAINS],
+    notes: &[u32; NOTE_ROOM],
     count: usize,
 ) -> Next
     requires { ⌜ n ≤ 4 ⌝ }
     requires { ⌜ Digits (take n sites) ⌝ }
-    ensures { λ r. ⌜ PutBlocks (blockTexts (labelsOf (take n sites)) (marksIn (take count placed)) (siteListsIn (take count placed) (now (numbers .entry)) (now (rows .entry)))) (now (out .entry)) (startAt at) (now (out .exit)) r ⌝ }
+    ensures { λ r. ⌜ PutBlocks (blockTexts (labelsOf (take n sites)) (marksIn (take count (chainsIn (now (notes .entry))))) (siteListsIn (take count (chainsIn (now (notes .entry)))) (now (numbers .entry)) (now (rows .entry)))) (now (out .entry)) (startAt at) (now (out .exit)) r ⌝ }
 {
     let a = put_labels(out, at, sites, n);
-    let b = chain_marks::put_all_marks(out, a, placed, count);
-    chain_sites::put_all_sites(out, b, numbers, rows, placed, count)
+    let b = chain_marks::put_all_marks(out, a, notes, count);
+    chain_sites::put_all_sites(out, b, numbers, rows, notes, count)
 }
 
 // The blocks and the bar after them.
@@ -86,14 +86,14 @@ fn put_blocks(
     n: usize,
     numbers: &[u16],
     rows: &[u8],
-    placed: [Placed; MAX_CHAINS],
+    notes: &[u32; NOTE_ROOM],
     count: usize,
 ) -> usize
     requires { ⌜ n ≤ 4 ⌝ }
     requires { ⌜ Digits (take n sites) ⌝ }
-    ensures { λ r. ⌜ Written (now (out .entry)) at (barred (blockTexts (labelsOf (take n sites)) (marksIn (take count placed)) (siteListsIn (take count placed) (now (numbers .entry)) (now (rows .entry))))) (now (out .exit)) r ⌝ }
+    ensures { λ r. ⌜ Written (now (out .entry)) at (barred (blockTexts (labelsOf (take n sites)) (marksIn (take count (chainsIn (now (notes .entry))))) (siteListsIn (take count (chainsIn (now (notes .entry)))) (now (numbers .entry)) (now (rows .entry))))) (now (out .exit)) r ⌝ }
 {
-    let b = put_block_texts(out, at, sites, n, numbers, rows, placed, count);
+    let b = put_block_texts(out, at, sites, n, numbers, rows, notes, count);
     shown::put_blocks_end(out, b.at, !b.first)
 }
 
@@ -103,15 +103,15 @@ fn put_trailer(
     at: usize,
     sites: [Site; MAX_SITES],
     n: usize,
-    placed: [Placed; MAX_CHAINS],
+    notes: &[u32; NOTE_ROOM],
     count: usize,
 ) -> usize
     requires { ⌜ n ≤ 4 ⌝ }
     requires { ⌜ Digits (take n sites) ⌝ }
-    ensures { λ r. ⌜ Written (now (out .entry)) at (shownParts true (trailerTexts (labelsOf (take n sites)) (sumsIn (take count placed)))) (now (out .exit)) r ⌝ }
+    ensures { λ r. ⌜ Written (now (out .entry)) at (shownParts true (trailerTexts (labelsOf (take n sites)) (sumsIn (take count (chainsIn (now (notes .entry))))))) (now (out .exit)) r ⌝ }
 {
     let a = put_swaps(out, at, sites, n);
-    let b = chain_marks::put_all_sums(out, a, placed, count);
+    let b = chain_marks::put_all_sums(out, a, notes, count);
     b.at
 }
 
@@ -124,14 +124,14 @@ pub fn put_notes(
     sited: usize,
     numbers: &[u16],
     rows: &[u8],
-    placed: [Placed; MAX_CHAINS],
+    notes: &[u32; NOTE_ROOM],
     count: usize,
 ) -> usize
     requires { ⌜ sited ≤ 4 ⌝ }
     requires { ⌜ Digits (take sited sites) ⌝ }
-    ensures { λ r. ⌜ Written (now (out .entry)) at (notesText (labels swap (labelsOf (take sited sites))) (marksIn (take count placed)) (siteListsIn (take count placed) (now (numbers .entry)) (now (rows .entry))) (sumsIn (take count placed))) (now (out .exit)) r ⌝ }
+    ensures { λ r. ⌜ Written (now (out .entry)) at (notesText (labels swap (labelsOf (take sited sites))) (marksIn (take count (chainsIn (now (notes .entry))))) (siteListsIn (take count (chainsIn (now (notes .entry)))) (now (numbers .entry)) (now (rows .entry))) (sumsIn (take count (chainsIn (now (notes .entry)))))) (now (out .exit)) r ⌝ }
 {
     let n = labelled(swap, sited);
-    let next = put_blocks(out, at, sites, n, numbers, rows, placed, count);
-    put_trailer(out, next, sites, n, placed, count)
+    let next = put_blocks(out, at, sites, n, numbers, rows, notes, count);
+    put_trailer(out, next, sites, n, notes, count)
 }

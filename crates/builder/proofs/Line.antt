@@ -18,6 +18,7 @@ use Rattle.reading.proofs.PartingLaws.{and-left, and-right}
 use Rattle.shown.specs.declared.Site.{Site}
 use Rattle.shown.specs.Notes.{labelsOf, Digits}
 use Rattle.template.specs.Request.{labels}
+use Rattle.placed.specs.Notes.{chainsIn}
 use Rattle.listing.specs.declared.Sites.{Sites}
 use Rattle.blocks.specs.Marks.{marksIn, sumsIn}
 use Rattle.blocks.specs.Sites.{siteListsIn}
@@ -67,8 +68,8 @@ module _ (s : Sites) (n i : ℕ) (e : n ≡ min (s .count) 4) (k : length (s .it
 
 -- ---- what follows the text
 
-pub finished : {swap : Bool} {s : Sites} {n : ℕ} {numbers rows xs ys : List ℕ} {b : Builder} {next : ℕ} → Writable s n
-    → Written xs (b .at) (notesText (labels swap (labelsOf (take n (s .items)))) (marksIn (take (b .count) (b .placed))) (siteListsIn (take (b .count) (b .placed)) numbers rows) (sumsIn (take (b .count) (b .placed)))) ys next
-    → Finished swap s numbers rows xs b ys (record { at = next; atoms = b .atoms; variables = b .variables; labels = b .labels; used = b .used; rows = b .rows; count = b .count; placed = b .placed })
+pub finished : {swap : Bool} {s : Sites} {n : ℕ} {numbers rows notes xs ys : List ℕ} {b : Builder} {next : ℕ} → Writable s n
+    → Written xs (b .at) (notesText (labels swap (labelsOf (take n (s .items)))) (marksIn (take (b .count) (chainsIn notes))) (siteListsIn (take (b .count) (chainsIn notes)) numbers rows) (sumsIn (take (b .count) (chainsIn notes)))) ys next
+    → Finished swap s numbers rows notes xs b ys (record { at = next; atoms = b .atoms; variables = b .variables; labels = b .labels; used = b .used; rows = b .rows; count = b .count })
 unfolding placedIn notesAfter
-finished w u = record { size = written-length u; text = λ f. rw (w .all f) at u; used = refl; count = refl; places = refl }
+finished w u = record { size = written-length u; text = λ f. rw (w .all f) at u; used = refl; count = refl }

@@ -6,7 +6,7 @@ use mathlib.Core.Path.{_≡_, refl, sym, ap, _∙_}
 use mathlib.Core.Option.{Option, none, some}
 use mathlib.Core.List.{List, [], _∷_, _++_, append-nil, map}
 use lib.ListN.{length, set, length-append}
-use lib.Seq.{take-all}
+use lib.Seq.{take-all, set-out}
 use borrow.Author.Tests.{eq-eqb, ne-eqb}
 use Rattle.emit.specs.Text.{Written}
 use Rattle.emit.proofs.Laws.{written-nil, written-append, written-length}
@@ -32,11 +32,13 @@ use Rattle.builder.specs.declared.Labels.{Labels}
 use Rattle.placed.specs.declared.Placed.{Placed}
 use Rattle.builder.specs.declared.Builder.{Builder}
 use Rattle.placed.specs.Fragment.{Carries, Stands, siteOr, noted, indexList, rowsOf, gathered}
+use Rattle.placed.specs.Notes.{chainsIn}
 use Rattle.placed.proofs.Laws.{index-count}
+use Rattle.placed.proofs.Notes.{length-chains}
 use Rattle.strand.specs.declared.Strand.{Strand}
 use Rattle.strand.specs.declared.Figures.{Figures}
-use Rattle.strand.specs.Strand.{indexesOf, Rooms, rooms, StrandOf, FiguresOf}
-use Rattle.builder.specs.Build.{plus, inLabels, variablesFor, placedIn, Counts, Fits, FixedPushed, placedOf, Settled, FitsChain, PushingChain, FragmentPushed, ChainPushed, FitsElement, Pushed, SlotPushed, BarePushed}
+use Rattle.strand.specs.Strand.{indexesOf, StrandOf, FiguresOf}
+use Rattle.builder.specs.Build.{Rooms, rooms, laidIn, plus, inLabels, variablesFor, placedIn, Counts, Fits, FixedPushed, placedOf, Settled, FitsChain, PushingChain, FragmentPushed, ChainPushed, FitsElement, Pushed, SlotPushed, BarePushed}
 
 -- ---- counts
 
@@ -49,36 +51,36 @@ variables-some n h = rw (ne-eqb n 0 h) (omega arith)
 -- ---- a text of the template's own
 
 pub fixed-is : {ts xs ys : List ℕ} {k next : ℕ} {b : Builder} {ns : Atoms} → b .used < 2 ^ 64 → b .rows < 2 ^ 64 → Written xs (b .at) ts ys next → ns .0 ≡ plus (b .atoms .0) k
-    → FixedPushed ts k xs b ys (record { at = next; atoms = ns; variables = b .variables; labels = b .labels; used = b .used; rows = b .rows; count = b .count; placed = b .placed })
-unfolding placedIn
+    → FixedPushed ts k xs b ys (record { at = next; atoms = ns; variables = b .variables; labels = b .labels; used = b .used; rows = b .rows; count = b .count })
 fixed-is g h w e =
-    record { text = w; atoms = e; variables = refl; labels = refl; used = record { is = refl; small = g }; rows = record { is = refl; small = h }; placed = refl }
+    record { text = w; atoms = e; variables = refl; labels = refl; used = record { is = refl; small = g }; rows = record { is = refl; small = h }; count = refl }
 
 -- ---- the places after a chain, its counts, and where it stands
 
-module _ {x : Strand} {f : Figures} {vf : ℕ} {ns : Atoms} {vs : Variables} {ls : Labels} (b : Builder) (p : Placed) (ea : ns .0 ≡ plus (b .atoms .0) (x .end))
-    (ef : vf ≡ variablesFor (f .unlocated)) (ev : vs .0 ≡ plus (b .variables .0) vf) (el : ls .0 ≡ plus (b .labels .0) (f .rings)) (e : length (b .placed) ≡ 4) where
+module _ {x : Strand} {f : Figures} {vf : ℕ} {ats : Atoms} {vs : Variables} {ls : Labels} {ns ms : List ℕ} (b : Builder) (p : Placed) (kept : chainsIn ms ≡ set (chainsIn ns) (b .count) p)
+    (ea : ats .0 ≡ plus (b .atoms .0) (x .end)) (ef : vf ≡ variablesFor (f .unlocated)) (ev : vs .0 ≡ plus (b .variables .0) vf) (el : ls .0 ≡ plus (b .labels .0) (f .rings)) where
   pub settled-more : b .count < 4
-      → Settled p x f b (record { at = x .at; atoms = ns; variables = vs; labels = ls; used = x .used; rows = x .rows; count = b .count + 1; placed = set (b .placed) (b .count) p })
+      → Settled p x f ns b ms (record { at = x .at; atoms = ats; variables = vs; labels = ls; used = x .used; rows = x .rows; count = b .count + 1 })
   unfolding placedIn
   settled-more h =
-      record { at = refl; used = refl; rows = refl; atoms = ea; variables = ev ∙ ap (λ (n : ℕ). plus (b .variables .0) n) ef; labels = el; placed = held-more (b .placed) (b .count) 4 e p h }
+      record { at = refl; used = refl; rows = refl; atoms = ea; variables = ev ∙ ap (λ (n : ℕ). plus (b .variables .0) n) ef; labels = el; placed = rw kept (held-more (chainsIn ns) (b .count) 4 (length-chains ns) p h) }
 
   pub settled-full : 4 ≤ b .count
-      → Settled p x f b (record { at = x .at; atoms = ns; variables = vs; labels = ls; used = x .used; rows = x .rows; count = b .count; placed = b .placed })
+      → Settled p x f ns b ms (record { at = x .at; atoms = ats; variables = vs; labels = ls; used = x .used; rows = x .rows; count = b .count })
   unfolding placedIn
   settled-full h =
-      record { at = refl; used = refl; rows = refl; atoms = ea; variables = ev ∙ ap (λ (n : ℕ). plus (b .variables .0) n) ef; labels = el; placed = held-full (b .placed) (b .count) 4 e p h }
+      let same : set (chainsIn ns) (b .count) p ≡ chainsIn ns = set-out (chainsIn ns) (b .count) p (rw (length-chains ns) h) in
+      record { at = refl; used = refl; rows = refl; atoms = ea; variables = ev ∙ ap (λ (n : ℕ). plus (b .variables .0) n) ef; labels = el; placed = rw (kept, same) (held-full (chainsIn ns) (b .count) 4 (length-chains ns) p h) }
 
 -- ---- a chain that has carbons
 
 module _ {x : Drawn} {sn s m : ℕ} {r : Role} {xs ys : Rooms} {b q : Builder} {y : Strand} {f : Figures} where
-  pub fragment-pushed : m ≡ inLabels (b .labels .0) → StrandOf r (b .atoms .0) m x xs (b .at) (b .used) (b .rows) ys y → FiguresOf x f
-      → Settled (placedOf b sn r s y f) y f b q → FragmentPushed x sn r s xs b ys q
+  pub fragment-pushed : m ≡ inLabels (b .labels .0) → StrandOf r (b .atoms .0) m x (laidIn xs) (b .at) (b .used) (b .rows) (laidIn ys) y → FiguresOf x f
+      → Settled (placedOf b sn r s y f) y f (xs .notes) b (ys .notes) q → FragmentPushed x sn r s xs b ys q
   unfolding noted indexList rowsOf gathered variables templatePieces
-  fragment-pushed em w g u = record { sizes = w .sizes; pushed = pushed }
+  fragment-pushed em w g u = record { sizes = record { text = w .sizes .text; index = w .sizes .index; rows = w .sizes .rows }; pushed = pushed }
     where
-      pushed : (d : Chain) (k : Option ℕ) (n v l : ℕ) (ps : List Placed) → s ≡ siteOr n k → Carries r d x → Counts b n v l ps
+      pushed : (d : Chain) (k : Option ℕ) (n v l : ℕ) (ps : List Placed) → s ≡ siteOr n k → Carries r d x → Counts b (xs .notes) n v l ps
           → FitsChain sn r k (some d) n v l ps → PushingChain sn r k (some d) n v l ps xs b ys q
       pushed d k n v l ps es a c fit =
           let here : request.Placed = record { sn = sn; role = r; chain = d; first = n; site = k; variable = v } in
@@ -105,13 +107,13 @@ module _ {x : Drawn} {sn s m : ℕ} {r : Role} {xs ys : Rooms} {b q : Builder} {
 -- ---- a chain of the request
 
 -- none is pushed where it has no carbons
-pub chain-none : (x : Drawn) (sn : ℕ) (r : Role) (s : ℕ) (xs is rs : List ℕ) (b : Builder) → b .at < 2 ^ 64 → b .used < 2 ^ 64 → b .rows < 2 ^ 64 → x .carbon ≡ 0
-    → ChainPushed x sn r s (rooms xs is rs) b (rooms xs is rs) b
+pub chain-none : (x : Drawn) (sn : ℕ) (r : Role) (s : ℕ) (xs is rs ns : List ℕ) (b : Builder) → b .at < 2 ^ 64 → b .used < 2 ^ 64 → b .rows < 2 ^ 64 → x .carbon ≡ 0
+    → ChainPushed x sn r s (rooms xs is rs ns) b (rooms xs is rs ns) b
 unfolding gathered templatePieces show
-chain-none x sn r s xs is rs b g h j e = record { sizes = record { text = refl; index = refl; rows = refl }; pushed = pushed }
+chain-none x sn r s xs is rs ns b g h j e = record { sizes = record { text = refl; index = refl; rows = refl }; pushed = pushed }
   where
-    pushed : (o : Option Chain) (k : Option ℕ) (n v l : ℕ) (ps : List Placed) → s ≡ siteOr n k → Stands r o x → Counts b n v l ps
-        → FitsChain sn r k o n v l ps → PushingChain sn r k o n v l ps (rooms xs is rs) b (rooms xs is rs) b
+    pushed : (o : Option Chain) (k : Option ℕ) (n v l : ℕ) (ps : List Placed) → s ≡ siteOr n k → Stands r o x → Counts b ns n v l ps
+        → FitsChain sn r k o n v l ps → PushingChain sn r k o n v l ps (rooms xs is rs ns) b (rooms xs is rs ns) b
     pushed none k n v l ps es a c f =
         record {
           text = written-nil xs (b .at) g;
@@ -124,30 +126,34 @@ chain-none x sn r s xs is rs b g h j e = record { sizes = record { text = refl; 
 pub chain-some : {x : Drawn} {sn s : ℕ} {r : Role} {xs ys : Rooms} {b q : Builder} → (x .carbon ≡ 0 → ⊥) → FragmentPushed x sn r s xs b ys q → ChainPushed x sn r s xs b ys q
 chain-some {x} {sn} {s} {r} {xs} {ys} {b} {q} h w = record { sizes = w .sizes; pushed = pushed }
   where
-    pushed : (o : Option Chain) (k : Option ℕ) (n v l : ℕ) (ps : List Placed) → s ≡ siteOr n k → Stands r o x → Counts b n v l ps
+    pushed : (o : Option Chain) (k : Option ℕ) (n v l : ℕ) (ps : List Placed) → s ≡ siteOr n k → Stands r o x → Counts b (xs .notes) n v l ps
         → FitsChain sn r k o n v l ps → PushingChain sn r k o n v l ps xs b ys q
     pushed none k n v l ps es a c f = absurd (h a)
     pushed (some d) k n v l ps es a c f = w .pushed d k n v l ps es a c f
 
 -- ---- a slot
 
+pub placed-kept : (ns : List ℕ) (p b : Builder) → p .count ≡ b .count → placedIn p ns ≡ placedIn b ns
+unfolding placedIn
+placed-kept ns p b e = rw e
+
 after-le : (r : Role) (o : Option Chain) (m : ℕ) → m ≤ atomsAfter r m o
 after-le r none m = omega arith
 after-le r (some d) m = omega (arith, atoms-end-shift r d m)
 
-pub slot-pushed : {x : Drawn} {sn s : ℕ} {xs ys zs is js rs ss : List ℕ} {b p q : Builder} → length xs < 2 ^ 64 → FixedPushed (ascii "O") 1 xs b ys p
-    → s ≡ b .atoms .0 → ChainPushed x sn Slot s (rooms ys is rs) p (rooms zs js ss) q → SlotPushed x sn (rooms xs is rs) b (rooms zs js ss) q
+pub slot-pushed : {x : Drawn} {sn s : ℕ} {xs ys zs is js rs ss ns ms : List ℕ} {b p q : Builder} → length xs < 2 ^ 64 → FixedPushed (ascii "O") 1 xs b ys p
+    → s ≡ b .atoms .0 → ChainPushed x sn Slot s (rooms ys is rs ns) p (rooms zs js ss ms) q → SlotPushed x sn (rooms xs is rs ns) b (rooms zs js ss ms) q
 unfolding elementAtoms elementVariables elementLabels elementPlaced chainIn itemsOf slotOxygen templatePieces itemPieces nextLabel show showPiece showLabels ascii
-slot-pushed {x} {sn} {s} {xs} {ys} {zs} {is} {js} {rs} {ss} {b} {p} {q} g w es u =
+slot-pushed {x} {sn} {s} {xs} {ys} {zs} {is} {js} {rs} {ss} {ns} {ms} {b} {p} {q} g w es u =
     record { sizes = record { text = u .sizes .text ∙ written-length (w .text); index = u .sizes .index; rows = u .sizes .rows }; pushed = pushed }
   where
-    pushed : (t : List ℕ) (ds : List Chain) → Stands Slot (nonempty sn ds) x → (n v l : ℕ) (ps : List Placed) → Counts b n v l ps
-        → FitsElement t ds (slot sn) n v l ps → Pushed t ds (slot sn) n v l ps (rooms xs is rs) b (rooms zs js ss) q
+    pushed : (t : List ℕ) (ds : List Chain) → Stands Slot (nonempty sn ds) x → (n v l : ℕ) (ps : List Placed) → Counts b ns n v l ps
+        → FitsElement t ds (slot sn) n v l ps → Pushed t ds (slot sn) n v l ps (rooms xs is rs ns) b (rooms zs js ss ms) q
     pushed t ds k n v l ps c f =
         let up : s ≡ n = es ∙ c .atoms in
         let one : p .atoms .0 ≡ suc n = omega (arith, w .atoms, c .atoms, f .atoms, after-le Slot (nonempty sn ds) (suc n)) in
-        let here : Counts p (suc n) v l ps =
-        record { atoms = one; variables = ap (λ (a : Variables). a .0) (w .variables) ∙ c .variables; labels = ap (λ (a : Labels). a .0) (w .labels) ∙ c .labels; placed = w .placed ∙ c .placed } in
+        let here : Counts p ns (suc n) v l ps =
+        record { atoms = one; variables = ap (λ (a : Variables). a .0) (w .variables) ∙ c .variables; labels = ap (λ (a : Labels). a .0) (w .labels) ∙ c .labels; placed = placed-kept ns p b (w .count) ∙ c .placed } in
         let z = u .pushed (nonempty sn ds) (some n) (suc n) v l ps up k here f in
         record {
           text = written-append g (w .text) (z .text);
@@ -167,6 +173,6 @@ pub bare-pushed : {x : Drawn} {sn s : ℕ} {r : Role} {xs ys : Rooms} {b q : Bui
 unfolding elementAtoms elementVariables elementLabels elementPlaced chainIn itemsOf
 bare-pushed {x} {sn} {s} {r} {xs} {ys} {b} {q} es u = record { sizes = u .sizes; pushed = pushed }
   where
-    pushed : (t : List ℕ) (ds : List Chain) → Stands r (nonempty sn ds) x → (n v l : ℕ) (ps : List Placed) → Counts b n v l ps
+    pushed : (t : List ℕ) (ds : List Chain) → Stands r (nonempty sn ds) x → (n v l : ℕ) (ps : List Placed) → Counts b (xs .notes) n v l ps
         → FitsElement t ds (bare sn r) n v l ps → Pushed t ds (bare sn r) n v l ps xs b ys q
     pushed t ds k n v l ps c f = u .pushed (nonempty sn ds) (siteOf r n) n v l ps (es ∙ (c .atoms ∙ sym (site-first r n))) k c f

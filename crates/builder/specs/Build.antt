@@ -18,10 +18,11 @@ use Rattle.template.specs.Request as request
 use Rattle.template.specs.Request.{nonempty, place, atomsAfter, variablesAfter, chainItem, itemsOf}
 use Rattle.template.specs.Built.{labelsAfter, elementAtoms, elementVariables, elementLabels, elementPlaced}
 use Rattle.placed.specs.declared.Placed.{Placed}
+use Rattle.placed.specs.Notes.{chainsIn}
 use Rattle.placed.specs.Fragment.{Carries, Stands, siteOr, noted, indexList, rowsOf, gathered}
 use Rattle.strand.specs.declared.Strand.{Strand}
 use Rattle.strand.specs.declared.Figures.{Figures}
-use Rattle.strand.specs.Strand.{Rooms, Sizes}
+use Rattle.strand.specs.Strand as strand
 use Rattle.builder.specs.declared.Builder.{Builder}
 
 -- ---- numbers
@@ -37,11 +38,33 @@ inLabels l = min l 247
 abbrev pub variablesFor : ℕ → ℕ
 variablesFor n = cond (eqb n 0) 0 (suc n)
 
+-- ---- the slices
+
+-- of the line, of the indices, of the rows and of what is noted of the chains
+pub record Rooms : Type 0 where
+  pub text : List ℕ
+  pub index : List ℕ
+  pub rows : List ℕ
+  pub notes : List ℕ
+
+abbrev pub rooms : List ℕ → List ℕ → List ℕ → List ℕ → Rooms
+rooms a b c d = record { text = a; index = b; rows = c; notes = d }
+
+-- those that a chain is laid down in
+abbrev pub laidIn : Rooms → strand.Rooms
+laidIn x = record { text = x .text; index = x .index; rows = x .rows }
+
+pub record Sizes (x y : Rooms) : Type 0 where
+  pub text : length (y .text) ≡ length (x .text)
+  pub index : length (y .index) ≡ length (x .index)
+  pub rows : length (y .rows) ≡ length (x .rows)
+
 -- ---- a builder
 
--- where the chains stand, in the order of the text
-unfoldable pub placedIn : Builder → List Placed
-placedIn b = take (b .count) (b .placed)
+-- where the chains stand, in the order of the text, by what is noted of them
+unfoldable pub placedIn : Builder → List ℕ → List Placed
+unfolding chainsIn
+placedIn b ns = take (b .count) (chainsIn ns)
 
 -- a builder with nothing pushed
 pub record Fresh (b : Builder) : Type 0 where
@@ -51,16 +74,16 @@ pub record Fresh (b : Builder) : Type 0 where
   pub labels : b .labels .0 ≡ 10
   pub used : b .used ≡ 0
   pub rows : b .rows ≡ 0
-  pub placed : placedIn b ≡ []
+  pub count : b .count ≡ 0
 
 -- ---- pushes
 
 -- what a builder has: n atoms, v variables, the next label l, and its chains
-pub record Counts (b : Builder) (n v l : ℕ) (ps : List Placed) : Type 0 where
+pub record Counts (b : Builder) (ns : List ℕ) (n v l : ℕ) (ps : List Placed) : Type 0 where
   pub atoms : b .atoms .0 ≡ n
   pub variables : b .variables .0 ≡ v
   pub labels : b .labels .0 ≡ l
-  pub placed : placedIn b ≡ ps
+  pub placed : placedIn b ns ≡ ps
 
 -- such numbers can be kept
 pub record Fits (n v l : ℕ) (ps : List Placed) : Type 0 where
@@ -74,7 +97,7 @@ pub record Pushing (is : List Item) (l : ℕ) (cs : List request.Placed) (xs : R
   pub text : Written (xs .text) (b .at) (show (templatePieces l is)) (ys .text) (q .at)
   pub index : Written (xs .index) (b .used) (gathered indexList cs) (ys .index) (q .used)
   pub rows : Written (xs .rows) (b .rows) (gathered rowsOf cs) (ys .rows) (q .rows)
-  pub counts : Counts q n v l′ ps
+  pub counts : Counts q (ys .notes) n v l′ ps
 
 -- a place stays what it is
 pub record Kept (a b : ℕ) : Type 0 where
@@ -89,7 +112,7 @@ pub record FixedPushed (ts : List ℕ) (k : ℕ) (xs : List ℕ) (b : Builder) (
   pub labels : q .labels ≡ b .labels
   pub used : Kept (b .used) (q .used)
   pub rows : Kept (b .rows) (q .rows)
-  pub placed : placedIn q ≡ placedIn b
+  pub count : q .count ≡ b .count
 
 -- what is kept of a chain that is laid down where the builder stands
 abbrev pub placedOf : Builder → ℕ → Role → ℕ → Strand → Figures → Placed
@@ -97,14 +120,14 @@ placedOf b sn r s x f =
     record { sn = sn; role = r; first = b .atoms .0; site = s; variable = b .variables .0; count = x .count; acyl = f .acyl; unlocated = f .unlocated; flexible = x .flexible; floats = x .floats; total = f .total; «float_count» = f .«float_count» }
 
 -- the places after a chain and its counts, and what is kept of it
-pub record Settled (p : Placed) (x : Strand) (f : Figures) (b q : Builder) : Type 0 where
+pub record Settled (p : Placed) (x : Strand) (f : Figures) (ns : List ℕ) (b : Builder) (ms : List ℕ) (q : Builder) : Type 0 where
   pub at : q .at ≡ x .at
   pub used : q .used ≡ x .used
   pub rows : q .rows ≡ x .rows
   pub atoms : q .atoms .0 ≡ plus (b .atoms .0) (x .end)
   pub variables : q .variables .0 ≡ plus (b .variables .0) (variablesFor (f .unlocated))
   pub labels : q .labels .0 ≡ plus (b .labels .0) (f .rings)
-  pub placed : placedIn q ≡ take 4 (placedIn b ++ p ∷ [])
+  pub placed : placedIn q ms ≡ take 4 (placedIn b ns ++ p ∷ [])
 
 -- ---- a chain
 
@@ -119,13 +142,13 @@ PushingChain sn r k o n v l ps xs b ys q =
 -- a chain that has carbons
 pub record FragmentPushed (x : Drawn) (sn : ℕ) (r : Role) (s : ℕ) (xs : Rooms) (b : Builder) (ys : Rooms) (q : Builder) : Type 0 where
   pub sizes : Sizes xs ys
-  pub pushed : (d : Chain) (k : Option ℕ) (n v l : ℕ) (ps : List Placed) → s ≡ siteOr n k → Carries r d x → Counts b n v l ps
+  pub pushed : (d : Chain) (k : Option ℕ) (n v l : ℕ) (ps : List Placed) → s ≡ siteOr n k → Carries r d x → Counts b (xs .notes) n v l ps
       → FitsChain sn r k (some d) n v l ps → PushingChain sn r k (some d) n v l ps xs b ys q
 
 -- a chain of the request, or none
 pub record ChainPushed (x : Drawn) (sn : ℕ) (r : Role) (s : ℕ) (xs : Rooms) (b : Builder) (ys : Rooms) (q : Builder) : Type 0 where
   pub sizes : Sizes xs ys
-  pub pushed : (o : Option Chain) (k : Option ℕ) (n v l : ℕ) (ps : List Placed) → s ≡ siteOr n k → Stands r o x → Counts b n v l ps
+  pub pushed : (o : Option Chain) (k : Option ℕ) (n v l : ℕ) (ps : List Placed) → s ≡ siteOr n k → Stands r o x → Counts b (xs .notes) n v l ps
       → FitsChain sn r k o n v l ps → PushingChain sn r k o n v l ps xs b ys q
 
 -- ---- an element of a template
@@ -140,10 +163,10 @@ Pushed t ds e n v l ps xs b ys q =
 
 pub record SlotPushed (x : Drawn) (sn : ℕ) (xs : Rooms) (b : Builder) (ys : Rooms) (q : Builder) : Type 0 where
   pub sizes : Sizes xs ys
-  pub pushed : (t : List ℕ) (ds : List Chain) → Stands Slot (nonempty sn ds) x → (n v l : ℕ) (ps : List Placed) → Counts b n v l ps
+  pub pushed : (t : List ℕ) (ds : List Chain) → Stands Slot (nonempty sn ds) x → (n v l : ℕ) (ps : List Placed) → Counts b (xs .notes) n v l ps
       → FitsElement t ds (slot sn) n v l ps → Pushed t ds (slot sn) n v l ps xs b ys q
 
 pub record BarePushed (x : Drawn) (sn : ℕ) (r : Role) (xs : Rooms) (b : Builder) (ys : Rooms) (q : Builder) : Type 0 where
   pub sizes : Sizes xs ys
-  pub pushed : (t : List ℕ) (ds : List Chain) → Stands r (nonempty sn ds) x → (n v l : ℕ) (ps : List Placed) → Counts b n v l ps
+  pub pushed : (t : List ℕ) (ds : List Chain) → Stands r (nonempty sn ds) x → (n v l : ℕ) (ps : List Placed) → Counts b (xs .notes) n v l ps
       → FitsElement t ds (chain sn r) n v l ps → Pushed t ds (chain sn r) n v l ps xs b ys q

@@ -37,9 +37,8 @@ unfolding notesText labels labelsOf marksIn siteListsIn sumsIn
 notesAfter swap ss ps numbers rows = notesText (labels swap (labelsOf ss)) (marksIn ps) (siteListsIn ps numbers rows) (sumsIn ps)
 
 -- it is written at the builder's place, where the sites are such, and all else stands as it stood
-pub record Finished (swap : Bool) (s : Sites) (numbers rows : List ℕ) (xs : List ℕ) (b : Builder) (ys : List ℕ) (q : Builder) : Type 0 where
+pub record Finished (swap : Bool) (s : Sites) (numbers rows notes : List ℕ) (xs : List ℕ) (b : Builder) (ys : List ℕ) (q : Builder) : Type 0 where
   pub size : length ys ≡ length xs
-  pub text : Few s → Written xs (b .at) (notesAfter swap (sitesIn s) (placedIn b) numbers rows) ys (q .at)
+  pub text : Few s → Written xs (b .at) (notesAfter swap (sitesIn s) (placedIn b notes) numbers rows) ys (q .at)
   pub used : q .used ≡ b .used
   pub count : q .count ≡ b .count
-  pub places : q .placed ≡ b .placed

@@ -1,18 +1,18 @@
-// The builder of a line. It goes in and comes back by value: the places in the lent slices, three counters that run through the template, and
-// where each chain stands. Texts go to the line at once, and so do the indices of each chain and the rows of its floating groups to slices of
-// their own; marks, sites and sums are numbers until the line is finished. On empty slices the same functions measure. What is built is said
+// The builder of a line. It goes in and comes back by value: the places in the lent slices, and three counters that run through the template.
+// Texts go to the line at once, and so do the indices of each chain, the rows of its floating groups and where it stands to slices of their
+// own; marks, sites and sums are numbers until the line is finished. On empty slices the same functions measure. What is built is said
 // by the definitions of `template` (crates/template/specs); what a push adds, by specs/Build.antt.
 use chain::Role;
 use drawable::Shape;
 use listing::Sites;
 use placed::MAX_CHAINS;
+use placed::NOTE_ROOM;
 use placed::Placed;
 use strand::Figures;
 use strand::Strand;
 ghost use mathlib.Core.Path.{_≡_};
 ghost use Rattle.drawable.specs.Drawn.{drawnOf};
-ghost use Rattle.strand.specs.Strand.{rooms};
-ghost use Rattle.builder.specs.Build.{plus, inLabels, variablesFor, Fresh, FixedPushed, FragmentPushed, placedOf, Settled, ChainPushed, SlotPushed, BarePushed};
+ghost use Rattle.builder.specs.Build.{rooms, plus, inLabels, variablesFor, Fresh, FixedPushed, FragmentPushed, placedOf, Settled, ChainPushed, SlotPushed, BarePushed};
 ghost use Rattle.builder.specs.Line.{Writable, Finished};
 
 // The first ring label of a line is `%10`.
@@ -25,7 +25,8 @@ pub struct Variables(pub u32);
 
 pub struct Labels(pub u32);
 
-// The place in the line; the counters; the places in the slices of the indices and of the rows; and where the chains stand.
+// The place in the line; the counters; the places in the slices of the indices and of the rows; and how many chains stand there. Where each
+// of them stands is noted in a lent array.
 pub struct Builder {
     pub at: usize,
     pub atoms: Atoms,
@@ -34,7 +35,6 @@ pub struct Builder {
     pub used: usize,
     pub rows: usize,
     pub count: usize,
-    pub placed: [Placed; MAX_CHAINS],
 }
 
 // A count stays at the largest number.
@@ -112,21 +112,6 @@ impl Builder {
     pub fn new() -> Builder
         ensures { λ r. ⌜ Fresh r ⌝ }
     {
-        let nowhere = Placed {
-            sn: 0,
-            role: Role::Slot,
-            first: 0,
-            site: 0,
-            variable: 0,
-            count: 0,
-            acyl: false,
-            unlocated: 0,
-            flexible: 0,
-            floats: 0,
-            total: 0,
-            float_count: 0,
-        };
-        let placed = [nowhere; MAX_CHAINS];
         Builder {
             at: 0,
             atoms: Atoms(0),
@@ -135,7 +120,6 @@ impl Builder {
             used: 0,
             rows: 0,
             count: 0,
-            placed,
         }
     }
 
@@ -152,28 +136,41 @@ impl Builder {
         self
     }
 
-    // A chain that was laid down from here on: the places after it, its atoms, variables and labels, and where it stands, kept while there is
+    // A chain that was laid down from here on: the places after it, its atoms, variables and labels, and where it stands, noted while there is
     // room.
-    fn settle(mut self, sn: u8, role: Role, site: u32, laid: Strand, own: Figures) -> Builder
-        ensures { λ r. ⌜ Settled (placedOf self sn role site laid own) laid own self r ⌝ }
+    fn settle(
+        mut self,
+        notes: &mut [u32; NOTE_ROOM],
+        sn: u8,
+        role: Role,
+        site: u32,
+        laid: Strand,
+        own: Figures,
+    ) -> Builder
+        ensures { λ r. ⌜ Settled (placedOf self sn role site laid own) laid own (now (notes .entry)) self (now (notes .exit)) r ⌝ }
     {
         let a = self.atoms;
         let v = self.variables;
         let l = self.labels;
-        let placed = Placed {
-            sn,
-            role,
-            first: a.0,
-            site,
-            variable: v.0,
-            count: laid.count,
-            acyl: own.acyl,
-            unlocated: own.unlocated,
-            flexible: laid.flexible,
-            floats: laid.floats,
-            total: own.total,
-            float_count: own.float_count,
-        };
+        let i = self.count;
+        placed::note(
+            notes,
+            i,
+            Placed {
+                sn,
+                role,
+                first: a.0,
+                site,
+                variable: v.0,
+                count: laid.count,
+                acyl: own.acyl,
+                unlocated: own.unlocated,
+                flexible: laid.flexible,
+                floats: laid.floats,
+                total: own.total,
+                float_count: own.float_count,
+            },
+        );
         let atoms = a.plus(laid.end as u32);
         let variables = v.plus(variables_for(own.unlocated));
         let labels = l.plus(own.rings as u32);
@@ -183,9 +180,7 @@ impl Builder {
         self.atoms = atoms;
         self.variables = variables;
         self.labels = labels;
-        let i = self.count;
         if i < MAX_CHAINS {
-            self.placed[i] = placed;
             self.count = i + 1;
             return self;
         }
@@ -198,13 +193,14 @@ impl Builder {
         out: &mut [u8],
         index: &mut [u16],
         rows: &mut [u8],
+        notes: &mut [u32; NOTE_ROOM],
         x: Shape,
         part: &[u64],
         sn: u8,
         role: Role,
         site: u32,
     ) -> Builder
-        ensures { λ r. ⌜ FragmentPushed (drawnOf x (now (part .entry))) sn role site (rooms (now (out .entry)) (now (index .entry)) (now (rows .entry))) self (rooms (now (out .exit)) (now (index .exit)) (now (rows .exit))) r ⌝ }
+        ensures { λ r. ⌜ FragmentPushed (drawnOf x (now (part .entry))) sn role site (rooms (now (out .entry)) (now (index .entry)) (now (rows .entry)) (now (notes .entry))) self (rooms (now (out .exit)) (now (index .exit)) (now (rows .exit)) (now (notes .exit))) r ⌝ }
     {
         let a = self.atoms;
         let l = self.labels;
@@ -223,7 +219,7 @@ impl Builder {
             label,
         );
         let own = strand::figures_of(x, part);
-        self = self.settle(sn, role, site, laid, own);
+        self = self.settle(notes, sn, role, site, laid, own);
         self
     }
 
@@ -233,18 +229,19 @@ impl Builder {
         out: &mut [u8],
         index: &mut [u16],
         rows: &mut [u8],
+        notes: &mut [u32; NOTE_ROOM],
         x: Shape,
         part: &[u64],
         sn: u8,
         role: Role,
         site: u32,
     ) -> Builder
-        ensures { λ r. ⌜ ChainPushed (drawnOf x (now (part .entry))) sn role site (rooms (now (out .entry)) (now (index .entry)) (now (rows .entry))) self (rooms (now (out .exit)) (now (index .exit)) (now (rows .exit))) r ⌝ }
+        ensures { λ r. ⌜ ChainPushed (drawnOf x (now (part .entry))) sn role site (rooms (now (out .entry)) (now (index .entry)) (now (rows .entry)) (now (notes .entry))) self (rooms (now (out .exit)) (now (index .exit)) (now (rows .exit)) (now (notes .exit))) r ⌝ }
     {
         if x.carbon == 0 {
             return self;
         }
-        self = self.push_fragment(out, index, rows, x, part, sn, role, site);
+        self = self.push_fragment(out, index, rows, notes, x, part, sn, role, site);
         self
     }
 
@@ -254,16 +251,17 @@ impl Builder {
         out: &mut [u8],
         index: &mut [u16],
         rows: &mut [u8],
+        notes: &mut [u32; NOTE_ROOM],
         x: Shape,
         part: &[u64],
         sn: u8,
     ) -> Builder
-        ensures { λ r. ⌜ SlotPushed (drawnOf x (now (part .entry))) sn (rooms (now (out .entry)) (now (index .entry)) (now (rows .entry))) self (rooms (now (out .exit)) (now (index .exit)) (now (rows .exit))) r ⌝ }
+        ensures { λ r. ⌜ SlotPushed (drawnOf x (now (part .entry))) sn (rooms (now (out .entry)) (now (index .entry)) (now (rows .entry)) (now (notes .entry))) self (rooms (now (out .exit)) (now (index .exit)) (now (rows .exit)) (now (notes .exit))) r ⌝ }
     {
         let a = self.atoms;
         let site = a.0;
         let b = self.push_fixed(out, b"O", 1);
-        b.push_chain(out, index, rows, x, part, sn, Role::Slot, site)
+        b.push_chain(out, index, rows, notes, x, part, sn, Role::Slot, site)
     }
 
     // A chain that stands without an O: its first atom is its site.
@@ -272,15 +270,16 @@ impl Builder {
         out: &mut [u8],
         index: &mut [u16],
         rows: &mut [u8],
+        notes: &mut [u32; NOTE_ROOM],
         x: Shape,
         part: &[u64],
         sn: u8,
         role: Role,
     ) -> Builder
-        ensures { λ r. ⌜ BarePushed (drawnOf x (now (part .entry))) sn role (rooms (now (out .entry)) (now (index .entry)) (now (rows .entry))) self (rooms (now (out .exit)) (now (index .exit)) (now (rows .exit))) r ⌝ }
+        ensures { λ r. ⌜ BarePushed (drawnOf x (now (part .entry))) sn role (rooms (now (out .entry)) (now (index .entry)) (now (rows .entry)) (now (notes .entry))) self (rooms (now (out .exit)) (now (index .exit)) (now (rows .exit)) (now (notes .exit))) r ⌝ }
     {
         let a = self.atoms;
-        self.push_chain(out, index, rows, x, part, sn, role, a.0)
+        self.push_chain(out, index, rows, notes, x, part, sn, role, a.0)
     }
 
     // What follows the text: the labels of the sites, marks and site lists, what may be exchanged, and the sums. The site lists are read from the
@@ -292,10 +291,10 @@ impl Builder {
         sites: Sites,
         index: &[u16],
         rows: &[u8],
+        notes: &[u32; NOTE_ROOM],
     ) -> Builder
-        ensures { λ r. ⌜ Finished swap sites (now (index .entry)) (now (rows .entry)) (now (out .entry)) self (now (out .exit)) r ⌝ }
+        ensures { λ r. ⌜ Finished swap sites (now (index .entry)) (now (rows .entry)) (now (notes .entry)) (now (out .entry)) self (now (out .exit)) r ⌝ }
     {
-        let placed = self.placed;
         let items = sites.items;
         let sited = writable(sites);
         let at = blocks::put_notes(
@@ -306,7 +305,7 @@ impl Builder {
             sited,
             index,
             rows,
-            placed,
+            notes,
             self.count,
         );
         self.at = at;

@@ -16,7 +16,9 @@ use Rattle.shown.specs.Notes.{sumList}
 use Rattle.shown.proofs.Chained.{still-marks, still-sums}
 use Rattle.placed.specs.declared.Placed.{Placed}
 use Rattle.atoms.specs.Index.{inRoom}
+use Rattle.placed.specs.Notes.{nowhere, chainsIn}
 use Rattle.placed.specs.Fragment.{gathered}
+use Rattle.placed.proofs.Notes.{length-chains}
 use Rattle.placed.proofs.Laws.{gathered-more}
 use Rattle.chain_marks.specs.declared.Next.{Next}
 use Rattle.chain_marks.specs.Put.{PutBlocks, PutParts}
@@ -53,13 +55,13 @@ more-shown : {A : Type 0} (show : A → List ℕ) (f : Placed → List A) (l : L
     → map show (gathered f (take (i + 1) l)) ≡ map show (gathered f (take i l)) ++ map show (f (getD l i d))
 more-shown show f l i d h = rw (gathered-more f l i d h) (map-append show (gathered f (take i l)) (f (getD l i d)))
 
-module _ {xs ys zs : List ℕ} {a b c : Next} (l : List Placed) (i : ℕ) (d : Placed) where
-  pub marks-more : PutBlocks (map showMark (marksIn (take i l))) xs a ys b
-      → PutBlocks (map showMark (marksOf (getD l i d))) ys b zs c → length xs < 2 ^ 64 → i < length l → PutBlocks (map showMark (marksIn (take (i + 1) l))) xs a zs c
+module _ {xs ys zs : List ℕ} {a b c : Next} (ns : List ℕ) (i : ℕ) (p : Placed) (e : p ≡ getD (chainsIn ns) i nowhere) (h : i < 4) where
+  pub marks-more : PutBlocks (map showMark (marksIn (take i (chainsIn ns)))) xs a ys b
+      → PutBlocks (map showMark (marksOf p)) ys b zs c → length xs < 2 ^ 64 → PutBlocks (map showMark (marksIn (take (i + 1) (chainsIn ns)))) xs a zs c
   unfolding marksIn
-  marks-more u w g h = rw (more-shown showMark marksOf l i d h) (put-then g u w)
+  marks-more u w g = rw (more-shown showMark marksOf (chainsIn ns) i nowhere (omega (arith, length-chains ns)), ← e) (put-then g u w)
 
-  pub sums-more : PutParts (map showSum (sumsIn (take i l))) xs a ys b
-      → PutParts (map showSum (sumsOf (getD l i d))) ys b zs c → length xs < 2 ^ 64 → i < length l → PutParts (map showSum (sumsIn (take (i + 1) l))) xs a zs c
+  pub sums-more : PutParts (map showSum (sumsIn (take i (chainsIn ns)))) xs a ys b
+      → PutParts (map showSum (sumsOf p)) ys b zs c → length xs < 2 ^ 64 → PutParts (map showSum (sumsIn (take (i + 1) (chainsIn ns)))) xs a zs c
   unfolding sumsIn
-  sums-more u w g h = rw (more-shown showSum sumsOf l i d h) (put-then g u w)
+  sums-more u w g = rw (more-shown showSum sumsOf (chainsIn ns) i nowhere (omega (arith, length-chains ns)), ← e) (put-then g u w)

@@ -1,6 +1,6 @@
 // The marks and the sums of all chains of a line, from what is noted of them. The chains are gone through in the order of the text. The
 // texts of single marks and sums are those of `marks` and `sums`.
-use placed::MAX_CHAINS;
+use placed::NOTE_ROOM;
 use placed::Placed;
 use placed::in_places;
 use placed::in_room;
@@ -10,6 +10,7 @@ ghost use mathlib.Core.List.{map};
 ghost use lib.Dec.{eqb};
 ghost use lib.ListN.{take};
 ghost use Rattle.reading.specs.Show.{showMark, showSum};
+ghost use Rattle.placed.specs.Notes.{chainsIn};
 ghost use Rattle.chain_marks.specs.Put.{PutBlocks, PutParts};
 ghost use Rattle.chain_marks.specs.Marks.{marksOf, sumsOf, marksIn, sumsIn};
 
@@ -45,14 +46,14 @@ fn put_chain_marks(out: &mut [u8], next: Next, p: Placed) -> Next
 }
 
 // The marks of all chains.
-pub fn put_all_marks(out: &mut [u8], next: Next, placed: [Placed; MAX_CHAINS], count: usize) -> Next
-    ensures { λ r. ⌜ PutBlocks (map showMark (marksIn (take count placed))) (now (out .entry)) next (now (out .exit)) r ⌝ }
+pub fn put_all_marks(out: &mut [u8], next: Next, notes: &[u32; NOTE_ROOM], count: usize) -> Next
+    ensures { λ r. ⌜ PutBlocks (map showMark (marksIn (take count (chainsIn (now (notes .entry)))))) (now (out .entry)) next (now (out .exit)) r ⌝ }
 {
     let n = in_places(count);
     let mut b = next;
     let mut i = 0;
     while i < n {
-        let p = placed[i];
+        let p = placed::placed_at(notes, i);
         b = put_chain_marks(out, b, p);
         i += 1;
     }
@@ -74,14 +75,14 @@ fn put_chain_sum(out: &mut [u8], next: Next, p: Placed) -> Next
 }
 
 // The sums of all chains.
-pub fn put_all_sums(out: &mut [u8], next: Next, placed: [Placed; MAX_CHAINS], count: usize) -> Next
-    ensures { λ r. ⌜ PutParts (map showSum (sumsIn (take count placed))) (now (out .entry)) next (now (out .exit)) r ⌝ }
+pub fn put_all_sums(out: &mut [u8], next: Next, notes: &[u32; NOTE_ROOM], count: usize) -> Next
+    ensures { λ r. ⌜ PutParts (map showSum (sumsIn (take count (chainsIn (now (notes .entry)))))) (now (out .entry)) next (now (out .exit)) r ⌝ }
 {
     let n = in_places(count);
     let mut b = next;
     let mut i = 0;
     while i < n {
-        let p = placed[i];
+        let p = placed::placed_at(notes, i);
         b = put_chain_sum(out, b, p);
         i += 1;
     }

@@ -22,7 +22,9 @@ use Rattle.shown.proofs.Chained.{still-one}
 use Rattle.template.specs.Request.{headCarbons}
 use Rattle.placed.specs.declared.Placed.{Placed}
 use Rattle.atoms.specs.Index.{inRoom}
+use Rattle.placed.specs.Notes.{nowhere, chainsIn}
 use Rattle.placed.specs.Fragment.{summed}
+use Rattle.placed.proofs.Notes.{length-chains}
 use Rattle.chain_marks.specs.declared.Next.{Next}
 use Rattle.chain_marks.specs.Put.{PutBlocks}
 use Rattle.chain_marks.proofs.Put.{put-none, put-then}
@@ -157,19 +159,20 @@ pub sites-start : (l : List Placed) (numbers rows xs : List ℕ) (a : Next) → 
 unfolding siteListsIn summed
 sites-start l numbers rows xs a h = record { starts = refl; begins = refl; few = omega arith; less = omega arith; put = put-none _ _ xs a h }
 
-pub sites-more : {l : List Placed} {numbers rows xs ys zs : List ℕ} {a b c : Next} {i from row : ℕ} (d : Placed) → length xs < 2 ^ 64 → i < length l → getD l i d .count < 65536 → getD l i d .«float_count» < 65536
-    → SitesTo l numbers rows xs a i ys b from row
-    → PutBlocks (map showSites (siteListsOf (getD l i d) (take (getD l i d .count) (drop from numbers)) (take (getD l i d .«float_count») (drop row rows)))) ys b zs c
-    → SitesTo l numbers rows xs a (i + 1) zs c (from + getD l i d .count) (row + getD l i d .«float_count»)
-sites-more {l} {numbers} {rows} {i = i} d g h m k v w =
-    let next : take (i + 1) l ≡ take i l ++ (getD l i d ∷ []) = rw (add-one i) (take-suc l i d h) in
+pub sites-more : {numbers rows xs ys zs : List ℕ} {a b c : Next} {i from row : ℕ} (ns : List ℕ) (p : Placed) → p ≡ getD (chainsIn ns) i nowhere → length xs < 2 ^ 64 → i < 4 → p .count < 65536 → p .«float_count» < 65536
+    → SitesTo (chainsIn ns) numbers rows xs a i ys b from row
+    → PutBlocks (map showSites (siteListsOf p (take (p .count) (drop from numbers)) (take (p .«float_count») (drop row rows)))) ys b zs c
+    → SitesTo (chainsIn ns) numbers rows xs a (i + 1) zs c (from + p .count) (row + p .«float_count»)
+sites-more {numbers} {rows} {i = i} ns p e g h m k v w =
+    let l = chainsIn ns in
+    let next : take (i + 1) l ≡ take i l ++ (p ∷ []) = rw (add-one i, e) (take-suc l i nowhere (omega (arith, length-chains ns))) in
     record {
-      starts = rw (next, summed-snoc (λ (p : Placed). p .count) (take i l) (getD l i d)) (omega (arith, v .starts));
-      begins = rw (next, summed-snoc (λ (p : Placed). p .«float_count») (take i l) (getD l i d)) (omega (arith, v .begins));
+      starts = rw (next, summed-snoc (λ (q : Placed). q .count) (take i l) p) (omega (arith, v .starts));
+      begins = rw (next, summed-snoc (λ (q : Placed). q .«float_count») (take i l) p) (omega (arith, v .begins));
       few = omega (arith, v .few);
       less = omega (arith, v .less);
       put =
-          rw (next, lists-snoc (take i l) (getD l i d) numbers rows, ← v .starts, ← v .begins, map-append)
+          rw (next, lists-snoc (take i l) p numbers rows, ← v .starts, ← v .begins, map-append)
           (put-then g (v .put) w);
     }
 

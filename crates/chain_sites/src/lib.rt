@@ -3,7 +3,7 @@
 // those of the chains before it. The text of a single list is that of `sites`.
 use chain::Role;
 use chain_marks::Next;
-use placed::MAX_CHAINS;
+use placed::NOTE_ROOM;
 use placed::Placed;
 use placed::in_places;
 use placed::in_room;
@@ -15,6 +15,7 @@ ghost use Rattle.reading.specs.Molecule.{at as noted};
 ghost use Rattle.reading.specs.Show.{showSites};
 ghost use Rattle.chain.specs.Drawing.{branchPart, siteLists};
 ghost use Rattle.template.specs.Request.{headCarbons};
+ghost use Rattle.placed.specs.Notes.{chainsIn};
 ghost use Rattle.chain_marks.specs.Put.{PutBlocks};
 ghost use Rattle.atoms.specs.Atoms.{Counts};
 ghost use Rattle.chain_sites.specs.Sites.{skipped, siteListsOf, siteListsIn};
@@ -113,10 +114,10 @@ pub fn put_all_sites(
     next: Next,
     numbers: &[u16],
     rows: &[u8],
-    placed: [Placed; MAX_CHAINS],
+    notes: &[u32; NOTE_ROOM],
     count: usize,
 ) -> Next
-    ensures { λ r. ⌜ PutBlocks (map showSites (siteListsIn (take count placed) (now (numbers .entry)) (now (rows .entry)))) (now (out .entry)) next (now (out .exit)) r ⌝ }
+    ensures { λ r. ⌜ PutBlocks (map showSites (siteListsIn (take count (chainsIn (now (notes .entry)))) (now (numbers .entry)) (now (rows .entry)))) (now (out .entry)) next (now (out .exit)) r ⌝ }
 {
     let n = in_places(count);
     let mut b = next;
@@ -124,7 +125,7 @@ pub fn put_all_sites(
     let mut row = 0;
     let mut i = 0;
     while i < n {
-        let p = placed[i];
+        let p = placed::placed_at(notes, i);
         b = put_chain_sites(out, b, numbers, rows, p, from, row);
         from += p.count as usize;
         row += p.float_count as usize;

@@ -12,7 +12,7 @@ use Rattle.template.specs.Template.{elements, hasTail}
 use Rattle.template.specs.Request.{placed, lineOf}
 use Rattle.template.specs.Promise.{Each}
 use Rattle.placed.specs.Fragment.{Told}
-use Rattle.strand.specs.Strand.{Rooms}
+use Rattle.builder.specs.Build.{Rooms}
 use Rattle.templates.specs.Templates.{FitsAll, TailOf}
 use Rattle.templates.specs.Classes.{StoodIn}
 use Rattle.lines.specs.Line.{Roomy}

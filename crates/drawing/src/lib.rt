@@ -7,6 +7,7 @@ use listing::Listed;
 use listing::Lists;
 use listing::Sites;
 use placed::MAX_CHAINS;
+use placed::NOTE_ROOM;
 use shown::MAX_SITES;
 use shown::Site;
 use template::Class;
@@ -84,10 +85,12 @@ fn build_there(
 {
     let mut numbers = [0u16; INDEX_ROOM];
     let mut rows = [0u8; ROW_ROOM];
+    let mut notes = [0u32; NOTE_ROOM];
     let built = lines::build_line(
         line,
         &mut numbers,
         &mut rows,
+        &mut notes,
         class,
         swap,
         tail,
@@ -115,10 +118,12 @@ pub fn draw_chains(
     let mut text = [0u8; TEXT_ROOM];
     let mut numbers = [0u16; INDEX_ROOM];
     let mut rows = [0u8; ROW_ROOM];
+    let mut notes = [0u32; NOTE_ROOM];
     let built = lines::build_line(
         &mut text,
         &mut numbers,
         &mut rows,
+        &mut notes,
         class,
         swap,
         tail,
@@ -131,10 +136,9 @@ pub fn draw_chains(
     if line.len() < length {
         return refused(SHORT_SLICE, 0);
     }
-    let placed = b.placed;
     let order = built.order;
     let sites = built.sites;
-    let listed = listing::lists_by_sn(placed, order);
+    let listed = listing::lists_by_sn(&notes, order);
     let indices = listing::index_count(listed);
     if index.len() < indices {
         return refused(SHORT_SLICE, 0);
@@ -146,7 +150,7 @@ pub fn draw_chains(
         lists: listed,
         sites,
     };
-    let end = indices::write_indices(index, &numbers, placed, order);
+    let end = indices::write_indices(index, &numbers, &notes, order);
     if length <= TEXT_ROOM {
         let copied = copying::copy_text(line, &text[0..length]);
         return answer;

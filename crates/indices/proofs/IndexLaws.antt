@@ -32,12 +32,12 @@ pub sum-none : (l : List Placed) (n k : ℕ) → n ≡ min k 4 → SumBehind l n
 unfolding summed
 sum-none l n k h = record { is = rw (drop-past l n) refl; few = omega arith }
 
-pub sum-more : (l : List Placed) (n i sum : ℕ) (d : Placed) → length l ≡ 4 → n ≤ 4 → 0 < i → i ≤ n → getD l (i - 1) d .count < 65536 → SumBehind l n i sum
-    → SumBehind l n (i - 1) (sum + getD l (i - 1) d .count)
+pub sum-more : (l : List Placed) (n i sum : ℕ) (p d : Placed) → length l ≡ 4 → n ≤ 4 → 0 < i → i ≤ n → p ≡ getD l (i - 1) d → p .count < 65536 → SumBehind l n i sum
+    → SumBehind l n (i - 1) (sum + p .count)
 unfolding summed
-sum-more l n i sum d k m h g f s =
+sum-more l n i sum p d k m h g e f s =
     record {
-      is = rw (take-behind l i n d h g (omega arith)) (omega (arith, s .is));
+      is = rw (take-behind l i n d h g (omega arith), ← e) (omega (arith, s .is));
       few = omega (arith, s .few);
     }
 
@@ -82,13 +82,13 @@ part-at (p ∷ ps) xs (suc k) d h =
     ∙ ap (take (getD ps k d .count)) (drop-drop (summed (λ (q : Placed). q .count) (take k ps)) (p .count) xs)
 
 module _ (ps : List Placed) (numbers l : List ℕ) (i n : ℕ) where
-  pub indices-more : {xs ys zs : List ℕ} {p q : ℕ} (d : Placed) (from : ℕ) → length xs < 2 ^ 64 → length ps ≡ 4 → length l ≡ 4 → n ≤ 4 → i < n → getD l i 0 < 4
-      → Starts ps (getD l i 0) from → Written xs 0 (indicesAt ps numbers (take i l)) ys p → Written ys p (take (getD ps (getD l i 0) d .count) (drop from numbers)) zs q
-      → Written xs 0 (indicesAt ps numbers (take (i + 1) l)) zs q
+  pub indices-more : {xs ys zs : List ℕ} {a b : ℕ} (p d : Placed) (from : ℕ) → length xs < 2 ^ 64 → length ps ≡ 4 → length l ≡ 4 → n ≤ 4 → i < n → getD l i 0 < 4
+      → p ≡ getD ps (getD l i 0) d → Starts ps (getD l i 0) from → Written xs 0 (indicesAt ps numbers (take i l)) ys a → Written ys a (take (p .count) (drop from numbers)) zs b
+      → Written xs 0 (indicesAt ps numbers (take (i + 1) l)) zs b
   unfolding indicesAt
-  indices-more d from g k m b h f s u w =
-      let is : take (getD ps (getD l i 0) d .count) (drop from numbers) ≡ getD (partsOf ps numbers) (getD l i 0) [] =
-      ap (λ (z : ℕ). take (getD ps (getD l i 0) d .count) (drop z numbers)) (s .is) ∙ sym (part-at ps numbers (getD l i 0) d (omega arith)) in
+  indices-more p d from g k m few h f e s u w =
+      let is : take (p .count) (drop from numbers) ≡ getD (partsOf ps numbers) (getD l i 0) [] =
+      ap₂ (λ (q : Placed) (z : ℕ). take (q .count) (drop z numbers)) e (s .is) ∙ sym (part-at ps numbers (getD l i 0) d (omega arith)) in
       rw (picked-here (partsOf ps numbers) l i [] (omega arith) (omega (arith, parts-length ps numbers)), gathered-append (λ (z : List ℕ). z) (picked (partsOf ps numbers) (take i l)) (getD (partsOf ps numbers) (getD l i 0) [] ∷ []), gathered-one (λ (z : List ℕ). z) (getD (partsOf ps numbers) (getD l i 0) []), ← is)
       (written-append g u w)
 

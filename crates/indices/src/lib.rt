@@ -1,24 +1,25 @@
 // The index lists of a line, end to end by rising sn. The indices of its chains stand end to end in the order of the text; the part of each
 // chain is copied from there. A writer of the kind of `emit`: it stores nothing past the end and counts on.
 use placed::MAX_CHAINS;
-use placed::Placed;
+use placed::NOTE_ROOM;
 use rising::Rising;
 ghost use Prim.Native.Nat.{_≤_};
 ghost use lib.ListN.{take, drop};
 ghost use Rattle.emit.specs.Text.{Written};
+ghost use Rattle.placed.specs.Notes.{chainsIn};
 ghost use Rattle.rising.specs.Order.{placesIn};
 ghost use Rattle.indices.specs.Index.{indicesAt, Starts};
 
 // Where the part of the chain at a place starts: behind those of the chains before it.
-fn start_of(placed: [Placed; MAX_CHAINS], place: usize) -> usize
-    ensures { λ r. ⌜ Starts placed place r ⌝ }
+fn start_of(notes: &[u32; NOTE_ROOM], place: usize) -> usize
+    ensures { λ r. ⌜ Starts (chainsIn (now (notes .entry))) place r ⌝ }
 {
     let n = placed::in_places(place);
     let mut sum = 0;
     let mut i = n;
     while 0 < i {
         i -= 1;
-        let p = placed[i];
+        let p = placed::placed_at(notes, i);
         sum += p.count as usize;
     }
     sum
@@ -44,10 +45,10 @@ fn put_part(out: &mut [u16], at: usize, numbers: &[u16], from: usize, count: usi
 pub fn write_indices(
     out: &mut [u16],
     numbers: &[u16],
-    placed: [Placed; MAX_CHAINS],
+    notes: &[u32; NOTE_ROOM],
     order: Rising,
 ) -> usize
-    ensures { λ r. ⌜ Written (now (out .entry)) 0 (indicesAt placed (now (numbers .entry)) (placesIn order)) (now (out .exit)) r ⌝ }
+    ensures { λ r. ⌜ Written (now (out .entry)) 0 (indicesAt (chainsIn (now (notes .entry))) (now (numbers .entry)) (placesIn order)) (now (out .exit)) r ⌝ }
 {
     let n = placed::in_places(order.count);
     let items = order.items;
@@ -56,8 +57,8 @@ pub fn write_indices(
     while i < n {
         let k = items[i];
         if k < MAX_CHAINS {
-            let p = placed[k];
-            let from = start_of(placed, k);
+            let p = placed::placed_at(notes, k);
+            let from = start_of(notes, k);
             q = put_part(out, q, numbers, from, p.count as usize);
             i += 1;
             continue;

@@ -20,8 +20,8 @@ use Rattle.template.specs.Request.{placed, indicesOf, bySn, snSites, labels, al
 use Rattle.template.specs.Promise.{Each}
 use Rattle.placed.specs.declared.Placed.{Placed}
 use Rattle.placed.specs.Fragment.{noted, rowsOf, gathered, Told}
+use Rattle.placed.specs.Notes.{chainsIn}
 use Rattle.placed.proofs.Laws.{index-lists}
-use Rattle.strand.specs.Strand.{rooms}
 use Rattle.listing.specs.declared.Sites.{Sites}
 use Rattle.listing.specs.Sites.{sitesAt, SitesHeld, allSiteList, SitesAre}
 use Rattle.listing.specs.Order.{placesIn, InOrder}
@@ -31,12 +31,12 @@ use Rattle.chain_marks.proofs.Told.{marks-told, sums-told, marked-sums}
 use Rattle.chain_sites.proofs.Told.{sites-told}
 use Rattle.blocks.proofs.Notes.{line-noted}
 use Rattle.builder.specs.declared.Builder.{Builder}
-use Rattle.builder.specs.Build.{placedIn}
+use Rattle.builder.specs.Build.{rooms, placedIn}
 use Rattle.builder.specs.Line.{sitesIn, Few, notesAfter, Finished}
 use Rattle.templates.specs.Templates.{FitsAll, TailOf}
 use Rattle.templates.specs.Classes.{StoodIn, ClassBuilt}
 use Rattle.templates.proofs.Built.{Short}
-use Rattle.lines.specs.Line.{chainsIn, Roomy, LineIs, LineBuilt}
+use Rattle.lines.specs.Line.{Roomy, LineIs, LineBuilt}
 
 -- ---- the sites
 
@@ -71,38 +71,38 @@ line-is c swap t ds s numbers rows n m h w e f =
     (line-noted (textOf c t ds) (labels swap (snSites (bySn (placed c t ds)))) (allMarks (placed c t ds)) (allSites (placed c t ds)) (allSums (placed c t ds)) (marked-sums (placed c t ds)))
 
 -- THE LINE of a class: its text, and what follows it
-pub line-built : {c : Class} {swap : Bool} {t : List ℕ} {k : ℕ} {x : Chains} {xs ys zs is js rs ss : List ℕ} {b q : Builder} {o : Rising} {s : Sites} → Short (rooms xs is rs)
-    → ClassBuilt c t k x (rooms xs is rs) (rooms ys js ss) b → InOrder (take (b .count) (b .placed)) o → SitesHeld (sitesAt (b .placed) (placesIn o)) s
-    → Finished swap s js ss ys b zs q → LineBuilt c swap t k x (rooms xs is rs) (rooms zs js ss) (record { builder = q; order = o; sites = s })
+pub line-built : {c : Class} {swap : Bool} {t : List ℕ} {k : ℕ} {x : Chains} {xs ys zs is js rs ss ns ms : List ℕ} {b q : Builder} {o : Rising} {s : Sites} → Short (rooms xs is rs ns)
+    → ClassBuilt c t k x (rooms xs is rs ns) (rooms ys js ss ms) b → InOrder (take (b .count) (chainsIn ms)) o → SitesHeld (sitesAt (chainsIn ms) (placesIn o)) s
+    → Finished swap s js ss ms ys b zs q → LineBuilt c swap t k x (rooms xs is rs ns) (rooms zs js ss ms) (record { builder = q; order = o; sites = s })
 unfolding placed textOf placedIn
-line-built {c} {swap} {t} {k} {x} {xs} {ys} {zs} {is} {js} {rs} {ss} {b} {q} {o} {s} g w i h f =
+line-built {c} {swap} {t} {k} {x} {xs} {ys} {zs} {is} {js} {rs} {ss} {ns} {ms} {b} {q} {o} {s} g w i h f =
     record {
       sizes = record { text = f .size ∙ w .sizes .text; index = w .sizes .index; rows = w .sizes .rows };
-      order = rw (f .count, f .places) i;
-      sites = rw (f .count, f .places) sited;
+      order = rw (f .count) i;
+      sites = rw (f .count) sited;
       line = line;
     }
   where
-    sited : SitesAre (allSiteList (take (b .count) (b .placed))) s
-    sited = sites-in-order (b .placed) (b .count) o s i h
+    sited : SitesAre (allSiteList (take (b .count) (chainsIn ms))) s
+    sited = sites-in-order (chainsIn ms) (b .count) o s i h
 
     few : Few s
-    few = few-sites (b .placed) (b .count) o s i h
+    few = few-sites (chainsIn ms) (b .count) o s i h
 
     line : (ds : List Chain) → (hasTail c ≡ true → TailOf t k) → StoodIn c ds x → FitsAll t ds (elements c) → Each Told (placed c t ds)
-        → Roomy (placed c t ds) (rooms xs is rs) → LineIs c swap t ds (rooms xs is rs) (rooms zs js ss) q
+        → Roomy (placed c t ds) (rooms xs is rs ns) → LineIs c swap t ds (rooms xs is rs ns) (rooms zs js ss ms) q
     line ds a d e p m =
         let u = w .built ds a d e in
         let own : Written is 0 (gathered indicesOf (placed c t ds)) js (b .used) = rw (index-lists (placed c t ds) p) at (u .index) in
         let n : b .used ≡ length (gathered indicesOf (placed c t ds)) = omega (arith, own .next, m .index, g .index) in
         let front : take (length (gathered indicesOf (placed c t ds))) js ≡ gathered indicesOf (placed c t ds) = written-front own (m .index) in
         let behind : take (length (gathered rowsOf (placed c t ds))) ss ≡ gathered rowsOf (placed c t ds) = written-front (u .rows) (m .rows) in
-        let there : take (b .count) (b .placed) ≡ map noted (placed c t ds) = u .counts .placed in
+        let there : take (b .count) (chainsIn ms) ≡ map noted (placed c t ds) = u .counts .placed in
         let after : Written ys (b .at) (notesAfter swap (sitesIn s) (map noted (placed c t ds)) js ss) zs (q .at) = rw there at (f .text few) in
         let z = line-is c swap t ds s js ss (length (gathered indicesOf (placed c t ds))) (length (gathered rowsOf (placed c t ds))) p (rw there at sited) front behind in
         record {
           text = rw z (written-append (g .text) (u .text) after);
-          chains = rw (f .count, f .places) there;
+          chains = rw (f .count) there;
           used = f .used ∙ n;
           index = rw (f .used, n) front;
         }

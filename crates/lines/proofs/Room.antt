@@ -22,7 +22,7 @@ use Rattle.template.proofs.Whole as Whole
 use Rattle.template.proofs.Theorem.{Accepted, drawn-request, indices-few}
 use Rattle.placed.specs.Fragment.{rowsOf, gathered}
 use Rattle.listing.proofs.PlacedLaws.{places-few}
-use Rattle.strand.specs.Strand.{Rooms}
+use Rattle.builder.specs.Build.{Rooms}
 use Rattle.lines.specs.Line.{Roomy}
 
 rows-few : (p : Placed) → Drawable (p .role) (p .chain) → length (rowsOf p) ≤ 16

@@ -13,35 +13,36 @@ use Rattle.template.specs.Request as request
 use Rattle.template.specs.Request.{placed, indicesOf, lineOf}
 use Rattle.template.specs.Promise.{Each}
 use Rattle.placed.specs.declared.Placed.{Placed}
+use Rattle.placed.specs.Notes.{chainsIn}
 use Rattle.placed.specs.Fragment.{noted, rowsOf, gathered, Told}
-use Rattle.strand.specs.Strand.{Rooms, Sizes}
 use Rattle.listing.specs.Order.{InOrder}
 use Rattle.listing.specs.Sites.{allSiteList, SitesAre}
 use Rattle.builder.specs.declared.Builder.{Builder}
+use Rattle.builder.specs.Build.{Rooms, Sizes}
 use Rattle.templates.specs.Templates.{FitsAll, TailOf}
 use Rattle.templates.specs.Classes.{StoodIn}
 use Rattle.lines.specs.declared.Line.{Line}
 
--- the chains of a builder, in the order of the text
-abbrev pub chainsIn : Builder → List Placed
-chainsIn b = take (b .count) (b .placed)
+-- the chains of a builder, in the order of the text, by what is noted of them
+abbrev pub chainsOf : Builder → List ℕ → List Placed
+chainsOf b ns = take (b .count) (chainsIn ns)
 
 -- there is room for the indices and rows of some chains
 pub record Roomy (ps : List request.Placed) (xs : Rooms) : Type 0 where
   pub index : length (gathered indicesOf ps) ≤ length (xs .index)
   pub rows : length (gathered rowsOf ps) ≤ length (xs .rows)
 
--- the line is written from the first place on; its chains stand in the builder, and their indices end to end in the slice
+-- the line is written from the first place on; its chains are noted, and their indices end to end in the slice
 pub record LineIs (c : Class) (swap : Bool) (t : List ℕ) (ds : List Chain) (xs ys : Rooms) (b : Builder) : Type 0 where
   pub text : Written (xs .text) 0 (lineOf c swap t ds) (ys .text) (b .at)
-  pub chains : chainsIn b ≡ map noted (placed c t ds)
+  pub chains : chainsOf b (ys .notes) ≡ map noted (placed c t ds)
   pub used : b .used ≡ length (gathered indicesOf (placed c t ds))
   pub index : take (b .used) (ys .index) ≡ gathered indicesOf (placed c t ds)
 
 -- the line of a class
 pub record LineBuilt (c : Class) (swap : Bool) (t : List ℕ) (k : ℕ) (x : Chains) (xs ys : Rooms) (r : Line) : Type 0 where
   pub sizes : Sizes xs ys
-  pub order : InOrder (chainsIn (r .builder)) (r .order)
-  pub sites : SitesAre (allSiteList (chainsIn (r .builder))) (r .sites)
+  pub order : InOrder (chainsOf (r .builder) (ys .notes)) (r .order)
+  pub sites : SitesAre (allSiteList (chainsOf (r .builder) (ys .notes))) (r .sites)
   pub line : (ds : List Chain) → (hasTail c ≡ true → TailOf t k) → StoodIn c ds x → FitsAll t ds (elements c) → Each Told (placed c t ds)
       → Roomy (placed c t ds) xs → LineIs c swap t ds xs ys (r .builder)

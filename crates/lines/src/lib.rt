@@ -3,9 +3,10 @@ use builder::Builder;
 use drawable::Shapes;
 use listing::Rising;
 use listing::Sites;
+use placed::NOTE_ROOM;
 use template::Class;
 ghost use Rattle.drawable.specs.Chains.{chainsOf};
-ghost use Rattle.strand.specs.Strand.{rooms};
+ghost use Rattle.builder.specs.Build.{rooms};
 ghost use Rattle.lines.specs.Line.{LineBuilt};
 
 // A line that is written: where its builder stands, the places of its chains by rising sn, and its sites.
@@ -16,11 +17,12 @@ pub struct Line {
 }
 
 // The line of a class, with the chains of the request. The indices of the chains and the rows of their floating groups are written to slices of
-// their own, from which the site lists are made.
+// their own, from which the site lists are made; where each chain stands is noted in an array.
 pub fn build_line(
     out: &mut [u8],
     index: &mut [u16],
     rows: &mut [u8],
+    notes: &mut [u32; NOTE_ROOM],
     class: Class,
     swap: bool,
     tail: &[u8],
@@ -28,13 +30,22 @@ pub fn build_line(
     shapes: Shapes,
     lists: &[u64],
 ) -> Line
-    ensures { λ r. ⌜ LineBuilt class swap (now (tail .entry)) «tail_atoms» (chainsOf shapes (now (lists .entry))) (rooms (now (out .entry)) (now (index .entry)) (now (rows .entry))) (rooms (now (out .exit)) (now (index .exit)) (now (rows .exit))) r ⌝ }
+    ensures { λ r. ⌜ LineBuilt class swap (now (tail .entry)) «tail_atoms» (chainsOf shapes (now (lists .entry))) (rooms (now (out .entry)) (now (index .entry)) (now (rows .entry)) (now (notes .entry))) (rooms (now (out .exit)) (now (index .exit)) (now (rows .exit)) (now (notes .exit))) r ⌝ }
 {
-    let b = templates::class_smiles(out, index, rows, class, tail, tail_atoms, shapes, lists);
-    let placed = b.placed;
-    let order = listing::by_sn(placed, b.count);
-    let sites = listing::sites_by_sn(placed, order);
-    let builder = b.finish(out, swap, sites, index, rows);
+    let b = templates::class_smiles(
+        out,
+        index,
+        rows,
+        notes,
+        class,
+        tail,
+        tail_atoms,
+        shapes,
+        lists,
+    );
+    let order = listing::by_sn(notes, b.count);
+    let sites = listing::sites_by_sn(notes, order);
+    let builder = b.finish(out, swap, sites, index, rows, notes);
     Line {
         builder,
         order,

@@ -25,12 +25,12 @@ use Rattle.listing.specs.Lists.{noList, listOf, listIn, listsAt, countsO
 -- ---- the lists of all chains
 
 module _ (ps : List Placed) (l : List ℕ) (i n : ℕ) where
-  pub lists-more : (q : ℕ) (xs : List Listed) (d : Placed) → length ps ≡ 4 → length l ≡ 4 → n ≤ 4 → i < n → getD l i 0 < 4 → q ≤ i → Filled noList (listsAt ps (take i l)) q xs
-      → Filled noList (listsAt ps (take (i + 1) l)) (q + 1) (set xs q (record { sn = getD ps (getD l i 0) d .sn; count = getD ps (getD l i 0) d .count }))
+  pub lists-more : (q : ℕ) (xs : List Listed) (p d : Placed) → length ps ≡ 4 → length l ≡ 4 → n ≤ 4 → i < n → getD l i 0 < 4 → q ≤ i → p ≡ getD ps (getD l i 0) d → Filled noList (listsAt ps (take i l)) q xs
+      → Filled noList (listsAt ps (take (i + 1) l)) (q + 1) (set xs q (record { sn = p .sn; count = p .count }))
   unfolding listsAt
-  lists-more q xs d k m b h g w f =
-      rw (picked-here ps l i d (omega arith) (omega arith), map-append listIn (picked ps (take i l)) (getD ps (getD l i 0) d ∷ []))
-      (added-more noList (listIn (getD ps (getD l i 0) d)) q xs (omega arith) .holds (map listIn (picked ps (take i l))) f)
+  lists-more q xs p d k m b h g w e f =
+      rw (picked-here ps l i d (omega arith) (omega arith), ← e, map-append listIn (picked ps (take i l)) (p ∷ []))
+      (added-more noList (listIn p) q xs (omega arith) .holds (map listIn (picked ps (take i l))) f)
 
   pub lists-past : (q : ℕ) (xs : List Listed) → length ps ≡ 4 → length l ≡ 4 → n ≤ 4 → i < n → 4 ≤ getD l i 0 → Filled noList (listsAt ps (take i l)) q xs
       → Filled noList (listsAt ps (take (i + 1) l)) q xs

@@ -120,24 +120,23 @@ digits-all ps = digits-gathered (picked ps (placesFrom 1 4 (snsOf ps))) (sns-fro
 -- ---- the sites of all chains
 
 module _ (ps : List Placed) (l : List ℕ) (i n : ℕ) where
-  sites-added : (d : Placed) → length ps ≡ 4 → length l ≡ 4 → n ≤ 4 → i < n → getD l i 0 < 4 → sitesAt ps (take (i + 1) l) ≡ sitesAt ps (take i l) ++ siteList (getD ps (getD l i 0) d)
+  sites-added : (p d : Placed) → length ps ≡ 4 → length l ≡ 4 → n ≤ 4 → i < n → getD l i 0 < 4 → p ≡ getD ps (getD l i 0) d → sitesAt ps (take (i + 1) l) ≡ sitesAt ps (take i l) ++ siteList p
   unfolding sitesAt
-  sites-added d k m b h g =
-      rw (picked-here ps l i d (omega arith) (omega arith), gathered-append siteList (picked ps (take i l)) (getD ps (getD l i 0) d ∷ []), gathered-one siteList (getD ps (getD l i 0) d)) refl
+  sites-added p d k m b h g e =
+      rw (picked-here ps l i d (omega arith) (omega arith), ← e, gathered-append siteList (picked ps (take i l)) (p ∷ []), gathered-one siteList p) refl
 
   -- one more, which has a site
-  pub sites-more : (q : ℕ) (xs : List Site) (d : Placed) (b : Bool) → length ps ≡ 4 → length l ≡ 4 → n ≤ 4 → i < n → getD l i 0 < 4 → q ≤ i → Filled noSite (sitesAt ps (take i l)) q xs
-      → b ≡ hasSite (getD ps (getD l i 0) d .role) → b ≡ true
-      → Filled noSite (sitesAt ps (take (i + 1) l)) (q + 1) (set xs q (record { sn = getD ps (getD l i 0) d .sn; atom = getD ps (getD l i 0) d .site }))
-  sites-more q xs d b k m few h g w f e t =
-      let p : Placed = getD ps (getD l i 0) d in
-      rw (sites-added d k m few h g, site-own p (sym e ∙ t)) (added-more noSite (record { sn = p .sn; atom = p .site }) q xs (omega arith) .holds (sitesAt ps (take i l)) f)
+  pub sites-more : (q : ℕ) (xs : List Site) (p d : Placed) (b : Bool) → length ps ≡ 4 → length l ≡ 4 → n ≤ 4 → i < n → getD l i 0 < 4 → q ≤ i → p ≡ getD ps (getD l i 0) d
+      → Filled noSite (sitesAt ps (take i l)) q xs → b ≡ hasSite (p .role) → b ≡ true
+      → Filled noSite (sitesAt ps (take (i + 1) l)) (q + 1) (set xs q (record { sn = p .sn; atom = p .site }))
+  sites-more q xs p d b k m few h g w is f e t =
+      rw (sites-added p d k m few h g is, site-own p (sym e ∙ t)) (added-more noSite (record { sn = p .sn; atom = p .site }) q xs (omega arith) .holds (sitesAt ps (take i l)) f)
 
   -- one more, which has none
-  pub sites-base : (q : ℕ) (xs : List Site) (d : Placed) (b : Bool) → length ps ≡ 4 → length l ≡ 4 → n ≤ 4 → i < n → getD l i 0 < 4 → Filled noSite (sitesAt ps (take i l)) q xs
-      → b ≡ hasSite (getD ps (getD l i 0) d .role) → b ≡ false → Filled noSite (sitesAt ps (take (i + 1) l)) q xs
-  sites-base q xs d b k m few h g f e t =
-      rw (sites-added d k m few h g, site-none (getD ps (getD l i 0) d) (sym e ∙ t), append-nil (sitesAt ps (take i l))) f
+  pub sites-base : (q : ℕ) (xs : List Site) (p d : Placed) (b : Bool) → length ps ≡ 4 → length l ≡ 4 → n ≤ 4 → i < n → getD l i 0 < 4 → p ≡ getD ps (getD l i 0) d
+      → Filled noSite (sitesAt ps (take i l)) q xs → b ≡ hasSite (p .role) → b ≡ false → Filled noSite (sitesAt ps (take (i + 1) l)) q xs
+  sites-base q xs p d b k m few h g is f e t =
+      rw (sites-added p d k m few h g is, site-none p (sym e ∙ t), append-nil (sitesAt ps (take i l))) f
 
   pub sites-past : (q : ℕ) (xs : List Site) → length ps ≡ 4 → length l ≡ 4 → n ≤ 4 → i < n → 4 ≤ getD l i 0 → Filled noSite (sitesAt ps (take i l)) q xs
       → Filled noSite (sitesAt ps (take (i + 1) l)) q xs

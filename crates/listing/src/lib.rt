@@ -2,13 +2,14 @@
 // places of the chains, which `rising` has put in order. Of a chain only what is noted of it is looked at.
 use chain::Role;
 use placed::MAX_CHAINS;
-use placed::Placed;
+use placed::NOTE_ROOM;
 pub use rising::Rising;
 pub use rising::by_sn;
 use shown::MAX_SITES;
 use shown::Site;
 ghost use mathlib.Core.Path.{_≡_};
 ghost use lib.ListN.{take};
+ghost use Rattle.placed.specs.Notes.{chainsIn};
 ghost use Rattle.rising.specs.Order.{placesIn};
 ghost use Rattle.listing.specs.Sites.{hasSite, sitesAt, SitesHeld};
 ghost use Rattle.listing.specs.Lists.{listsAt, ListsHeld, Counted};
@@ -33,8 +34,8 @@ fn has_site(role: Role) -> bool
 }
 
 // The sites of the chains at some places.
-pub fn sites_by_sn(placed: [Placed; MAX_CHAINS], order: Rising) -> Sites
-    ensures { λ r. ⌜ SitesHeld (sitesAt placed (placesIn order)) r ⌝ }
+pub fn sites_by_sn(notes: &[u32; NOTE_ROOM], order: Rising) -> Sites
+    ensures { λ r. ⌜ SitesHeld (sitesAt (chainsIn (now (notes .entry))) (placesIn order)) r ⌝ }
 {
     let n = placed::in_places(order.count);
     let items = order.items;
@@ -45,7 +46,7 @@ pub fn sites_by_sn(placed: [Placed; MAX_CHAINS], order: Rising) -> Sites
     while i < n {
         let k = items[i];
         if k < MAX_CHAINS {
-            let p = placed[k];
+            let p = placed::placed_at(notes, k);
             let role = p.role;
             if has_site(role) {
                 let site = Site {
@@ -83,8 +84,8 @@ pub struct Lists {
 }
 
 // The lists of the chains at some places.
-pub fn lists_by_sn(placed: [Placed; MAX_CHAINS], order: Rising) -> Lists
-    ensures { λ r. ⌜ ListsHeld (listsAt placed (placesIn order)) r ⌝ }
+pub fn lists_by_sn(notes: &[u32; NOTE_ROOM], order: Rising) -> Lists
+    ensures { λ r. ⌜ ListsHeld (listsAt (chainsIn (now (notes .entry))) (placesIn order)) r ⌝ }
 {
     let n = placed::in_places(order.count);
     let items = order.items;
@@ -95,7 +96,7 @@ pub fn lists_by_sn(placed: [Placed; MAX_CHAINS], order: Rising) -> Lists
     while i < n {
         let k = items[i];
         if k < MAX_CHAINS {
-            let p = placed[k];
+            let p = placed::placed_at(notes, k);
             let list = Listed {
                 sn: p.sn,
                 count: p.count,

@@ -1,2 +1,3 @@
 pub mod Laws
+pub mod Notes
 pub mod Ready

@@ -3,7 +3,10 @@ use chain::Role;
 use drawable::Shape;
 use drawable::Shapes;
 ghost use mathlib.Core.Path.{_≡_};
-ghost use Prim.Native.Nat.{min};
+ghost use mathlib.Core.List.{[], _∷_};
+ghost use Prim.Native.Nat.{min, _+_, _≤_, _%_};
+ghost use lib.ListN.{length, take, drop, getD, set};
+ghost use Rattle.placed.specs.Notes.{roleCode, roleIn, flagCode, nowhere, placedIn, numbersOf, chainsIn, Stored};
 ghost use Rattle.placed.specs.Fragment.{ShapeAt};
 pub use atoms::in_room;
 pub use drawable::MAX_CHAINS;
@@ -25,6 +28,148 @@ pub struct Placed {
     pub floats: u16,
     pub total: u16,
     pub float_count: u16,
+}
+
+// Room for what is kept of four chains, twelve numbers each: a lent array of numbers, since one of structs is copied at every call.
+pub const NOTE_ROOM: usize = 48;
+
+fn role_code(role: Role) -> u32
+    ensures { λ r. ⌜ r ≡ roleCode role ⌝ }
+{
+    match role {
+        Role::Slot => 0,
+        Role::Acyl => 1,
+        Role::Base => 2,
+    }
+}
+
+fn role_in(code: u32) -> Role
+    ensures { λ r. ⌜ r ≡ roleIn code ⌝ }
+{
+    if code == 0 {
+        return Role::Slot;
+    }
+    if code == 1 {
+        return Role::Acyl;
+    }
+    Role::Base
+}
+
+fn flag_code(flag: bool) -> u32
+    ensures { λ r. ⌜ r ≡ flagCode flag ⌝ }
+{
+    if flag {
+        return 1;
+    }
+    0
+}
+
+// Past the last chain.
+fn nowhere() -> Placed
+    ensures { λ r. ⌜ r ≡ nowhere ⌝ }
+{
+    Placed {
+        sn: 0,
+        role: Role::Slot,
+        first: 0,
+        site: 0,
+        variable: 0,
+        count: 0,
+        acyl: false,
+        unlocated: 0,
+        flexible: 0,
+        floats: 0,
+        total: 0,
+        float_count: 0,
+    }
+}
+
+fn narrow(n: u32) -> u16
+    ensures { λ r. ⌜ r ≡ n % 65536 ⌝ }
+{
+    (n % 65536) as u16
+}
+
+fn wide(n: u16) -> u32
+    ensures { λ r. ⌜ r ≡ n ⌝ }
+{
+    n as u32
+}
+
+// What twelve numbers say of a chain.
+fn read_chain(notes: &[u32; NOTE_ROOM], b: usize) -> Placed
+    requires { ⌜ b + 12 ≤ 48 ⌝ }
+    ensures { λ r. ⌜ r ≡ placedIn (take 12 (drop b (now (notes .entry)))) ⌝ }
+{
+    Placed {
+        sn: (notes[b] % 256) as u8,
+        role: role_in(notes[b + 1]),
+        first: notes[b + 2],
+        site: notes[b + 3],
+        variable: notes[b + 4],
+        count: narrow(notes[b + 5]),
+        acyl: notes[b + 6] == 1,
+        unlocated: narrow(notes[b + 7]),
+        flexible: narrow(notes[b + 8]),
+        floats: narrow(notes[b + 9]),
+        total: narrow(notes[b + 10]),
+        float_count: narrow(notes[b + 11]),
+    }
+}
+
+// What is kept of the chain at a place; past the last, nothing.
+pub fn placed_at(notes: &[u32; NOTE_ROOM], i: usize) -> Placed
+    ensures { λ r. ⌜ r ≡ getD (chainsIn (now (notes .entry))) i nowhere ⌝ }
+{
+    if MAX_CHAINS <= i {
+        return nowhere();
+    }
+    read_chain(notes, 12 * i)
+}
+// Four numbers from a place on.
+fn put_four(notes: &mut [u32], at: usize, a: u32, b: u32, c: u32, d: u32)
+    requires { ⌜ at + 4 ≤ length (now notes) ⌝ }
+    ensures { λ _. ⌜ Stored (now (notes .entry)) at (a ∷ b ∷ c ∷ d ∷ []) (now (notes .exit)) ⌝ }
+{
+    notes[at] = a;
+    notes[at + 1] = b;
+    notes[at + 2] = c;
+    notes[at + 3] = d;
+}
+
+// The twelve numbers of a chain from a place on.
+fn put_chain(notes: &mut [u32], at: usize, p: Placed)
+    requires { ⌜ at + 12 ≤ length (now notes) ⌝ }
+    ensures { λ _. ⌜ Stored (now (notes .entry)) at (numbersOf p) (now (notes .exit)) ⌝ }
+{
+    let role = p.role;
+    put_four(notes, at, p.sn as u32, role_code(role), p.first, p.site);
+    put_four(
+        notes,
+        at + 4,
+        p.variable,
+        wide(p.count),
+        flag_code(p.acyl),
+        wide(p.unlocated),
+    );
+    put_four(
+        notes,
+        at + 8,
+        wide(p.flexible),
+        wide(p.floats),
+        wide(p.total),
+        wide(p.float_count),
+    );
+}
+
+// What is kept of a chain, noted at a place; past the last there is no room.
+pub fn note(notes: &mut [u32; NOTE_ROOM], i: usize, p: Placed)
+    ensures { λ _. ⌜ chainsIn (now (notes .exit)) ≡ set (chainsIn (now (notes .entry))) i p ⌝ }
+{
+    if i < MAX_CHAINS {
+        put_chain(notes, 12 * i, p);
+        return;
+    }
 }
 
 // How many chains there are.

@@ -89,12 +89,12 @@ pub falls-none : (l : List Placed) (n : ℕ) → FallsBehind l n n 0
 unfolding snsOf Falling
 falls-none l n = rw (drop-past l n) tt
 
-pub falls-more : (l : List Placed) (n i last : ℕ) (d : Placed) → length l ≡ 4 → n ≤ 4 → 0 < i → i ≤ n → last < getD l (i - 1) d .sn → FallsBehind l n i last
-    → FallsBehind l n (i - 1) (getD l (i - 1) d .sn)
+pub falls-more : (l : List Placed) (n i last : ℕ) (p d : Placed) → length l ≡ 4 → n ≤ 4 → 0 < i → i ≤ n → p ≡ getD l (i - 1) d → last < p .sn → FallsBehind l n i last
+    → FallsBehind l n (i - 1) (p .sn)
 unfolding snsOf Falling
-falls-more l n i last d k few h g up f =
-    rw (take-behind l i n d h g (omega arith))
-    (omega arith, omega arith, higher (suc last) (getD l (i - 1) d .sn) (snsOf (drop i (take n l))) f (omega arith))
+falls-more l n i last p d k few h g e up f =
+    rw (take-behind l i n d h g (omega arith), ← e)
+    (omega arith, omega arith, higher (suc last) (p .sn) (snsOf (drop i (take n l))) f (omega arith))
 
 pub falls-not : (ps : List Placed) → Falls ps false
 falls-not ps = record { told = λ e. absurd (false≢true e) }

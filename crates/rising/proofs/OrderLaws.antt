@@ -117,13 +117,14 @@ unfolding snsOf
 behind-none l xs n = rw (drop-past xs n, drop-past l n) refl
 
 module _ (l : List Placed) (k : length l ≡ 4) (n i : ℕ) (few : n ≤ 4) (h : 0 < i) (g : i ≤ n) where
-  pub behind-more : (xs : List ℕ) (d : Placed) → length xs ≡ 4 → drop i (take n xs) ≡ snsOf (drop i (take n l))
-      → drop (i - 1) (take n (set xs (i - 1) (getD l (i - 1) d .sn))) ≡ snsOf (drop (i - 1) (take n l))
+  pub behind-more : (xs : List ℕ) (p d : Placed) → length xs ≡ 4 → p ≡ getD l (i - 1) d → drop i (take n xs) ≡ snsOf (drop i (take n l))
+      → drop (i - 1) (take n (set xs (i - 1) (p .sn))) ≡ snsOf (drop (i - 1) (take n l))
   unfolding snsOf
-  behind-more xs d m e =
+  behind-more xs p d m q e =
       let s : suc (i - 1) ≡ i = omega arith in
-      (set-here xs (i - 1) n (getD l (i - 1) d .sn) (omega arith) (omega arith) ∙ ap (λ (j : ℕ). getD l (i - 1) d .sn ∷ drop j (take n xs)) s)
-      ∙ (ap (λ (z : List ℕ). getD l (i - 1) d .sn ∷ z) e ∙ sym (ap snsOf (take-behind l i n d h g (omega arith))))
+      let all : drop (i - 1) (take n l) ≡ p ∷ drop i (take n l) = rw q (take-behind l i n d h g (omega arith)) in
+      (set-here xs (i - 1) n (p .sn) (omega arith) (omega arith) ∙ ap (λ (j : ℕ). p .sn ∷ drop j (take n xs)) s)
+      ∙ (ap (λ (z : List ℕ). p .sn ∷ z) e ∙ sym (ap snsOf all))
 
 pub behind-all : (l : List Placed) (xs : List ℕ) (n i : ℕ) → i ≤ 0 → drop i (take n xs) ≡ snsOf (drop i (take n l)) → take n xs ≡ snsOf (take n l)
 behind-all l xs n i h e = let z : i ≡ 0 = omega arith in rw z at e

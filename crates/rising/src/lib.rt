@@ -1,12 +1,13 @@
 // The chains of a line by rising sn. They stand in the line in the order of the text; here they are put in order, once for all that goes
 // by sn, as their places in that text. In nearly every class the text has them by falling sn, so that the last goes first; only CL has them
-// otherwise. The chains are looked at from the last on: their array is then copied whole, and not in the parts that are looked at.
+// otherwise.
 use placed::MAX_CHAINS;
-use placed::Placed;
+use placed::NOTE_ROOM;
 ghost use mathlib.Core.Path.{_≡_};
 ghost use mathlib.Core.List.{[], _∷_};
 ghost use Prim.Native.Nat.{_-_, _≤_};
 ghost use lib.ListN.{take};
+ghost use Rattle.placed.specs.Notes.{chainsIn};
 ghost use Rattle.rising.specs.Four.{Added};
 ghost use Rattle.rising.specs.Order.{snsOf, placesOf, Falls, InOrder};
 
@@ -18,16 +19,16 @@ pub struct Rising {
 
 // ---- where the sns fall
 
-// Whether the sns of the first n chains fall, from 4 at most to 1 at least.
-fn falling(placed: [Placed; MAX_CHAINS], n: usize) -> bool
+// Whether the sns of the first n chains fall, from 4 at most to 1 at least: from the last chain on they rise.
+fn falling(notes: &[u32; NOTE_ROOM], n: usize) -> bool
     requires { ⌜ n ≤ 4 ⌝ }
-    ensures { λ r. ⌜ Falls (take n placed) r ⌝ }
+    ensures { λ r. ⌜ Falls (take n (chainsIn (now (notes .entry)))) r ⌝ }
 {
     let mut last = 0;
     let mut i = n;
     while 0 < i {
         i -= 1;
-        let p = placed[i];
+        let p = placed::placed_at(notes, i);
         let sn = p.sn;
         if sn <= last {
             return false;
@@ -53,15 +54,15 @@ fn behind(n: usize, k: usize) -> usize
 // ---- where they do not
 
 // The sns of the first n chains, which are gone through four times.
-fn sns_of(placed: [Placed; MAX_CHAINS], n: usize) -> [u8; MAX_CHAINS]
+fn sns_of(notes: &[u32; NOTE_ROOM], n: usize) -> [u8; MAX_CHAINS]
     requires { ⌜ n ≤ 4 ⌝ }
-    ensures { λ r. ⌜ take n r ≡ snsOf (take n placed) ⌝ }
+    ensures { λ r. ⌜ take n r ≡ snsOf (take n (chainsIn (now (notes .entry)))) ⌝ }
 {
     let mut sns = [0u8; MAX_CHAINS];
     let mut i = n;
     while 0 < i {
         i -= 1;
-        let p = placed[i];
+        let p = placed::placed_at(notes, i);
         sns[i] = p.sn;
     }
     sns
@@ -103,11 +104,11 @@ fn add_sn(
 }
 
 // The places of those with an sn from 1 to 4, one sn after the other.
-fn in_turn(placed: [Placed; MAX_CHAINS], n: usize) -> Rising
+fn in_turn(notes: &[u32; NOTE_ROOM], n: usize) -> Rising
     requires { ⌜ n ≤ 4 ⌝ }
-    ensures { λ r. ⌜ InOrder (take n placed) r ⌝ }
+    ensures { λ r. ⌜ InOrder (take n (chainsIn (now (notes .entry)))) r ⌝ }
 {
-    let sns = sns_of(placed, n);
+    let sns = sns_of(notes, n);
     let mut items = [0usize; MAX_CHAINS];
     let a = add_sn(&mut items, 0, sns, n, 1);
     let b = add_sn(&mut items, a, sns, n, 2);
@@ -119,16 +120,16 @@ fn in_turn(placed: [Placed; MAX_CHAINS], n: usize) -> Rising
 // ---- all of them
 
 // The places of all chains with an sn from 1 to 4.
-pub fn by_sn(placed: [Placed; MAX_CHAINS], count: usize) -> Rising
-    ensures { λ r. ⌜ InOrder (take count placed) r ⌝ }
+pub fn by_sn(notes: &[u32; NOTE_ROOM], count: usize) -> Rising
+    ensures { λ r. ⌜ InOrder (take count (chainsIn (now (notes .entry)))) r ⌝ }
 {
     let n = placed::in_places(count);
-    if falling(placed, n) {
+    if falling(notes, n) {
         let a = behind(n, 1);
         let b = behind(n, 2);
         let c = behind(n, 3);
         let items = [a, b, c, 0];
         return Rising { count: n, items };
     }
-    in_turn(placed, n)
+    in_turn(notes, n)
 }

@@ -26,8 +26,8 @@ use Rattle.placed.specs.declared.Placed.{Placed}
 use Rattle.builder.specs.declared.Builder.{Builder}
 use Rattle.placed.specs.Fragment.{noted, indexList, rowsOf, gathered}
 use Rattle.placed.proofs.Laws.{gathered-append}
-use Rattle.strand.specs.Strand.{Rooms, rooms, Sizes}
-use Rattle.builder.specs.Build.{Fresh, Counts, Kept, FixedPushed, FitsElement, Pushed}
+use Rattle.builder.proofs.Pushes.{placed-kept}
+use Rattle.builder.specs.Build.{Rooms, rooms, Sizes, Fresh, placedIn, Counts, Kept, FixedPushed, FitsElement, Pushed}
 use Rattle.templates.specs.Templates.{FitsAll, Built, TailOf}
 
 -- ---- an element leads to no less
@@ -104,19 +104,19 @@ pub record Short (x : Rooms) : Type 0 where
 pub sizes-then : {x y z : Rooms} → Sizes x y → Sizes y z → Sizes x z
 sizes-then a b = record { text = b .text ∙ a .text; index = b .index ∙ a .index; rows = b .rows ∙ a .rows }
 
-pub sizes-fixed : {s : List ℕ} {k : ℕ} {xs ys is rs : List ℕ} {b q : Builder} → FixedPushed s k xs b ys q → Sizes (rooms xs is rs) (rooms ys is rs)
+pub sizes-fixed : {s : List ℕ} {k : ℕ} {xs ys is rs ns : List ℕ} {b q : Builder} → FixedPushed s k xs b ys q → Sizes (rooms xs is rs ns) (rooms ys is rs ns)
 sizes-fixed w = record { text = written-length (w .text); index = refl; rows = refl }
 
 -- ---- one element more
 
 pub built-none : (t : List ℕ) (ds : List Chain) (xs : Rooms) (b : Builder) → Fresh b → Built t ds [] xs xs b
-unfolding atomsFrom variablesFrom labelsFrom placedFrom allItems templatePieces show gathered
+unfolding atomsFrom variablesFrom labelsFrom placedFrom allItems templatePieces show gathered placedIn
 built-none t ds xs b f =
     record {
       text = rw (f .at) (written-nil (xs .text) 0 (omega arith));
       index = rw (f .used) (written-nil (xs .index) 0 (omega arith));
       rows = rw (f .rows) (written-nil (xs .rows) 0 (omega arith));
-      counts = record { atoms = f .atoms; variables = f .variables; labels = f .labels; placed = f .placed };
+      counts = record { atoms = f .atoms; variables = f .variables; labels = f .labels; placed = rw (f .count) };
     }
 
 -- what is gathered from one element more
@@ -126,7 +126,7 @@ gathered-snoc g t ds es e = rw (placed-snoc t ds es 0 0 e) (gathered-append g (p
 
 pub built-step : (t : List ℕ) (ds : List Chain) (es : List Element) (e : Element) (rest : List Element) {xs ys zs : Rooms} {b q : Builder} → Short xs
     → FitsAll t ds (es ++ e ∷ rest)
-    → ((n v l : ℕ) (ps : List Placed) → Counts b n v l ps → FitsElement t ds e n v l ps → Pushed t ds e n v l ps ys b zs q)
+    → ((n v l : ℕ) (ps : List Placed) → Counts b (ys .notes) n v l ps → FitsElement t ds e n v l ps → Pushed t ds e n v l ps ys b zs q)
     → Built t ds es xs ys b → Built t ds (es ++ e ∷ []) xs zs q
 built-step t ds es e rest {xs} {ys} {zs} {b} {q} g f push u =
     let f₁ : FitsAll t ds ((es ++ e ∷ []) ++ rest) = rw (append-assoc es (e ∷ []) rest) f in
@@ -155,10 +155,10 @@ pub record Own (s : List ℕ) (k : ℕ) : Type 0 where
 written-kept : (xs : List ℕ) {a b : ℕ} → Kept a b → Written xs a [] xs b
 written-kept xs {a} k = rw (k .is) (written-nil xs a (k .small))
 
-pub fixed-pushed : (t : List ℕ) (ds : List Chain) {s : List ℕ} {k : ℕ} {xs ys is rs : List ℕ} {b q : Builder} → Own s k → FixedPushed s k xs b ys q
-    → (n v l : ℕ) (ps : List Placed) → Counts b n v l ps → FitsElement t ds (fixed s) n v l ps → Pushed t ds (fixed s) n v l ps (rooms xs is rs) b (rooms ys is rs) q
+pub fixed-pushed : (t : List ℕ) (ds : List Chain) {s : List ℕ} {k : ℕ} {xs ys is rs ns : List ℕ} {b q : Builder} → Own s k → FixedPushed s k xs b ys q
+    → (n v l : ℕ) (ps : List Placed) → Counts b ns n v l ps → FitsElement t ds (fixed s) n v l ps → Pushed t ds (fixed s) n v l ps (rooms xs is rs ns) b (rooms ys is rs ns) q
 unfolding elementAtoms elementVariables elementLabels elementPlaced chainIn itemsOf gathered
-fixed-pushed t ds {s = s} {is = is} {rs = rs} o w n v l ps c f =
+fixed-pushed t ds {s = s} {is = is} {rs = rs} {ns = ns} {b = b} {q = q} o w n v l ps c f =
     record {
       text = rw (pieces-own (fixedPieces s) l, o .shown) (w .text);
       index = written-kept is (w .used);
@@ -168,14 +168,14 @@ fixed-pushed t ds {s = s} {is = is} {rs = rs} o w n v l ps c f =
             atoms = omega (arith, w .atoms, c .atoms, o .size, f .atoms);
             variables = ap (λ (a : Variables). a .0) (w .variables) ∙ c .variables;
             labels = ap (λ (a : Labels). a .0) (w .labels) ∙ c .labels;
-            placed = w .placed ∙ (c .placed ∙ sym (append-nil ps));
+            placed = placed-kept ns q b (w .count) ∙ (c .placed ∙ sym (append-nil ps));
           };
     }
 
-pub tail-pushed : {t : List ℕ} (ds : List Chain) {k : ℕ} {xs ys is rs : List ℕ} {b q : Builder} → TailOf t k → FixedPushed t k xs b ys q
-    → (n v l : ℕ) (ps : List Placed) → Counts b n v l ps → FitsElement t ds tail n v l ps → Pushed t ds tail n v l ps (rooms xs is rs) b (rooms ys is rs) q
+pub tail-pushed : {t : List ℕ} (ds : List Chain) {k : ℕ} {xs ys is rs ns : List ℕ} {b q : Builder} → TailOf t k → FixedPushed t k xs b ys q
+    → (n v l : ℕ) (ps : List Placed) → Counts b ns n v l ps → FitsElement t ds tail n v l ps → Pushed t ds tail n v l ps (rooms xs is rs ns) b (rooms ys is rs ns) q
 unfolding elementAtoms elementVariables elementLabels elementPlaced chainIn itemsOf templatePieces itemPieces gathered
-tail-pushed {t} ds {is = is} {rs = rs} o w n v l ps c f =
+tail-pushed {t} ds {is = is} {rs = rs} {ns = ns} {b = b} {q = q} o w n v l ps c f =
     record {
       text = rw (append-nil (tailPart t .pieces), o .shown) (w .text);
       index = written-kept is (w .used);
@@ -185,7 +185,7 @@ tail-pushed {t} ds {is = is} {rs = rs} o w n v l ps c f =
             atoms = omega (arith, w .atoms, c .atoms, o .size, f .atoms);
             variables = ap (λ (a : Variables). a .0) (w .variables) ∙ c .variables;
             labels = ap (λ (a : Labels). a .0) (w .labels) ∙ c .labels;
-            placed = w .placed ∙ (c .placed ∙ sym (append-nil ps));
+            placed = placed-kept ns q b (w .count) ∙ (c .placed ∙ sym (append-nil ps));
           };
     }
 
@@ -193,7 +193,7 @@ tail-pushed {t} ds {is = is} {rs = rs} o w n v l ps c f =
 
 -- a push of an element, whatever numbers the builder has before it
 abbrev pub Step : List ℕ → List Chain → Element → Rooms → Builder → Rooms → Builder → Type 0
-Step t ds e xs b ys q = (n v l : ℕ) (ps : List Placed) → Counts b n v l ps → FitsElement t ds e n v l ps → Pushed t ds e n v l ps xs b ys q
+Step t ds e xs b ys q = (n v l : ℕ) (ps : List Placed) → Counts b (xs .notes) n v l ps → FitsElement t ds e n v l ps → Pushed t ds e n v l ps xs b ys q
 
 pub data Steps (t : List ℕ) (ds : List Chain) : List Element → Rooms → Builder → Rooms → Builder → Type 0 where
   done : (xs : Rooms) (b : Builder) → Steps t ds [] xs b xs b

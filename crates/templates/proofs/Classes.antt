@@ -7,8 +7,8 @@ use Rattle.drawable.specs.Chains.{Chains}
 use Rattle.template.specs.declared.Class.{Class}
 use Rattle.template.specs.declared.Class.the-variants.{Fa, Gl1, Gl2, Gl3, Gp, Cl, Sb, Sa}
 use Rattle.template.specs.Template.{elements, glycerol, roleOf}
-use Rattle.strand.specs.Strand.{Rooms}
 use Rattle.builder.specs.declared.Builder.{Builder}
+use Rattle.builder.specs.Build.{Rooms}
 use Rattle.templates.specs.Templates.{allSlots, Tailless, Tailed}
 use Rattle.templates.specs.Classes.{ClassBuilt}
 

@@ -8,8 +8,8 @@ use Rattle.drawable.specs.Chains.{Chains}
 use Rattle.template.specs.declared.Class.{Class}
 use Rattle.template.specs.Template.{elements, roleOf, hasTail}
 use Rattle.placed.specs.Fragment.{Stood}
-use Rattle.strand.specs.Strand.{Rooms, Sizes}
 use Rattle.builder.specs.declared.Builder.{Builder}
+use Rattle.builder.specs.Build.{Rooms, Sizes}
 use Rattle.templates.specs.Templates.{FitsAll, TailOf, Built}
 
 -- the chains of a request, each in its role

@@ -14,9 +14,8 @@ use Rattle.template.specs.Request as request
 use Rattle.template.specs.Request.{allItems, placedFrom, tailPart}
 use Rattle.template.specs.Built.{atomsFrom, variablesFrom, labelsFrom}
 use Rattle.placed.specs.Fragment.{Stood, noted, indexList, rowsOf, gathered}
-use Rattle.strand.specs.Strand.{Rooms, Sizes}
 use Rattle.builder.specs.declared.Builder.{Builder}
-use Rattle.builder.specs.Build.{Counts, Fits}
+use Rattle.builder.specs.Build.{Rooms, Sizes, Counts, Fits}
 
 -- a template of slots alone
 abbrev pub allSlots : ℕ → Role
@@ -31,7 +30,7 @@ pub record BuiltBy (ts : List ℕ) (n v l : ℕ) (cs : List request.Placed) (xs 
   pub text : Written (xs .text) 0 ts (ys .text) (b .at)
   pub index : Written (xs .index) 0 (gathered indexList cs) (ys .index) (b .used)
   pub rows : Written (xs .rows) 0 (gathered rowsOf cs) (ys .rows) (b .rows)
-  pub counts : Counts b n v l (map noted cs)
+  pub counts : Counts b (ys .notes) n v l (map noted cs)
 
 -- some elements of a template
 abbrev pub Built : List ℕ → List Chain → List Element → Rooms → Rooms → Builder → Type 0

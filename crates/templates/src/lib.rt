@@ -4,12 +4,13 @@ use builder::Builder;
 use chain::Role;
 use drawable::Shapes;
 use drawable::chain_part;
+use placed::NOTE_ROOM;
 use placed::shape_at;
 use template::Class;
 ghost use Rattle.template.specs.declared.Class.the-variants.{Fa, Gp, Cl, Sb, Sa};
 ghost use Rattle.template.specs.Template.{elements, glycerol, roleOf};
 ghost use Rattle.drawable.specs.Chains.{chainsOf};
-ghost use Rattle.strand.specs.Strand.{rooms};
+ghost use Rattle.builder.specs.Build.{rooms};
 ghost use Rattle.templates.specs.Templates.{allSlots, Tailless, Tailed};
 ghost use Rattle.templates.specs.Classes.{ClassBuilt};
 
@@ -18,15 +19,16 @@ fn fa_smiles(
     out: &mut [u8],
     index: &mut [u16],
     rows: &mut [u8],
+    notes: &mut [u32; NOTE_ROOM],
     shapes: Shapes,
     lists: &[u64],
 ) -> Builder
-    ensures { λ r. ⌜ Tailless (elements Fa) (roleOf Fa) (chainsOf shapes (now (lists .entry))) (rooms (now (out .entry)) (now (index .entry)) (now (rows .entry))) (rooms (now (out .exit)) (now (index .exit)) (now (rows .exit))) r ⌝ }
+    ensures { λ r. ⌜ Tailless (elements Fa) (roleOf Fa) (chainsOf shapes (now (lists .entry))) (rooms (now (out .entry)) (now (index .entry)) (now (rows .entry)) (now (notes .entry))) (rooms (now (out .exit)) (now (index .exit)) (now (rows .exit)) (now (notes .exit))) r ⌝ }
 {
     let a = Builder::new();
     let b = a.push_fixed(out, b"O", 1);
     let first = shape_at(shapes, 1);
-    b.push_bare(out, index, rows, first, chain_part(lists, 1), 1, Role::Acyl)
+    b.push_bare(out, index, rows, notes, first, chain_part(lists, 1), 1, Role::Acyl)
 }
 
 // GL1, GL2, GL3: `C(C`S3`)(`S2`)C`S1.
@@ -34,21 +36,22 @@ fn glycerolipid_smiles(
     out: &mut [u8],
     index: &mut [u16],
     rows: &mut [u8],
+    notes: &mut [u32; NOTE_ROOM],
     shapes: Shapes,
     lists: &[u64],
 ) -> Builder
-    ensures { λ r. ⌜ Tailless glycerol allSlots (chainsOf shapes (now (lists .entry))) (rooms (now (out .entry)) (now (index .entry)) (now (rows .entry))) (rooms (now (out .exit)) (now (index .exit)) (now (rows .exit))) r ⌝ }
+    ensures { λ r. ⌜ Tailless glycerol allSlots (chainsOf shapes (now (lists .entry))) (rooms (now (out .entry)) (now (index .entry)) (now (rows .entry)) (now (notes .entry))) (rooms (now (out .exit)) (now (index .exit)) (now (rows .exit)) (now (notes .exit))) r ⌝ }
 {
     let a = Builder::new();
     let b = a.push_fixed(out, b"C(C", 2);
     let third = shape_at(shapes, 3);
-    let c = b.push_slot(out, index, rows, third, chain_part(lists, 3), 3);
+    let c = b.push_slot(out, index, rows, notes, third, chain_part(lists, 3), 3);
     let d = c.push_fixed(out, b")(", 0);
     let second = shape_at(shapes, 2);
-    let e = d.push_slot(out, index, rows, second, chain_part(lists, 2), 2);
+    let e = d.push_slot(out, index, rows, notes, second, chain_part(lists, 2), 2);
     let f = e.push_fixed(out, b")C", 1);
     let first = shape_at(shapes, 1);
-    f.push_slot(out, index, rows, first, chain_part(lists, 1), 1)
+    f.push_slot(out, index, rows, notes, first, chain_part(lists, 1), 1)
 }
 
 // GP: `C(C`tail`)(`S2`)C`S1.
@@ -56,22 +59,23 @@ fn gpl_smiles(
     out: &mut [u8],
     index: &mut [u16],
     rows: &mut [u8],
+    notes: &mut [u32; NOTE_ROOM],
     tail: &[u8],
     tail_atoms: u16,
     shapes: Shapes,
     lists: &[u64],
 ) -> Builder
-    ensures { λ r. ⌜ Tailed (now (tail .entry)) «tail_atoms» (elements Gp) (roleOf Gp) (chainsOf shapes (now (lists .entry))) (rooms (now (out .entry)) (now (index .entry)) (now (rows .entry))) (rooms (now (out .exit)) (now (index .exit)) (now (rows .exit))) r ⌝ }
+    ensures { λ r. ⌜ Tailed (now (tail .entry)) «tail_atoms» (elements Gp) (roleOf Gp) (chainsOf shapes (now (lists .entry))) (rooms (now (out .entry)) (now (index .entry)) (now (rows .entry)) (now (notes .entry))) (rooms (now (out .exit)) (now (index .exit)) (now (rows .exit)) (now (notes .exit))) r ⌝ }
 {
     let a = Builder::new();
     let b = a.push_fixed(out, b"C(C", 2);
     let c = b.push_fixed(out, tail, tail_atoms);
     let d = c.push_fixed(out, b")(", 0);
     let second = shape_at(shapes, 2);
-    let e = d.push_slot(out, index, rows, second, chain_part(lists, 2), 2);
+    let e = d.push_slot(out, index, rows, notes, second, chain_part(lists, 2), 2);
     let f = e.push_fixed(out, b")C", 1);
     let first = shape_at(shapes, 1);
-    f.push_slot(out, index, rows, first, chain_part(lists, 1), 1)
+    f.push_slot(out, index, rows, notes, first, chain_part(lists, 1), 1)
 }
 
 // CL: `C(COP(=O)(O)OCC(`S2`)C`S1`)(O)COP(=O)(O)OCC(`S4`)C`S3.
@@ -79,24 +83,25 @@ fn cl_smiles(
     out: &mut [u8],
     index: &mut [u16],
     rows: &mut [u8],
+    notes: &mut [u32; NOTE_ROOM],
     shapes: Shapes,
     lists: &[u64],
 ) -> Builder
-    ensures { λ r. ⌜ Tailless (elements Cl) (roleOf Cl) (chainsOf shapes (now (lists .entry))) (rooms (now (out .entry)) (now (index .entry)) (now (rows .entry))) (rooms (now (out .exit)) (now (index .exit)) (now (rows .exit))) r ⌝ }
+    ensures { λ r. ⌜ Tailless (elements Cl) (roleOf Cl) (chainsOf shapes (now (lists .entry))) (rooms (now (out .entry)) (now (index .entry)) (now (rows .entry)) (now (notes .entry))) (rooms (now (out .exit)) (now (index .exit)) (now (rows .exit)) (now (notes .exit))) r ⌝ }
 {
     let a = Builder::new();
     let b = a.push_fixed(out, b"C(COP(=O)(O)OCC(", 9);
     let second = shape_at(shapes, 2);
-    let c = b.push_slot(out, index, rows, second, chain_part(lists, 2), 2);
+    let c = b.push_slot(out, index, rows, notes, second, chain_part(lists, 2), 2);
     let d = c.push_fixed(out, b")C", 1);
     let first = shape_at(shapes, 1);
-    let e = d.push_slot(out, index, rows, first, chain_part(lists, 1), 1);
+    let e = d.push_slot(out, index, rows, notes, first, chain_part(lists, 1), 1);
     let f = e.push_fixed(out, b")(O)COP(=O)(O)OCC(", 9);
     let fourth = shape_at(shapes, 4);
-    let g = f.push_slot(out, index, rows, fourth, chain_part(lists, 4), 4);
+    let g = f.push_slot(out, index, rows, notes, fourth, chain_part(lists, 4), 4);
     let h = g.push_fixed(out, b")C", 1);
     let third = shape_at(shapes, 3);
-    h.push_slot(out, index, rows, third, chain_part(lists, 3), 3)
+    h.push_slot(out, index, rows, notes, third, chain_part(lists, 3), 3)
 }
 
 // SB: `C(C`tail`)(N)`base from C3.
@@ -104,19 +109,20 @@ fn sphingoid_smiles(
     out: &mut [u8],
     index: &mut [u16],
     rows: &mut [u8],
+    notes: &mut [u32; NOTE_ROOM],
     tail: &[u8],
     tail_atoms: u16,
     shapes: Shapes,
     lists: &[u64],
 ) -> Builder
-    ensures { λ r. ⌜ Tailed (now (tail .entry)) «tail_atoms» (elements Sb) (roleOf Sb) (chainsOf shapes (now (lists .entry))) (rooms (now (out .entry)) (now (index .entry)) (now (rows .entry))) (rooms (now (out .exit)) (now (index .exit)) (now (rows .exit))) r ⌝ }
+    ensures { λ r. ⌜ Tailed (now (tail .entry)) «tail_atoms» (elements Sb) (roleOf Sb) (chainsOf shapes (now (lists .entry))) (rooms (now (out .entry)) (now (index .entry)) (now (rows .entry)) (now (notes .entry))) (rooms (now (out .exit)) (now (index .exit)) (now (rows .exit)) (now (notes .exit))) r ⌝ }
 {
     let a = Builder::new();
     let b = a.push_fixed(out, b"C(C", 2);
     let c = b.push_fixed(out, tail, tail_atoms);
     let d = c.push_fixed(out, b")(N)", 1);
     let first = shape_at(shapes, 1);
-    d.push_bare(out, index, rows, first, chain_part(lists, 1), 1, Role::Base)
+    d.push_bare(out, index, rows, notes, first, chain_part(lists, 1), 1, Role::Base)
 }
 
 // SA: `C(C`tail`)(N`acyl`)`base from C3.
@@ -124,12 +130,13 @@ fn acyl_sphingoid_smiles(
     out: &mut [u8],
     index: &mut [u16],
     rows: &mut [u8],
+    notes: &mut [u32; NOTE_ROOM],
     tail: &[u8],
     tail_atoms: u16,
     shapes: Shapes,
     lists: &[u64],
 ) -> Builder
-    ensures { λ r. ⌜ Tailed (now (tail .entry)) «tail_atoms» (elements Sa) (roleOf Sa) (chainsOf shapes (now (lists .entry))) (rooms (now (out .entry)) (now (index .entry)) (now (rows .entry))) (rooms (now (out .exit)) (now (index .exit)) (now (rows .exit))) r ⌝ }
+    ensures { λ r. ⌜ Tailed (now (tail .entry)) «tail_atoms» (elements Sa) (roleOf Sa) (chainsOf shapes (now (lists .entry))) (rooms (now (out .entry)) (now (index .entry)) (now (rows .entry)) (now (notes .entry))) (rooms (now (out .exit)) (now (index .exit)) (now (rows .exit)) (now (notes .exit))) r ⌝ }
 {
     let a = Builder::new();
     let b = a.push_fixed(out, b"C(C", 2);
@@ -140,6 +147,7 @@ fn acyl_sphingoid_smiles(
         out,
         index,
         rows,
+        notes,
         second,
         chain_part(lists, 2),
         2,
@@ -147,7 +155,7 @@ fn acyl_sphingoid_smiles(
     );
     let f = e.push_fixed(out, b")", 0);
     let first = shape_at(shapes, 1);
-    f.push_bare(out, index, rows, first, chain_part(lists, 1), 1, Role::Base)
+    f.push_bare(out, index, rows, notes, first, chain_part(lists, 1), 1, Role::Base)
 }
 
 // The template of a class, with the chains of the request.
@@ -155,22 +163,23 @@ pub fn class_smiles(
     out: &mut [u8],
     index: &mut [u16],
     rows: &mut [u8],
+    notes: &mut [u32; NOTE_ROOM],
     class: Class,
     tail: &[u8],
     tail_atoms: u16,
     shapes: Shapes,
     lists: &[u64],
 ) -> Builder
-    ensures { λ r. ⌜ ClassBuilt class (now (tail .entry)) «tail_atoms» (chainsOf shapes (now (lists .entry))) (rooms (now (out .entry)) (now (index .entry)) (now (rows .entry))) (rooms (now (out .exit)) (now (index .exit)) (now (rows .exit))) r ⌝ }
+    ensures { λ r. ⌜ ClassBuilt class (now (tail .entry)) «tail_atoms» (chainsOf shapes (now (lists .entry))) (rooms (now (out .entry)) (now (index .entry)) (now (rows .entry)) (now (notes .entry))) (rooms (now (out .exit)) (now (index .exit)) (now (rows .exit)) (now (notes .exit))) r ⌝ }
 {
     match class {
-        Class::Fa => fa_smiles(out, index, rows, shapes, lists),
-        Class::Gl1 => glycerolipid_smiles(out, index, rows, shapes, lists),
-        Class::Gl2 => glycerolipid_smiles(out, index, rows, shapes, lists),
-        Class::Gl3 => glycerolipid_smiles(out, index, rows, shapes, lists),
-        Class::Gp => gpl_smiles(out, index, rows, tail, tail_atoms, shapes, lists),
-        Class::Cl => cl_smiles(out, index, rows, shapes, lists),
-        Class::Sb => sphingoid_smiles(out, index, rows, tail, tail_atoms, shapes, lists),
-        Class::Sa => acyl_sphingoid_smiles(out, index, rows, tail, tail_atoms, shapes, lists),
+        Class::Fa => fa_smiles(out, index, rows, notes, shapes, lists),
+        Class::Gl1 => glycerolipid_smiles(out, index, rows, notes, shapes, lists),
+        Class::Gl2 => glycerolipid_smiles(out, index, rows, notes, shapes, lists),
+        Class::Gl3 => glycerolipid_smiles(out, index, rows, notes, shapes, lists),
+        Class::Gp => gpl_smiles(out, index, rows, notes, tail, tail_atoms, shapes, lists),
+        Class::Cl => cl_smiles(out, index, rows, notes, shapes, lists),
+        Class::Sb => sphingoid_smiles(out, index, rows, notes, tail, tail_atoms, shapes, lists),
+        Class::Sa => acyl_sphingoid_smiles(out, index, rows, notes, tail, tail_atoms, shapes, lists),
     }
 }

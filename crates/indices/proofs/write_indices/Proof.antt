@@ -2,9 +2,10 @@ use native.Mathlib.Omega.{arith}
 use Prim.Native.Nat.{_≤_, _-_, min}
 use mathlib.Core.Path.{_≡_}
 use lib.ListN.{length, take}
-use Rattle.record.proofs.Laws.{length-mapped}
 use Rattle.emit.specs.Text.{Written}
 use Rattle.emit.proofs.Laws.{written-length}
+use Rattle.placed.specs.Notes.{chainsIn}
+use Rattle.placed.proofs.Notes.{length-chains}
 use Rattle.indices.specs.Index.{indicesAt}
 use Rattle.indices.proofs.IndexLaws.{indices-none, indices-more, indices-past, indices-all}
 use borrow.Author.Needs.{needs}
@@ -12,16 +13,16 @@ use Rattle.indices.proofs.write_indices.Statement.{statement}
 use Rattle.indices.proofs.write_indices.Tie as tie
 
 abbrev Inv-loop : tie.InvT-loop
-Inv-loop out₀ numbers placed n items q₀ i₀ out q i = (i ≤ n) × (n ≤ 4) × (length items ≡ 4) × (length placed ≡ 4) × Written out₀ 0 (indicesAt placed numbers (take i items)) out q
+Inv-loop out₀ numbers notes n items q₀ i₀ out q i = (i ≤ n) × (n ≤ 4) × (length items ≡ 4) × Written out₀ 0 (indicesAt (chainsIn notes) numbers (take i items)) out q
 
 abbrev μ-loop : tie.MeasureT-loop
-μ-loop out₀ numbers placed n items q₀ i₀ out q i = n - i
+μ-loop out₀ numbers notes n items q₀ i₀ out q i = n - i
 
 in-places-requires : tie.Need-in-places-requires Inv-loop μ-loop
 in-places-requires c κs = search needs
 
 loop-holds : tie.Need-loop-holds Inv-loop μ-loop
-loop-holds c = (omega arith, omega arith, search needs, search length-mapped, indices-none _ _ _)
+loop-holds c = (omega arith, omega arith, search needs, indices-none _ _ _)
 
 mul-k : tie.Need-mul-k Inv-loop μ-loop
 mul-k c = search needs
@@ -29,11 +30,8 @@ mul-k c = search needs
 array-read-k : tie.Need-array-read-k Inv-loop μ-loop
 array-read-k c = search needs
 
-mul-p : tie.Need-mul-p Inv-loop μ-loop
-mul-p c = search needs
-
-array-copy-out-p : tie.Need-array-copy-out-p Inv-loop μ-loop
-array-copy-out-p c = search needs
+placed-at-requires : tie.Need-placed-at-requires Inv-loop μ-loop
+placed-at-requires c κs = search needs
 
 start-of-requires : tie.Need-start-of-requires Inv-loop μ-loop
 start-of-requires c κs = search needs
@@ -51,7 +49,7 @@ loop-less : tie.Need-loop-less Inv-loop μ-loop
 loop-less c = search needs
 
 loop-again : tie.Need-loop-again Inv-loop μ-loop
-loop-again c = let v = c .before .before .before .before .before .before .before .before .before .loop in (omega arith, omega arith, search needs, search needs, indices-more _ _ _ (v .i) _ _ _ (omega arith) (v .inv .3) (v .inv .2) (v .inv .1) (c .before .before .before .before .before .before .before .before .loop-test .taken) (c .before .before .before .before .before .before .before .if1 .taken) (c .before .before .before .before .before .start-of .ensures) (v .inv .4) (c .before .before .put-part .ensures))
+loop-again c = let v = c .before .before .before .before .before .before .before .before .before .loop in (omega arith, omega arith, search needs, indices-more _ _ _ (v .i) _ _ _ _ (omega arith) (length-chains _) (v .inv .2) (v .inv .1) (c .before .before .before .before .before .before .before .before .loop-test .taken) (c .before .before .before .before .before .before .before .if1 .taken) (c .before .before .before .before .before .before .placed-at .ensures) (c .before .before .before .before .before .start-of .ensures) (v .inv .3) (c .before .before .put-part .ensures))
 
 add-i-2 : tie.Need-add-i-2 Inv-loop μ-loop
 add-i-2 c = search needs
@@ -60,7 +58,7 @@ loop-less-2 : tie.Need-loop-less-2 Inv-loop μ-loop
 loop-less-2 c = search needs
 
 loop-again-2 : tie.Need-loop-again-2 Inv-loop μ-loop
-loop-again-2 c = (omega arith, omega arith, search needs, search needs, search indices-past)
+loop-again-2 c = (omega arith, omega arith, search needs, search (indices-past, length-chains))
 
 same-length : tie.Need-same-length Inv-loop μ-loop
 same-length c = search written-length
@@ -78,8 +76,7 @@ write-indices-spec =
     loop-holds
     mul-k
     array-read-k
-    mul-p
-    array-copy-out-p
+    placed-at-requires
     start-of-requires
     cast-put-part
     put-part-requires

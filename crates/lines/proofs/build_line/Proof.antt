@@ -27,10 +27,10 @@ same-length-3 c = search needs
 returns : tie.Need-returns
 returns c =
     let finished = c .before .before in
-    let sited = finished .before .before .before .before in
-    let order = sited .before in
+    let sited = finished .before .before .before .before .before in
+    let order = sited .before .before in
     let built = order .before .before .before .before .before .before .before .before in
-    let start = built .before .before .before .before .before .before .before .before .before in
+    let start = built .before .before .before .before .before .before .before .before .before .before in
     line-built (record { text = start .good .0 .0; index = start .good .1 .0 .0; rows = start .good .1 .1 .0 .0 }) (built .class-smiles .ensures) (order .by-sn .ensures) (sited .sites-by-sn .ensures) (finished .finish .ensures)
 
 pub build-line-spec : {M : Type 1} → statement M

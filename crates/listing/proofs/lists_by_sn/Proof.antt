@@ -2,7 +2,8 @@ use native.Mathlib.Omega.{arith}
 use Prim.Native.Nat.{_≤_, _-_}
 use mathlib.Core.Path.{_≡_}
 use lib.ListN.{length, take}
-use Rattle.record.proofs.Laws.{length-mapped}
+use Rattle.placed.specs.Notes.{chainsIn}
+use Rattle.placed.proofs.Notes.{length-chains}
 use Rattle.rising.specs.Four.{Filled}
 use Rattle.listing.specs.Lists.{noList, listsAt}
 use Rattle.listing.proofs.ListsLaws.{lists-first, lists-more, lists-past, lists-all}
@@ -11,16 +12,16 @@ use Rattle.listing.proofs.lists_by_sn.Statement.{statement}
 use Rattle.listing.proofs.lists_by_sn.Tie as tie
 
 abbrev Inv-loop : tie.InvT-loop
-Inv-loop placed n items lists₀ count₀ i₀ lists count i = (i ≤ n) × (n ≤ 4) × (count ≤ i) × (length items ≡ 4) × (length placed ≡ 4) × (length lists ≡ 4) × Filled noList (listsAt placed (take i items)) count lists
+Inv-loop notes n items lists₀ count₀ i₀ lists count i = (i ≤ n) × (n ≤ 4) × (count ≤ i) × (length items ≡ 4) × (length lists ≡ 4) × Filled noList (listsAt (chainsIn notes) (take i items)) count lists
 
 abbrev μ-loop : tie.MeasureT-loop
-μ-loop placed n items lists₀ count₀ i₀ lists count i = n - i
+μ-loop notes n items lists₀ count₀ i₀ lists count i = n - i
 
 in-places-requires : tie.Need-in-places-requires Inv-loop μ-loop
 in-places-requires c κs = search needs
 
 loop-holds : tie.Need-loop-holds Inv-loop μ-loop
-loop-holds c = (omega arith, omega arith, omega arith, search needs, search length-mapped, search needs, lists-first _)
+loop-holds c = (omega arith, omega arith, omega arith, search needs, search needs, lists-first _)
 
 mul-k : tie.Need-mul-k Inv-loop μ-loop
 mul-k c = search needs
@@ -28,11 +29,8 @@ mul-k c = search needs
 array-read-k : tie.Need-array-read-k Inv-loop μ-loop
 array-read-k c = search needs
 
-mul-p : tie.Need-mul-p Inv-loop μ-loop
-mul-p c = search needs
-
-array-copy-out-p : tie.Need-array-copy-out-p Inv-loop μ-loop
-array-copy-out-p c = search needs
+placed-at-requires : tie.Need-placed-at-requires Inv-loop μ-loop
+placed-at-requires c κs = search needs
 
 mul-lists : tie.Need-mul-lists Inv-loop μ-loop
 mul-lists c = search needs
@@ -50,7 +48,7 @@ loop-less : tie.Need-loop-less Inv-loop μ-loop
 loop-less c = search needs
 
 loop-again : tie.Need-loop-again Inv-loop μ-loop
-loop-again c = (omega arith, omega arith, omega arith, search needs, search needs, search needs, search lists-more)
+loop-again c = let v = c .before .before .before .loop in (omega arith, omega arith, omega arith, search needs, search needs, lists-more _ _ _ _ _ _ _ _ (length-chains _) (v .inv .3) (v .inv .1) (c .before .before .loop-test .taken) (c .before .if1 .taken) (v .inv .2) (c .placed-at .ensures) (v .inv .5))
 
 add-i-2 : tie.Need-add-i-2 Inv-loop μ-loop
 add-i-2 c = search needs
@@ -59,7 +57,7 @@ loop-less-2 : tie.Need-loop-less-2 Inv-loop μ-loop
 loop-less-2 c = search needs
 
 loop-again-2 : tie.Need-loop-again-2 Inv-loop μ-loop
-loop-again-2 c = (omega arith, omega arith, omega arith, search needs, search needs, search needs, search lists-past)
+loop-again-2 c = (omega arith, omega arith, omega arith, search needs, search needs, search (lists-past, length-chains))
 
 returns : tie.Need-returns Inv-loop μ-loop
 returns c = search lists-all
@@ -74,8 +72,7 @@ lists-by-sn-spec =
     loop-holds
     mul-k
     array-read-k
-    mul-p
-    array-copy-out-p
+    placed-at-requires
     mul-lists
     array-set-from-lists
     add-count

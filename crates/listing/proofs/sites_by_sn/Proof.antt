@@ -2,7 +2,8 @@ use native.Mathlib.Omega.{arith}
 use Prim.Native.Nat.{_≤_, _-_}
 use mathlib.Core.Path.{_≡_}
 use lib.ListN.{length, take}
-use Rattle.record.proofs.Laws.{length-mapped}
+use Rattle.placed.specs.Notes.{chainsIn}
+use Rattle.placed.proofs.Notes.{length-chains}
 use Rattle.rising.specs.Four.{Filled}
 use Rattle.listing.specs.Sites.{noSite, sitesAt}
 use Rattle.listing.proofs.SitesLaws.{sites-first, sites-more, sites-base, sites-past, sites-all}
@@ -11,16 +12,16 @@ use Rattle.listing.proofs.sites_by_sn.Statement.{statement}
 use Rattle.listing.proofs.sites_by_sn.Tie as tie
 
 abbrev Inv-loop : tie.InvT-loop
-Inv-loop placed n items sites₀ count₀ i₀ sites count i = (i ≤ n) × (n ≤ 4) × (count ≤ i) × (length items ≡ 4) × (length placed ≡ 4) × (length sites ≡ 4) × Filled noSite (sitesAt placed (take i items)) count sites
+Inv-loop notes n items sites₀ count₀ i₀ sites count i = (i ≤ n) × (n ≤ 4) × (count ≤ i) × (length items ≡ 4) × (length sites ≡ 4) × Filled noSite (sitesAt (chainsIn notes) (take i items)) count sites
 
 abbrev μ-loop : tie.MeasureT-loop
-μ-loop placed n items sites₀ count₀ i₀ sites count i = n - i
+μ-loop notes n items sites₀ count₀ i₀ sites count i = n - i
 
 in-places-requires : tie.Need-in-places-requires Inv-loop μ-loop
 in-places-requires c κs = search needs
 
 loop-holds : tie.Need-loop-holds Inv-loop μ-loop
-loop-holds c = (omega arith, omega arith, omega arith, search needs, search length-mapped, search needs, sites-first _)
+loop-holds c = (omega arith, omega arith, omega arith, search needs, search needs, sites-first _)
 
 mul-k : tie.Need-mul-k Inv-loop μ-loop
 mul-k c = search needs
@@ -28,11 +29,8 @@ mul-k c = search needs
 array-read-k : tie.Need-array-read-k Inv-loop μ-loop
 array-read-k c = search needs
 
-mul-p : tie.Need-mul-p Inv-loop μ-loop
-mul-p c = search needs
-
-array-copy-out-p : tie.Need-array-copy-out-p Inv-loop μ-loop
-array-copy-out-p c = search needs
+placed-at-requires : tie.Need-placed-at-requires Inv-loop μ-loop
+placed-at-requires c κs = search needs
 
 has-site-requires : tie.Need-has-site-requires Inv-loop μ-loop
 has-site-requires c κs = search needs
@@ -53,7 +51,7 @@ loop-less : tie.Need-loop-less Inv-loop μ-loop
 loop-less c = search needs
 
 loop-again : tie.Need-loop-again Inv-loop μ-loop
-loop-again c = let v = c .before .before .before .before .before .loop in (omega arith, omega arith, omega arith, search needs, search needs, search needs, sites-more _ _ _ _ _ _ _ _ (v .inv .4) (v .inv .3) (v .inv .1) (c .before .before .before .before .loop-test .taken) (c .before .before .before .if1 .taken) (v .inv .2) (v .inv .6) (c .before .has-site .ensures) (c .if2 .taken))
+loop-again c = let v = c .before .before .before .before .before .loop in (omega arith, omega arith, omega arith, search needs, search needs, sites-more _ _ _ _ _ _ _ _ _ (length-chains _) (v .inv .3) (v .inv .1) (c .before .before .before .before .loop-test .taken) (c .before .before .before .if1 .taken) (v .inv .2) (c .before .before .placed-at .ensures) (v .inv .5) (c .before .has-site .ensures) (c .if2 .taken))
 
 add-i-2 : tie.Need-add-i-2 Inv-loop μ-loop
 add-i-2 c = search needs
@@ -62,7 +60,7 @@ loop-less-2 : tie.Need-loop-less-2 Inv-loop μ-loop
 loop-less-2 c = search needs
 
 loop-again-2 : tie.Need-loop-again-2 Inv-loop μ-loop
-loop-again-2 c = let v = c .before .before .before .before .before .loop in (omega arith, omega arith, omega arith, search needs, search needs, search needs, sites-base _ _ _ _ _ _ _ _ (v .inv .4) (v .inv .3) (v .inv .1) (c .before .before .before .before .loop-test .taken) (c .before .before .before .if1 .taken) (v .inv .6) (c .before .has-site .ensures) (c .if2 .left))
+loop-again-2 c = let v = c .before .before .before .before .before .loop in (omega arith, omega arith, omega arith, search needs, search needs, sites-base _ _ _ _ _ _ _ _ _ (length-chains _) (v .inv .3) (v .inv .1) (c .before .before .before .before .loop-test .taken) (c .before .before .before .if1 .taken) (c .before .before .placed-at .ensures) (v .inv .5) (c .before .has-site .ensures) (c .if2 .left))
 
 add-i-3 : tie.Need-add-i-3 Inv-loop μ-loop
 add-i-3 c = search needs
@@ -71,7 +69,7 @@ loop-less-3 : tie.Need-loop-less-3 Inv-loop μ-loop
 loop-less-3 c = search needs
 
 loop-again-3 : tie.Need-loop-again-3 Inv-loop μ-loop
-loop-again-3 c = (omega arith, omega arith, omega arith, search needs, search needs, search needs, search sites-past)
+loop-again-3 c = (omega arith, omega arith, omega arith, search needs, search needs, search (sites-past, length-chains))
 
 returns : tie.Need-returns Inv-loop μ-loop
 returns c = search sites-all
@@ -86,8 +84,7 @@ sites-by-sn-spec =
     loop-holds
     mul-k
     array-read-k
-    mul-p
-    array-copy-out-p
+    placed-at-requires
     has-site-requires
     mul-sites
     array-set-from-sites

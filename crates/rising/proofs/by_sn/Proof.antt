@@ -1,3 +1,4 @@
+use Rattle.placed.proofs.Notes.{length-chains}
 use Rattle.rising.proofs.OrderLaws.{in-places}
 use Rattle.rising.proofs.FallingLaws.{falling-held}
 use borrow.Author.Needs.{needs}
@@ -20,13 +21,13 @@ behind-requires-3 : tie.Need-behind-requires-3
 behind-requires-3 c κs = search needs
 
 returns : tie.Need-returns
-returns c = search falling-held
+returns c = search (falling-held, length-chains)
 
 in-turn-requires : tie.Need-in-turn-requires
 in-turn-requires c κs = search needs
 
 returns-2 : tie.Need-returns-2
-returns-2 c = search in-places
+returns-2 c = search (in-places, length-chains)
 
 pub by-sn-spec : {M : Type 1} → statement M
 by-sn-spec =

@@ -1,30 +1,26 @@
 use native.Mathlib.Omega.{arith}
 use Prim.Native.Nat.{_≤_}
-use mathlib.Core.Path.{_≡_}
-use lib.ListN.{length}
-use Rattle.record.proofs.Laws.{length-mapped}
+use Rattle.placed.specs.Notes.{chainsIn}
+use Rattle.placed.proofs.Notes.{length-chains}
 use Rattle.rising.proofs.FallingLaws.{FallsBehind, falls-none, falls-more, falls-not, falls-all}
 use borrow.Author.Needs.{needs}
 use Rattle.rising.proofs.falling.Statement.{statement}
 use Rattle.rising.proofs.falling.Tie as tie
 
 abbrev Inv-loop : tie.InvT-loop
-Inv-loop n placed last₀ i₀ last i = (i ≤ n) × (n ≤ 4) × (length placed ≡ 4) × FallsBehind placed n i last
+Inv-loop notes n last₀ i₀ last i = (i ≤ n) × (n ≤ 4) × FallsBehind (chainsIn notes) n i last
 
 abbrev μ-loop : tie.MeasureT-loop
-μ-loop n placed last₀ i₀ last i = i
+μ-loop notes n last₀ i₀ last i = i
 
 loop-holds : tie.Need-loop-holds Inv-loop μ-loop
-loop-holds c = (omega arith, omega arith, search length-mapped, search falls-none)
+loop-holds c = (omega arith, omega arith, search falls-none)
 
 sub-i : tie.Need-sub-i Inv-loop μ-loop
 sub-i c = search needs
 
-mul-p : tie.Need-mul-p Inv-loop μ-loop
-mul-p c = search needs
-
-array-copy-out-p : tie.Need-array-copy-out-p Inv-loop μ-loop
-array-copy-out-p c = search needs
+placed-at-requires : tie.Need-placed-at-requires Inv-loop μ-loop
+placed-at-requires c κs = search needs
 
 returns : tie.Need-returns Inv-loop μ-loop
 returns c = falls-not _
@@ -33,7 +29,7 @@ loop-less : tie.Need-loop-less Inv-loop μ-loop
 loop-less c = search needs
 
 loop-again : tie.Need-loop-again Inv-loop μ-loop
-loop-again c = (omega arith, omega arith, search needs, search falls-more)
+loop-again c = (omega arith, omega arith, search (falls-more, length-chains))
 
 returns-2 : tie.Need-returns-2 Inv-loop μ-loop
 returns-2 c = falls-not _
@@ -49,8 +45,7 @@ falling-spec =
     μ-loop
     loop-holds
     sub-i
-    mul-p
-    array-copy-out-p
+    placed-at-requires
     returns
     loop-less
     loop-again

@@ -2,7 +2,8 @@ use native.Mathlib.Omega.{arith}
 use Prim.Native.Nat.{_≤_}
 use mathlib.Core.Path.{_≡_}
 use lib.ListN.{length, take, drop}
-use Rattle.record.proofs.Laws.{length-mapped}
+use Rattle.placed.specs.Notes.{chainsIn}
+use Rattle.placed.proofs.Notes.{length-chains}
 use Rattle.rising.specs.Order.{snsOf}
 use Rattle.rising.proofs.OrderLaws.{behind-none, behind-more, behind-all}
 use borrow.Author.Needs.{needs}
@@ -10,22 +11,19 @@ use Rattle.rising.proofs.sns_of.Statement.{statement}
 use Rattle.rising.proofs.sns_of.Tie as tie
 
 abbrev Inv-loop : tie.InvT-loop
-Inv-loop n placed sns₀ i₀ sns i = (i ≤ n) × (n ≤ 4) × (length placed ≡ 4) × (length sns ≡ 4) × (drop i (take n sns) ≡ snsOf (drop i (take n placed)))
+Inv-loop notes n sns₀ i₀ sns i = (i ≤ n) × (n ≤ 4) × (length sns ≡ 4) × (drop i (take n sns) ≡ snsOf (drop i (take n (chainsIn notes))))
 
 abbrev μ-loop : tie.MeasureT-loop
-μ-loop n placed sns₀ i₀ sns i = i
+μ-loop notes n sns₀ i₀ sns i = i
 
 loop-holds : tie.Need-loop-holds Inv-loop μ-loop
-loop-holds c = (omega arith, omega arith, search length-mapped, search needs, search behind-none)
+loop-holds c = (omega arith, omega arith, search needs, search behind-none)
 
 sub-i : tie.Need-sub-i Inv-loop μ-loop
 sub-i c = search needs
 
-mul-p : tie.Need-mul-p Inv-loop μ-loop
-mul-p c = search needs
-
-array-copy-out-p : tie.Need-array-copy-out-p Inv-loop μ-loop
-array-copy-out-p c = search needs
+placed-at-requires : tie.Need-placed-at-requires Inv-loop μ-loop
+placed-at-requires c κs = search needs
 
 array-write-sns : tie.Need-array-write-sns Inv-loop μ-loop
 array-write-sns c = search needs
@@ -34,7 +32,7 @@ loop-less : tie.Need-loop-less Inv-loop μ-loop
 loop-less c = search needs
 
 loop-again : tie.Need-loop-again Inv-loop μ-loop
-loop-again c = (omega arith, omega arith, search needs, search needs, search behind-more)
+loop-again c = (omega arith, omega arith, search needs, search (behind-more, length-chains))
 
 returns : tie.Need-returns Inv-loop μ-loop
 returns c = search behind-all
@@ -47,8 +45,7 @@ sns-of-spec =
     μ-loop
     loop-holds
     sub-i
-    mul-p
-    array-copy-out-p
+    placed-at-requires
     array-write-sns
     loop-less
     loop-again

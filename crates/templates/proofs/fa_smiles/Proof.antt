@@ -28,7 +28,7 @@ unfolding ascii
 returns c =
     let e4 = c .before .before .before .before .before .before in
     let e3p = e4 .before in
-    let e3 = e3p .before .before .before .before in
+    let e3 = e3p .before .before .before .before .before in
     let e2 = e3 .before .before .before in
     let e1 = e2 .before .before .before in
     let start = e1 .before .before .before .before .before in

@@ -37,7 +37,7 @@ unfolding ascii
 returns c =
     let e6 = c .before .before .before .before .before .before in
     let e5p = e6 .before in
-    let e5 = e5p .before .before .before .before in
+    let e5 = e5p .before .before .before .before .before in
     let e4 = e5 .before .before .before in
     let e3 = e4 .before .before .before .before .before in
     let e2 = e3 .before .before .before .before in

@@ -25,10 +25,7 @@ same-length-3 : tie.Need-same-length-3
 same-length-3 c = search needs
 
 returns : tie.Need-returns
-returns c =
-    let laid = c .before .before .before .before .before .before .before .before in
-    let label = laid .before .before .before .before in
-    fragment-pushed (label .in-labels .ensures) (laid .put-strand .ensures) (c .before .figures-of .ensures) (c .settle .ensures)
+returns c = search fragment-pushed
 
 pub push-fragment-spec : {M : Type 1} → statement M
 push-fragment-spec =

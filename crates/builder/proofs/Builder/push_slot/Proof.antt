@@ -27,7 +27,7 @@ returns : tie.Need-returns
 unfolding ascii
 returns c =
     let chain = c .before .before .before .before .before .before in
-    let fixed = chain .before .before .before .before .before .before in
+    let fixed = chain .before .before .before .before .before .before .before in
     let start = fixed .before .before .before .before .before .before .before .before in
     slot-pushed (start .good .1 .0 .0) (fixed .push-fixed .ensures) refl (chain .push-chain .ensures)
 
