@@ -1,6 +1,5 @@
 // A request that was judged, drawn: its line and its index lists, or 41 where a slice is too short for them. The answer, and what both slices
 // hold afterwards, are said by specs/Answer.antt.
-use drawable::LIST_ROOM;
 use drawable::Shapes;
 use lines::Line;
 use listing::Listed;
@@ -110,11 +109,10 @@ pub fn draw_chains(
     tail: &[u8],
     tail_atoms: u16,
     shapes: Shapes,
-    lists: &[u64; LIST_ROOM],
+    lists: &[u64],
 ) -> Answer
     ensures { λ r. ⌜ ChainsDrawn class swap (now (tail .entry)) «tail_atoms» (chainsOf shapes (now (lists .entry))) (now (line .entry)) (now (index .entry)) (now (line .exit)) (now (index .exit)) r ⌝ }
 {
-    let parts = &lists[..];
     let mut text = [0u8; TEXT_ROOM];
     let mut numbers = [0u16; INDEX_ROOM];
     let mut rows = [0u8; ROW_ROOM];
@@ -129,7 +127,7 @@ pub fn draw_chains(
         tail,
         tail_atoms,
         shapes,
-        parts,
+        lists,
     );
     let b = built.builder;
     let length = b.at;
@@ -155,6 +153,6 @@ pub fn draw_chains(
         let copied = copying::copy_text(line, &text[0..length]);
         return answer;
     }
-    build_there(line, class, swap, tail, tail_atoms, shapes, parts);
+    build_there(line, class, swap, tail, tail_atoms, shapes, lists);
     answer
 }

@@ -3,11 +3,16 @@
 // what an accepted line promises by specs/Call.antt.
 use drawable::LIST_ROOM;
 pub use drawing::Answer;
+ghost use Prim.Native.Nat.{_*_, _≤_, min};
+ghost use lib.ListN.{length};
 ghost use Rattle.judge.specs.Verdict.{verdict, tokens};
 ghost use Rattle.forward.specs.Call.{Called};
 
-// A request: refused with a number of document 01 and the place of the token, or drawn.
-pub fn draw<'a>(
+// Room for the lists of two chains.
+const PAIR_ROOM: usize = 154;
+
+// A request whose chains have their lists in a lent array, with room for as many as there are tokens, or for four.
+fn draw_in<'a>(
     class: &[u8],
     swap: bool,
     tail: &[u8],
@@ -18,11 +23,12 @@ pub fn draw<'a>(
     sn4: &'a [u8],
     line: &mut [u8],
     index: &mut [u16],
+    lists: &mut [u64],
 ) -> Answer
+    requires { ⌜ 77 * min count 4 ≤ length (now lists) ⌝ }
     ensures { λ r. ⌜ Called (verdict (now (class .entry)) (now (tail .entry)) count (tokens count (now (sn1 .entry)) (now (sn2 .entry)) (now (sn3 .entry)) (now (sn4 .entry)))) swap (now (tail .entry)) (now (line .entry)) (now (index .entry)) (now (line .exit)) (now (index .exit)) r ⌝ }
 {
-    let mut lists = [0u64; LIST_ROOM];
-    let judged = judge::judge(class, tail, count, sn1, sn2, sn3, sn4, &mut lists);
+    let judged = judge::judge(class, tail, count, sn1, sn2, sn3, sn4, lists);
     let fault = judged.fault;
     let number = fault.number;
     if number != 0 {
@@ -38,6 +44,54 @@ pub fn draw<'a>(
         tail,
         judged.tail_atoms,
         shapes,
-        &lists,
+        lists,
+    )
+}
+
+// A request: refused with a number of document 01 and the place of the token, or drawn. Most have one token or two, and an array that is
+// filled for four takes as long as much of their drawing.
+pub fn draw<'a>(
+    class: &[u8],
+    swap: bool,
+    tail: &[u8],
+    count: usize,
+    sn1: &'a [u8],
+    sn2: &'a [u8],
+    sn3: &'a [u8],
+    sn4: &'a [u8],
+    line: &mut [u8],
+    index: &mut [u16],
+) -> Answer
+    ensures { λ r. ⌜ Called (verdict (now (class .entry)) (now (tail .entry)) count (tokens count (now (sn1 .entry)) (now (sn2 .entry)) (now (sn3 .entry)) (now (sn4 .entry)))) swap (now (tail .entry)) (now (line .entry)) (now (index .entry)) (now (line .exit)) (now (index .exit)) r ⌝ }
+{
+    if count < 3 {
+        let mut few = [0u64; PAIR_ROOM];
+        return draw_in(
+            class,
+            swap,
+            tail,
+            count,
+            sn1,
+            sn2,
+            sn3,
+            sn4,
+            line,
+            index,
+            &mut few,
+        );
+    }
+    let mut lists = [0u64; LIST_ROOM];
+    draw_in(
+        class,
+        swap,
+        tail,
+        count,
+        sn1,
+        sn2,
+        sn3,
+        sn4,
+        line,
+        index,
+        &mut lists,
     )
 }

@@ -1,6 +1,6 @@
 -- Laws of the judging of a request: each way out of its tests, one after the other.
 -- Assumes nothing.
-use Prim.Native.Nat.{ℕ, _≤_, _<_}
+use Prim.Native.Nat.{ℕ, _*_, _≤_, _<_, min}
 use native.Mathlib.Decide.{ℕ-discrete}
 use native.Mathlib.Omega.{arith}
 use mathlib.Core.Path.{_≡_, refl, sym, ap, _∙_}
@@ -117,6 +117,10 @@ module _ (c : Class) (n : ℕ) (b : Bool) (e : b ≡ wrongCount c n) (h : b ≡ 
 
   pub count-four : n ≤ 4
   count-four = omega (arith, most-four c, counted .1)
+
+  -- so there is room for their chains
+  pub room-enough : (l : List ℕ) → 77 * min n 4 ≤ length l → 77 * n ≤ length l
+  room-enough l h = omega (arith, count-four)
 
 -- ---- the tokens
 

@@ -186,7 +186,7 @@ module _ (sn1 sn2 sn3 sn4 : List ℕ) where
   met-first c f xs l e = rw e (met-none c)
 
   -- a turn: the lists of the token's chain are laid into its part
-  pub met-next : (c : Class) (s : Seen) (f g : Faults) (xs : List Shape) (l p : List ℕ) (i n : ℕ) → length xs ≡ 4 → length l ≡ 308 → i < n → n ≤ 4
+  pub met-next : (c : Class) (s : Seen) (f g : Faults) (xs : List Shape) (l p : List ℕ) (i n : ℕ) → length xs ≡ 4 → 77 * n ≤ length l → i < n → n ≤ 4
       → length p ≡ length (midOf (77 * i) (77 * i + 77 - 77 * i) l) → SeenIs (roleOf c (i + 1)) (sightOf s p) (tokenOf (getD (sn1 ∷ sn2 ∷ sn3 ∷ sn4 ∷ []) i []))
       → g ≡ withReasons f (s .reasons) (i + 1) → Met c f (take i (itemsOf xs l)) (tokensOf (take i (sn1 ∷ sn2 ∷ sn3 ∷ sn4 ∷ [])))
       → Met c g (take (i + 1) (itemsOf (set xs i (s .shape)) (putMid (77 * i) (77 * i + 77 - 77 * i) l p))) (tokensOf (take (i + 1) (sn1 ∷ sn2 ∷ sn3 ∷ sn4 ∷ [])))

@@ -4,7 +4,6 @@
 use chain::Role;
 use class::Code;
 use drawable::CHAIN_ROOM;
-use drawable::LIST_ROOM;
 use drawable::Shape;
 use drawable::Shapes;
 use record::ChainPrefix;
@@ -13,7 +12,7 @@ use record::MAX_BONDS;
 use template::Class;
 use token::MAX_TOKENS;
 ghost use mathlib.Core.Path.{_≡_};
-ghost use Prim.Native.Nat.{_+_, _<_, _≤_};
+ghost use Prim.Native.Nat.{_+_, _*_, _<_, _≤_, min};
 ghost use mathlib.Core.List.{[], _∷_};
 ghost use lib.ListN.{length, getD};
 ghost use Rattle.token.specs.Token.{tokenOf};
@@ -270,7 +269,7 @@ fn judge_tokens<'a>(
     lists: &mut [u64],
 ) -> Judged
     requires { ⌜ count ≤ 4 ⌝ }
-    requires { ⌜ length (now lists) ≡ 308 ⌝ }
+    requires { ⌜ 77 * count ≤ length (now lists) ⌝ }
     ensures { λ r. ⌜ JudgedIs r (now (lists .exit)) (now (tail .entry)) (judgeRead class (now (tail .entry)) (tokensOf (tokens count (now (sn1 .entry)) (now (sn2 .entry)) (now (sn3 .entry)) (now (sn4 .entry))))) ⌝ }
 {
     let none = no_chains();
@@ -306,7 +305,7 @@ fn wrong_count(class: Class, count: usize) -> bool
 }
 
 // Whether a request is refused, and for what; or its class, the atoms of its tail, which is read once, and its chains, whose lists are laid
-// into the lent array, a part of 77 numbers for each token.
+// into the lent array, a part of 77 numbers for each token; there is room for the tokens, of which there are four at most.
 pub fn judge<'a>(
     class: &[u8],
     tail: &[u8],
@@ -315,8 +314,9 @@ pub fn judge<'a>(
     sn2: &'a [u8],
     sn3: &'a [u8],
     sn4: &'a [u8],
-    lists: &mut [u64; LIST_ROOM],
+    lists: &mut [u64],
 ) -> Judged
+    requires { ⌜ 77 * min count 4 ≤ length (now lists) ⌝ }
     ensures { λ r. ⌜ JudgedIs r (now (lists .exit)) (now (tail .entry)) (verdict (now (class .entry)) (now (tail .entry)) count (tokens count (now (sn1 .entry)) (now (sn2 .entry)) (now (sn3 .entry)) (now (sn4 .entry)))) ⌝ }
 {
     let Code::Known(known) = class::class_of(class) else {

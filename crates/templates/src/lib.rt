@@ -28,7 +28,16 @@ fn fa_smiles(
     let a = Builder::new();
     let b = a.push_fixed(out, b"O", 1);
     let first = shape_at(shapes, 1);
-    b.push_bare(out, index, rows, notes, first, chain_part(lists, 1), 1, Role::Acyl)
+    b.push_bare(
+        out,
+        index,
+        rows,
+        notes,
+        first,
+        chain_part(lists, 1),
+        1,
+        Role::Acyl,
+    )
 }
 
 // GL1, GL2, GL3: `C(C`S3`)(`S2`)C`S1.
@@ -122,7 +131,16 @@ fn sphingoid_smiles(
     let c = b.push_fixed(out, tail, tail_atoms);
     let d = c.push_fixed(out, b")(N)", 1);
     let first = shape_at(shapes, 1);
-    d.push_bare(out, index, rows, notes, first, chain_part(lists, 1), 1, Role::Base)
+    d.push_bare(
+        out,
+        index,
+        rows,
+        notes,
+        first,
+        chain_part(lists, 1),
+        1,
+        Role::Base,
+    )
 }
 
 // SA: `C(C`tail`)(N`acyl`)`base from C3.
@@ -155,7 +173,16 @@ fn acyl_sphingoid_smiles(
     );
     let f = e.push_fixed(out, b")", 0);
     let first = shape_at(shapes, 1);
-    f.push_bare(out, index, rows, notes, first, chain_part(lists, 1), 1, Role::Base)
+    f.push_bare(
+        out,
+        index,
+        rows,
+        notes,
+        first,
+        chain_part(lists, 1),
+        1,
+        Role::Base,
+    )
 }
 
 // The template of a class, with the chains of the request.
@@ -180,6 +207,15 @@ pub fn class_smiles(
         Class::Gp => gpl_smiles(out, index, rows, notes, tail, tail_atoms, shapes, lists),
         Class::Cl => cl_smiles(out, index, rows, notes, shapes, lists),
         Class::Sb => sphingoid_smiles(out, index, rows, notes, tail, tail_atoms, shapes, lists),
-        Class::Sa => acyl_sphingoid_smiles(out, index, rows, notes, tail, tail_atoms, shapes, lists),
+        Class::Sa => acyl_sphingoid_smiles(
+            out,
+            index,
+            rows,
+            notes,
+            tail,
+            tail_atoms,
+            shapes,
+            lists,
+        ),
     }
 }

@@ -1,4 +1,4 @@
-use Rattle.judge.proofs.Judging.{count-four, class-unknown, class-count, class-known}
+use Rattle.judge.proofs.Judging.{count-four, room-enough, class-unknown, class-count, class-known}
 use borrow.Author.Needs.{needs}
 use Rattle.judge.proofs.judge.Statement.{statement}
 use Rattle.judge.proofs.judge.Tie as tie
@@ -28,7 +28,10 @@ returns-2 : tie.Need-returns-2
 returns-2 c = search class-count
 
 judge-tokens-requires : tie.Need-judge-tokens-requires
-judge-tokens-requires c κs = (search count-four, search needs)
+judge-tokens-requires c κs = (search count-four, search room-enough)
+
+same-length : tie.Need-same-length
+same-length c = search needs
 
 returns-3 : tie.Need-returns-3
 returns-3 c = search class-known
@@ -46,4 +49,5 @@ judge-spec =
     refused-requires-2
     returns-2
     judge-tokens-requires
+    same-length
     returns-3)

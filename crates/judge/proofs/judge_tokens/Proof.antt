@@ -1,4 +1,4 @@
-use Prim.Native.Nat.{_≤_, _-_}
+use Prim.Native.Nat.{_≤_, _-_, _*_}
 use native.Mathlib.Omega.{arith}
 use mathlib.Core.Path.{_≡_}
 use mathlib.Core.List.{[], _∷_}
@@ -13,7 +13,7 @@ use Rattle.judge.proofs.judge_tokens.Statement.{statement}
 use Rattle.judge.proofs.judge_tokens.Tie as tie
 
 abbrev Inv-loop : tie.InvT-loop
-Inv-loop class tail count sn1 sn2 sn3 sn4 lists₀ items₀ faults₀ i₀ lists items faults i = Met class faults (take i (itemsOf items lists)) (tokensOf (take i (sn1 ∷ sn2 ∷ sn3 ∷ sn4 ∷ []))) × (i ≤ count) × (count ≤ 4) × (length items ≡ 4) × (length lists ≡ 308)
+Inv-loop class tail count sn1 sn2 sn3 sn4 lists₀ items₀ faults₀ i₀ lists items faults i = Met class faults (take i (itemsOf items lists)) (tokensOf (take i (sn1 ∷ sn2 ∷ sn3 ∷ sn4 ∷ []))) × (i ≤ count) × (count ≤ 4) × (length items ≡ 4) × (77 * count ≤ length lists) × (length lists ≡ length lists₀)
 
 abbrev μ-loop : tie.MeasureT-loop
 μ-loop class tail count sn1 sn2 sn3 sn4 lists₀ items₀ faults₀ i₀ lists items faults i = count - i
@@ -25,7 +25,7 @@ new-requires : tie.Need-new-requires Inv-loop μ-loop
 new-requires c κs = search needs
 
 loop-holds : tie.Need-loop-holds Inv-loop μ-loop
-loop-holds c = (search met-first, omega arith, search needs, search length-mapped, search needs)
+loop-holds c = (search met-first, omega arith, search needs, search length-mapped, search needs, search needs)
 
 mul-from : tie.Need-mul-from Inv-loop μ-loop
 mul-from c = search needs
@@ -67,7 +67,7 @@ loop-less : tie.Need-loop-less Inv-loop μ-loop
 loop-less c = search needs
 
 loop-again : tie.Need-loop-again Inv-loop μ-loop
-loop-again c = (met-next _ _ _ _ _ _ _ _ _ _ _ _ _ (c .before .before .before .before .before .before .before .loop .inv .3) (c .before .before .before .before .before .before .before .loop .inv .4) (c .before .before .before .before .before .before .loop-test .taken) (c .before .before .before .before .before .before .before .loop .inv .2) (c .before .before .before .lists .given .0) (c .before .before .before .before .look .ensures) (c .join .ensures) (c .before .before .before .before .before .before .before .loop .inv .0), omega arith, search needs, search needs, search needs)
+loop-again c = (met-next _ _ _ _ _ _ _ _ _ _ _ _ _ (c .before .before .before .before .before .before .before .loop .inv .3) (c .before .before .before .before .before .before .before .loop .inv .4) (c .before .before .before .before .before .before .loop-test .taken) (c .before .before .before .before .before .before .before .loop .inv .2) (c .before .before .before .lists .given .0) (c .before .before .before .before .look .ensures) (c .join .ensures) (c .before .before .before .before .before .before .before .loop .inv .0), omega arith, search needs, search needs, search needs, search needs)
 
 tail-atoms-requires : tie.Need-tail-atoms-requires Inv-loop μ-loop
 tail-atoms-requires c κs = search needs

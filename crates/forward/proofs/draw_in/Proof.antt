@@ -1,7 +1,7 @@
 use Rattle.forward.proofs.Called.{called-refused, called-drawn}
 use borrow.Author.Needs.{needs}
-use Rattle.forward.proofs.draw.Statement.{statement}
-use Rattle.forward.proofs.draw.Tie as tie
+use Rattle.forward.proofs.draw_in.Statement.{statement}
+use Rattle.forward.proofs.draw_in.Tie as tie
 
 judge-requires : tie.Need-judge-requires
 judge-requires c κs = search needs
@@ -9,30 +9,45 @@ judge-requires c κs = search needs
 refused-requires : tie.Need-refused-requires
 refused-requires c κs = search needs
 
+same-length : tie.Need-same-length
+same-length c = search needs
+
 returns : tie.Need-returns
 returns c =
-    let judged = c .before .before .before in
+    let judged = c .before .before .before .before .before in
     called-refused (judged .judge .result) _ (judged .judge .ensures) (c .before .if1 .taken) (c .refused .ensures)
 
 draw-chains-requires : tie.Need-draw-chains-requires
 draw-chains-requires c κs = search needs
 
-same-length : tie.Need-same-length
-same-length c = search needs
-
 same-length-2 : tie.Need-same-length-2
 same-length-2 c = search needs
+
+same-length-3 : tie.Need-same-length-3
+same-length-3 c = search needs
+
+same-length-4 : tie.Need-same-length-4
+same-length-4 c = search needs
 
 returns-2 : tie.Need-returns-2
 returns-2 c =
     let drawn = c .before .before .before .before in
     let fine = drawn .before .before .before .before .before in
-    let judged = fine .before .before in
-    let a = judged .before .before .before .before .before .before .before .before .before .before .args in
+    let judged = fine .before .before .before .before in
+    let a = judged .before .before .before .before .before .before .before .before .before .before .before .args in
     called-drawn (a .class .now) (a .tail .now) (a .count) (a .sn1 .now) (a .sn2 .now) (a .sn3 .now) (a .sn4 .now) (judged .judge .result) _ (judged .judge .ensures)
     (fine .if1 .left) (drawn .draw-chains .ensures)
 
-pub draw-spec : {M : Type 1} → statement M
-draw-spec =
+pub draw-in-spec : {M : Type 1} → statement M
+draw-in-spec =
     tie.close
-    (tie.spec judge-requires refused-requires returns draw-chains-requires same-length same-length-2 returns-2)
+    (tie.spec
+    judge-requires
+    refused-requires
+    same-length
+    returns
+    draw-chains-requires
+    same-length-2
+    same-length-3
+    same-length-4
+    returns-2)
