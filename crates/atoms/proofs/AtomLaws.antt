@@ -242,7 +242,7 @@ numbering-one {first} {at} {cs} {rest} {xs} {ys} {zs} {p} {q} {count} {next} c m
       few = omega (arith, v .few);
     }
 
-empty-parts : (acyl : Bool) (gs : List Mod) (rs : List Closed) (k : ℕ) → busyAt acyl gs rs k ≡ false → carbonylOf acyl k ++ branches (sitting k gs) ≡ []
+pub empty-parts : (acyl : Bool) (gs : List Mod) (rs : List Closed) (k : ℕ) → busyAt acyl gs rs k ≡ false → carbonylOf acyl k ++ branches (sitting k gs) ≡ []
 unfolding busyAt branches
 empty-parts acyl gs rs k e =
     let a : carbonylOn acyl k ≡ false = or-left (carbonylOn acyl k) (groupOn gs k || ringOn rs k) e in

@@ -3,7 +3,6 @@
 use Prim.Native.Nat.{ℕ, zero, suc, _+_, _-_, _*_, _^_, _≤_, _<_, min}
 use native.Mathlib.Omega.{arith}
 use mathlib.Core.Path.{_≡_, refl, sym, ap, _∙_}
-use mathlib.Core.Bool.{Bool, true, false, cond}
 use mathlib.Core.List.{List, [], _∷_, _++_, map, map-append}
 use lib.Dec.{eqb}
 use lib.ListN.{length, drop, getD, length-append}
@@ -13,7 +12,7 @@ use Rattle.emit.proofs.Laws.{written-nil, written-append, written-length}
 use Rattle.record.specs.declared.Mod.{Mod}
 use Rattle.record.specs.Chain as read
 use Rattle.reading.specs.Part.{Part}
-use Rattle.reading.specs.Chain.{Carbon, partsEnd, bridgeEnd, carbonEnd, chainEnd, floatEnd, atomFrom, atomOf}
+use Rattle.reading.specs.Chain.{Carbon, carbonEnd, chainEnd, floatEnd, atomFrom, atomOf}
 use Rattle.chain.specs.declared.Role.{Role}
 use Rattle.chain.specs.Lists.{valuesFrom}
 use Rattle.chain.specs.Features.{firstDrawn, literalEnd, flexibleCount, drawnCount, floating}
@@ -28,6 +27,7 @@ use Rattle.atoms.specs.Atoms.{Counts, starts, tailCount, literalOf, indi
 use Rattle.atoms.specs.Index.{indexFrom}
 use Rattle.carbons.proofs.Fronts.{next-of, none-left}
 use Rattle.atoms.proofs.AtomLaws.{carbon-shift, chain-shift, float-shift}
+use Rattle.atoms.proofs.Runs.{Bares, bares-starts, bares-end, starts-append, end-append}
 use Rattle.fragment.proofs.SegmentLaws.{literal-is, literal-length}
 use Rattle.carbons.proofs.TokenLaws.{values-same}
 
@@ -44,54 +44,6 @@ tail-short c n e h = rw (ne-eqb n 0 e) (omega arith)
 pub tail-long : (c n : ℕ) → (n ≡ 0 → ⊥) → 256 ≤ c + 2 * n + 2 → 256 ≡ min (c + tailCount n) 256
 unfolding tailCount
 tail-long c n e h = rw (ne-eqb n 0 e) (omega arith)
-
--- ---- numbers that follow one another
-
-ups-more : (n m : ℕ) → ups n (suc m) ≡ ups n m ++ (n + m) ∷ []
-unfolding ups
-ups-more n zero = let z : n + 0 ≡ n = omega arith in rw z
-ups-more n (suc m) = let z : n + suc m ≡ suc n + m = omega arith in rw z (ap (λ (l : List ℕ). n ∷ l) (ups-more (suc n) m))
-
--- the indices of the tail so far
-pub record Tail (first : ℕ) (xs : List ℕ) (at count₀ next₀ : ℕ) (ys : List ℕ) (p count next : ℕ) : Type 0 where
-  pub written : Written xs at (indices first (ups next₀ (count - count₀))) ys p
-  pub from : count₀ ≤ count
-  pub is : next ≡ next₀ + (count - count₀)
-
-pub tail-start : (first : ℕ) (xs : List ℕ) (at count next : ℕ) → at < 2 ^ 64 → Tail first xs at count next xs at count next
-unfolding ups
-tail-start first xs at count next h =
-    let z : count - count ≡ 0 = omega arith in
-    record { written = rw z (written-nil xs at h); from = omega arith; is = omega arith }
-
-pub tail-next : {first at c₀ n₀ p c n : ℕ} {xs ys zs : List ℕ} {q : ℕ} (i : ℕ) → length xs < 2 ^ 64 → Tail first xs at c₀ n₀ ys p c n → i ≡ indexFrom first n → Written ys p (i ∷ []) zs q
-    → Tail first xs at c₀ n₀ zs q (c + 1) (n + 1)
-tail-next {first} {at} {c₀} {n₀} {p} {c} {n} {xs} {ys} {zs} {q} i g v e w =
-    let z : c + 1 - c₀ ≡ suc (c - c₀) = omega (arith, v .from) in
-    let m : n₀ + (c - c₀) ≡ n = sym (v .is) in
-    let t : indices first (ups n₀ (c + 1 - c₀)) ≡ indices first (ups n₀ (c - c₀)) ++ indexFrom first n ∷ []
-    = rw (z, ups-more n₀ (c - c₀), m) (map-append (indexFrom first) (ups n₀ (c - c₀)) (n ∷ [])) in
-    record { written = rw t (written-append g (v .written) (rw e at w)); from = omega (arith, v .from); is = omega (arith, v .is, v .from) }
-
--- ---- carbons of one atom each
-
-abbrev Bares : List Carbon → Type 0
-Bares [] = Unit {0}
-Bares (c ∷ cs) = (c .parts ≡ []) × (c .bridge ≡ false) × Bares cs
-
-bare-end : (n : ℕ) (c : Carbon) → c .parts ≡ [] → c .bridge ≡ false → carbonEnd n c ≡ suc n
-unfolding carbonEnd partsEnd bridgeEnd
-bare-end n c e f = rw (e, f)
-
-bares-starts : (n : ℕ) (cs : List Carbon) → Bares cs → starts n cs ≡ ups n (length cs)
-unfolding starts ups
-bares-starts n [] b = refl
-bares-starts n (c ∷ cs) b = rw (bare-end n c (b .0) (b .1), bares-starts (suc n) cs (b .2))
-
-bares-end : (n : ℕ) (cs : List Carbon) → Bares cs → chainEnd n cs ≡ n + length cs
-unfolding chainEnd
-bares-end n [] b = omega arith
-bares-end n (c ∷ cs) b = rw (bare-end n c (b .0) (b .1)) (bares-end (suc n) cs (b .2) ∙ omega arith)
 
 pairs-bare : (n : ℕ) (cs : List Carbon) → Bares cs → Bares (pairs n ++ cs)
 unfolding pairs
@@ -115,22 +67,18 @@ flexible-length m (suc n) =
     let z : suc n ≡ 0 → ⊥ = λ q. omega arith in
     rw (ne-eqb (suc n) 0 z) (omega (arith, length-append (pairs (suc n)) (bare 0 ∷ []), pairs-length (suc n)))
 
-starts-append : (n : ℕ) (cs ds : List Carbon) → starts n (cs ++ ds) ≡ starts n cs ++ starts (chainEnd n cs) ds
-unfolding starts chainEnd
-starts-append n [] ds = refl
-starts-append n (c ∷ cs) ds = rw (starts-append (carbonEnd n c) cs ds)
+-- ---- the tail is numbered
 
-end-append : (n : ℕ) (cs ds : List Carbon) → chainEnd n (cs ++ ds) ≡ chainEnd (chainEnd n cs) ds
-unfolding chainEnd
-end-append n [] ds = refl
-end-append n (c ∷ cs) ds = end-append (carbonEnd n c) cs ds
+pub tail-empty : (first u : ℕ) (xs : List ℕ) (n : Numbers) → u ≡ 0 → n .at < 2 ^ 64 → n .count ≤ 255 → TailNumbers first u xs n xs n
+unfolding ups tailCount
+tail-empty first u xs n e g h =
+    let z : n .count - n .count ≡ 0 = omega arith in
+    record { written = rw z (written-nil xs (n .at) g); count = rw e (omega arith); next = omega arith }
 
-pub tail-numbers : {first : ℕ} {xs ys : List ℕ} {p count next : ℕ} (n : Numbers) (u end : ℕ) → end ≡ min (n .count + tailCount u) 256
-    → Tail first xs (n .at) (n .count) (n .next) ys p count next → count ≤ end → end ≤ count → TailNumbers first u xs n ys (record { at = p; count = count; next = next })
-tail-numbers n u end e v g h = record { written = v .written; count = omega (arith, e); next = v .is }
-
-pub tail-size : {first at count₀ next₀ : ℕ} {xs ys : List ℕ} {p count next : ℕ} → Tail first xs at count₀ next₀ ys p count next → length ys ≡ length xs
-tail-size v = written-length (v .written)
+pub tail-numbers : {first : ℕ} {xs ys : List ℕ} {p : ℕ} (n : Numbers) (u end : ℕ) → end ≡ min (n .count + tailCount u) 256
+    → Written xs (n .at) (indices first (ups (n .next) (end - n .count))) ys p
+    → TailNumbers first u xs n ys (record { at = p; count = end; next = n .next + (end - n .count) })
+tail-numbers n u end e w = record { written = w; count = e; next = refl }
 
 -- the tail after some carbons
 tail-after : {first : ℕ} {xs ys zs : List ℕ} {at : ℕ} {n r : Numbers} (cs : List Carbon) (b u : ℕ) → length xs < 2 ^ 64 → Numbered first cs xs at ys n → TailNumbers first u ys n zs r

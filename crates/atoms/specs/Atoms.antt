@@ -1,13 +1,13 @@
 -- The atoms of a chain, counted from its first. Assumes nothing.
-use Prim.Native.Nat.{ℕ, zero, suc, _+_, _-_, _*_, _≤_, min}
+use Prim.Native.Nat.{ℕ, zero, suc, _+_, _-_, _*_, _≤_, _<_, min}
 use mathlib.Core.Path.{_≡_}
 use mathlib.Core.Bool.{Bool, cond}
 use mathlib.Core.List.{List, [], _∷_, _++_, map}
 use lib.Dec.{eqb}
-use lib.ListN.{length}
+use lib.ListN.{length, getD}
 use Rattle.emit.specs.Text.{Written}
 use Rattle.record.specs.declared.Mod.{Mod}
-use Rattle.record.specs.Chain.{Chain}
+use Rattle.record.specs.Chain.{Chain, maxCarbons}
 use Rattle.reading.specs.Chain.{Carbon, carbonEnd, chainEnd}
 use Rattle.chain.specs.declared.Role.{Role}
 use Rattle.chain.specs.Lists.{valuesFrom}
@@ -19,7 +19,7 @@ use Rattle.drawable.specs.Drawn.{Drawn, groupsDrawn, Draws}
 use Rattle.carbons.specs.Tokens.{ChainTokens}
 use Rattle.atoms.specs.declared.Numbers.{Numbers}
 use Rattle.atoms.specs.declared.ChainAtoms.{ChainAtoms}
-use Rattle.atoms.specs.Index.{indexFrom}
+use Rattle.atoms.specs.Index.{firstRoom, indexFrom}
 use Rattle.fragment.specs.Text.{sitting, carbonylOf, carbonOf}
 use Rattle.fragment.specs.Segment.{Readable}
 
@@ -61,6 +61,19 @@ pub record LiteralNumbers (first : ℕ) (x : Drawn) (t : ChainTokens) (xs : List
   pub numbered : Numbered first (literalOf x t) xs at ys n
   pub room : n .count ≤ 255
   pub few : n .next ≤ 93 * n .count
+
+-- from `at` on there is room for the indices of as many carbons as a chain can have, no index of a chain whose first atom is the one given
+-- reaches the largest number, and the last literal carbon is one of the chain's
+pub record Roomy (room at first carbon last : ℕ) : Type 0 where
+  pub fits : at + maxCarbons ≤ room
+  pub small : first < firstRoom
+  pub own : carbon ≤ maxCarbons
+  pub literal : last ≤ carbon
+
+-- the four carbons from k on are none past the last, and carry nothing
+pub record IdleFour (busy : List ℕ) (k last : ℕ) : Type 0 where
+  pub within : k + 3 ≤ last
+  pub idle : (j : ℕ) → k ≤ j → j < k + 4 → getD busy j 0 ≡ 0
 
 -- the carbons of the flexible tail
 unfoldable pub tailCount : ℕ → ℕ

@@ -2,15 +2,18 @@
 // the floating groups, and how many there are in all. The groups are gone through only at carbons that carry one.
 use carbons::CARBON_ROOM;
 use drawable::Shape;
+use record::MAX_CARBONS;
 ghost use mathlib.Core.Path.{_≡_};
-ghost use Prim.Native.Nat.{_+_, _≤_, min};
-ghost use lib.ListN.{length};
+ghost use mathlib.Core.Bool.{true};
+ghost use Prim.Native.Nat.{_+_, _*_, _≤_, _<_, min};
+ghost use lib.ListN.{length, getD};
+ghost use Rattle.emit.specs.Text.{Written};
 ghost use Rattle.reading.specs.Chain.{partsEnd, bridgeEnd, floatEnd};
 ghost use Rattle.chain.specs.Drawing.{branchPart, branches};
 ghost use Rattle.drawable.specs.Drawn.{groupsIn, drawnOf, Says};
 ghost use Rattle.fragment.specs.Text.{sitting, carbonylOf};
 ghost use Rattle.carbons.specs.Tokens.{tokens, TokensOf};
-ghost use Rattle.atoms.specs.Atoms.{Counts, carbonSize, bareSize, bridgedAt, tailCount, LiteralNumbers, TailNumbers, AtomsOf};
+ghost use Rattle.atoms.specs.Atoms.{Counts, carbonSize, bareSize, bridgedAt, tailCount, Roomy, IdleFour, indices, ups, LiteralNumbers, TailNumbers, AtomsOf};
 ghost use Rattle.atoms.specs.Index.{inRoom, indexFrom};
 ghost use Rattle.atoms.specs.Sum.{sumOf};
 
@@ -22,6 +25,12 @@ fn wide(n: u8) -> u16
     ensures { λ r. ⌜ r ≡ n ⌝ }
 {
     n as u16
+}
+
+fn widest(n: u8) -> u32
+    ensures { λ r. ⌜ Counts 255 n r ⌝ }
+{
+    n as u32
 }
 
 // The atoms of a group's branch.
@@ -125,8 +134,119 @@ struct Numbers {
     next: u16,
 }
 
-// The literal carbons: of what a chain has only its groups are looked at.
-fn number_range<'a>(
+// First atoms below this leave room for the indices of a chain.
+const FIRST_ROOM: u32 = 40000;
+
+// Whether there is room from a place on for the indices of as many carbons as a chain can have, none of them can be too large, and the last
+// literal carbon is one of the chain's: then they are stored without a look at the end of the slice or at the largest number.
+fn has_room(room: usize, at: usize, first: u32, carbon: u16, last: u16) -> bool
+    ensures { λ r. ⌜ (r ≡ true → Roomy room at first carbon last) ⌝ }
+{
+    let most = MAX_CARBONS as usize;
+    if room < most {
+        return false;
+    }
+    if room - most < at {
+        return false;
+    }
+    if first >= FIRST_ROOM {
+        return false;
+    }
+    if carbon > MAX_CARBONS {
+        return false;
+    }
+    if last > carbon {
+        return false;
+    }
+    true
+}
+
+// Whether each of four carbons is busy, as one number, which one load makes: 0 where none of them is.
+fn four_busy(busy: &[u8], i: usize) -> u32
+    requires { ⌜ i + 3 < length (now busy) ⌝ }
+    ensures { λ r. ⌜ r ≡ getD (now (busy .entry)) i 0 + 256 * getD (now (busy .entry)) (i + 1) 0 + 65536 * getD (now (busy .entry)) (i + 2) 0 + 16777216 * getD (now (busy .entry)) (i + 3) 0 ⌝ }
+{
+    let a = widest(busy[i]);
+    let b = widest(busy[i + 1]);
+    let c = widest(busy[i + 2]);
+    let d = widest(busy[i + 3]);
+    a + 256 * b + 65536 * c + 16777216 * d
+}
+
+// Whether the four carbons from k on are literal and carry nothing.
+fn idle_four(busy: &[u8], k: u16, last: u16) -> bool
+    requires { ⌜ (length (now busy) ≡ 256) × (k ≤ last) × (last ≤ 255) ⌝ }
+    ensures { λ r. ⌜ (r ≡ true → IdleFour (now (busy .entry)) k last) ⌝ }
+{
+    if k + 3 > last {
+        return false;
+    }
+    if four_busy(busy, k as usize) == 0 {
+        return true;
+    }
+    false
+}
+
+// Four numbers that follow one another, where there is room for them.
+fn put_four(index: &mut [u16], at: usize, n: u16) -> usize
+    requires { ⌜ (at + 4 ≤ length (now index)) × (n < 65000) ⌝ }
+    ensures { λ r. ⌜ Written (now (index .entry)) at (ups n 4) (now (index .exit)) r ⌝ }
+{
+    index[at] = n;
+    index[at + 1] = n + 1;
+    index[at + 2] = n + 2;
+    index[at + 3] = n + 3;
+    at + 4
+}
+
+// The literal carbons where there is room for all of them. A bridge is a ring's, and its first carbon is busy: so a carbon that carries nothing
+// is one atom, and four such carbons are numbered at once.
+fn number_within<'a>(
+    index: &mut [u16],
+    at: usize,
+    first: u16,
+    x: Shape,
+    part: &'a [u64],
+    from: u16,
+    last: u16,
+    bonds: &'a [u8],
+    busy: &'a [u8],
+) -> Numbers
+    requires { ⌜ Roomy (length (now index)) at first (x .carbon) last ⌝ }
+    requires { ⌜ TokensOf (drawnOf x (now part)) (tokens from last (now bonds) (now busy)) ⌝ }
+    ensures { λ r. ⌜ LiteralNumbers first (drawnOf x (now (part .entry))) (tokens from last (now (bonds .entry)) (now (busy .entry))) (now (index .entry)) at (now (index .exit)) r ⌝ }
+{
+    let mut p = at;
+    let mut next = first;
+    let mut k = from;
+    while k <= last {
+        if idle_four(busy, k, last) {
+            p = put_four(index, p, next);
+            next += 4;
+            k += 4;
+            continue;
+        }
+        let i = k as usize;
+        index[p] = next;
+        p += 1;
+        if busy[i] == 0 {
+            next += 1;
+            k += 1;
+            continue;
+        }
+        let groups = drawable::groups_part(part);
+        next += busy_atoms(x.acyl, groups, x.group_count, k, bonds[i]);
+        k += 1;
+    }
+    Numbers {
+        at: p,
+        count: p - at,
+        next: next - first,
+    }
+}
+
+// The literal carbons one by one, where some indices may fall past the end or be too large: of what a chain has only its groups are looked at.
+fn number_each<'a>(
     index: &mut [u16],
     at: usize,
     first: u32,
@@ -161,6 +281,27 @@ fn number_range<'a>(
     Numbers { at: p, count, next }
 }
 
+// The literal carbons.
+fn number_range<'a>(
+    index: &mut [u16],
+    at: usize,
+    first: u32,
+    x: Shape,
+    part: &'a [u64],
+    from: u16,
+    last: u16,
+    bonds: &'a [u8],
+    busy: &'a [u8],
+) -> Numbers
+    requires { ⌜ TokensOf (drawnOf x (now part)) (tokens from last (now bonds) (now busy)) ⌝ }
+    ensures { λ r. ⌜ LiteralNumbers first (drawnOf x (now (part .entry))) (tokens from last (now (bonds .entry)) (now (busy .entry))) (now (index .entry)) at (now (index .exit)) r ⌝ }
+{
+    if has_room(index.len(), at, first, x.carbon, last) {
+        return number_within(index, at, first as u16, x, part, from, last, bonds, busy);
+    }
+    number_each(index, at, first, x, part, from, last, bonds, busy)
+}
+
 // Where the flexible tail of n double bonds ends that starts after so many carbons; the array's end is the limit.
 fn tail_end(count: usize, n: u16) -> usize
     requires { ⌜ count ≤ 255 ⌝ }
@@ -176,21 +317,69 @@ fn tail_end(count: usize, n: u16) -> usize
     CARBON_ROOM
 }
 
+// Numbers that follow one another, where there is room for all of them.
+fn fill(index: &mut [u16], at: usize, low: u16, n: usize) -> usize
+    requires { ⌜ (at + n ≤ length (now index)) × (low + n < 65536) ⌝ }
+    ensures { λ r. ⌜ Written (now (index .entry)) at (ups low n) (now (index .exit)) r ⌝ }
+{
+    let end = at + n;
+    let mut p = at;
+    let mut i = low;
+    while p < end {
+        index[p] = i;
+        i += 1;
+        p += 1;
+    }
+    end
+}
+
+// The indices of n atoms that follow one another, one by one, where some may fall past the end or be too large.
+fn put_each(index: &mut [u16], at: usize, first: u32, next: u16, n: usize) -> usize
+    requires { ⌜ next + n < 65536 ⌝ }
+    ensures { λ r. ⌜ Written (now (index .entry)) at (indices first (ups next n)) (now (index .exit)) r ⌝ }
+{
+    let mut p = at;
+    let mut i = 0;
+    while i < n {
+        p = emit::put_index(index, p, to_index(first, next + i as u16));
+        i += 1;
+    }
+    p
+}
+
+// The indices of n atoms that follow one another.
+fn put_ramp(index: &mut [u16], at: usize, first: u32, next: u16, n: usize) -> usize
+    requires { ⌜ next + n ≤ 23971 ⌝ }
+    ensures { λ r. ⌜ Written (now (index .entry)) at (indices first (ups next n)) (now (index .exit)) r ⌝ }
+{
+    if first >= FIRST_ROOM {
+        return put_each(index, at, first, next, n);
+    }
+    if at >= index.len() {
+        return put_each(index, at, first, next, n);
+    }
+    if n > index.len() - at {
+        return put_each(index, at, first, next, n);
+    }
+    fill(index, at, first as u16 + next, n)
+}
+
 // The carbons of the flexible tail: each is one atom.
 fn number_tail(index: &mut [u16], first: u32, numbers: Numbers, n: u16) -> Numbers
     requires { ⌜ (numbers .count ≤ 255) × (numbers .next ≤ 23715) ⌝ }
     ensures { λ r. ⌜ TailNumbers first n (now (index .entry)) numbers (now (index .exit)) r ⌝ }
 {
-    let end = tail_end(numbers.count, n);
-    let mut p = numbers.at;
-    let mut count = numbers.count;
-    let mut next = numbers.next;
-    while count < end {
-        p = emit::put_index(index, p, to_index(first, next));
-        count += 1;
-        next += 1;
+    if n == 0 {
+        return numbers;
     }
-    Numbers { at: p, count, next }
+    let end = tail_end(numbers.count, n);
+    let m = end - numbers.count;
+    let at = put_ramp(index, numbers.at, first, numbers.next, m);
+    Numbers {
+        at,
+        count: end,
+        next: numbers.next + m as u16,
+    }
 }
 
 // The atom after the floating groups, the first of which is the atom given.

@@ -1,59 +1,42 @@
 use borrow.Author.Needs.{needs}
-use Prim.Native.Nat.{_≤_, _-_}
 use native.Mathlib.Omega.{arith}
-use Rattle.atoms.proofs.NumberLaws.{Tail, tail-start, tail-next, tail-numbers, tail-size}
+use Rattle.atoms.proofs.NumberLaws.{tail-empty, tail-numbers}
 use Rattle.atoms.proofs.number_tail.Statement.{statement}
 use Rattle.atoms.proofs.number_tail.Tie as tie
 
-abbrev Inv-loop : tie.InvT-loop
-Inv-loop index₀ first n end p₀ count₀ next₀ index p count next = (end ≤ 256) × (count ≤ end) × (next₀ ≤ 23715) × Tail first index₀ p₀ count₀ next₀ index p count next
+returns : tie.Need-returns
+returns c = search (tail-empty, arith)
 
-abbrev μ-loop : tie.MeasureT-loop
-μ-loop index₀ first n end p₀ count₀ next₀ index p count next = end - count
-
-tail-end-requires : tie.Need-tail-end-requires Inv-loop μ-loop
+tail-end-requires : tie.Need-tail-end-requires
 tail-end-requires c κs = search needs
 
-loop-holds : tie.Need-loop-holds Inv-loop μ-loop
-loop-holds c = (omega arith, omega arith, omega arith, tail-start _ _ _ _ _ (omega arith))
+sub-m : tie.Need-sub-m
+sub-m c = search needs
 
-to-index-requires : tie.Need-to-index-requires Inv-loop μ-loop
-to-index-requires c κs = search needs
+put-ramp-requires : tie.Need-put-ramp-requires
+put-ramp-requires c κs = search needs
 
-put-index-requires : tie.Need-put-index-requires Inv-loop μ-loop
-put-index-requires c κs = search needs
+cast-t11 : tie.Need-cast-t11
+cast-t11 c = search needs
 
-add-count : tie.Need-add-count Inv-loop μ-loop
-add-count c = search needs
+add-t12 : tie.Need-add-t12
+add-t12 c = search needs
 
-add-next : tie.Need-add-next Inv-loop μ-loop
-add-next c = search needs
+same-length : tie.Need-same-length
+same-length c = search needs
 
-loop-less : tie.Need-loop-less Inv-loop μ-loop
-loop-less c = search needs
-
-loop-again : tie.Need-loop-again Inv-loop μ-loop
-loop-again c = (omega arith, omega arith, omega arith, search tail-next)
-
-same-length : tie.Need-same-length Inv-loop μ-loop
-same-length c = search tail-size
-
-returns : tie.Need-returns Inv-loop μ-loop
-returns c = search tail-numbers
+returns-2 : tie.Need-returns-2
+returns-2 c = search tail-numbers
 
 pub number-tail-spec : {M : Type 1} → statement M
 number-tail-spec =
     tie.close
     (tie.spec
-    Inv-loop
-    μ-loop
+    returns
     tail-end-requires
-    loop-holds
-    to-index-requires
-    put-index-requires
-    add-count
-    add-next
-    loop-less
-    loop-again
+    sub-m
+    put-ramp-requires
+    cast-t11
+    add-t12
     same-length
-    returns)
+    returns-2)

@@ -1,0 +1,28 @@
+use borrow.Author.Needs.{needs}
+use mathlib.Core.Bool.{false≢true}
+use Rattle.atoms.proofs.has_room.Statement.{statement}
+use Rattle.atoms.proofs.has_room.Tie as tie
+
+cast-most : tie.Need-cast-most
+cast-most c = search needs
+
+returns : tie.Need-returns
+returns c = λ e. absurd (false≢true e)
+
+returns-2 : tie.Need-returns-2
+returns-2 c = λ e. absurd (false≢true e)
+
+returns-3 : tie.Need-returns-3
+returns-3 c = λ e. absurd (false≢true e)
+
+returns-4 : tie.Need-returns-4
+returns-4 c = λ e. absurd (false≢true e)
+
+returns-5 : tie.Need-returns-5
+returns-5 c = λ e. absurd (false≢true e)
+
+returns-6 : tie.Need-returns-6
+returns-6 c = λ e. search needs
+
+pub has-room-spec : {M : Type 1} → statement M
+has-room-spec = tie.close (tie.spec cast-most returns returns-2 returns-3 returns-4 returns-5 returns-6)
