@@ -6,7 +6,7 @@ ghost use lib.ListN.{length, take};
 ghost use Rattle.emit.specs.Text.{Written};
 ghost use Rattle.judge.specs.Verdict.{verdict};
 ghost use Rattle.forward.specs.Call.{Called};
-ghost use Rattle.sheet.specs.Cells.{cellOf, snCells};
+ghost use Rattle.sheet.specs.Cells.{cellOf, snCells, Cut};
 ghost use Rattle.sheet.specs.Sheet.{requestOf};
 ghost use Rattle.batch.specs.Reply.{answerText, RowAnswered};
 ghost use Rattle.beginning.specs.declared.Stage.the-variants.{Rows};
@@ -51,23 +51,26 @@ fn put_answer(out: &mut [u8], at: usize, answer: Answer, line: &[u8], index: &[u
     )
 }
 
-// A row that is readable, drawn.
+// A row that is readable and cut into so many cells, drawn.
 fn draw_row(
     plan: Plan,
     row: &[u8],
+    cells: usize,
+    starts: &[usize],
     swap: bool,
     count: usize,
     line: &mut [u8],
     index: &mut [u16],
 ) -> Answer
+    requires { ⌜ Cut (now row) (now starts) cells ⌝ }
     ensures { λ r. ⌜ Called (verdict (cellOf plan 0 (now (row .entry))) (cellOf plan 2 (now (row .entry))) count (take count (snCells plan (now (row .entry))))) swap (cellOf plan 2 (now (row .entry))) (now (line .entry)) (now (index .entry)) (now (line .exit)) (now (index .exit)) r ⌝ }
 {
-    let class = sheet::cell(plan, row, sheet::CLASS);
-    let tail = sheet::cell(plan, row, sheet::TAIL);
-    let sn1 = sheet::cell(plan, row, sheet::SN1);
-    let sn2 = sheet::cell(plan, row, sheet::SN2);
-    let sn3 = sheet::cell(plan, row, sheet::SN3);
-    let sn4 = sheet::cell(plan, row, sheet::SN4);
+    let class = sheet::cell_of(plan, row, cells, starts, sheet::CLASS);
+    let tail = sheet::cell_of(plan, row, cells, starts, sheet::TAIL);
+    let sn1 = sheet::cell_of(plan, row, cells, starts, sheet::SN1);
+    let sn2 = sheet::cell_of(plan, row, cells, starts, sheet::SN2);
+    let sn3 = sheet::cell_of(plan, row, cells, starts, sheet::SN3);
+    let sn4 = sheet::cell_of(plan, row, cells, starts, sheet::SN4);
     forward::draw(class, swap, tail, count, sn1, sn2, sn3, sn4, line, index)
 }
 
@@ -82,11 +85,22 @@ pub fn answer_row(
 ) -> Answered
     ensures { λ r. ⌜ RowAnswered (requestOf plan (now (row .entry))) (now (line .entry)) (now (index .entry)) (now (out .entry)) at (now (line .exit)) (now (index .exit)) (now (out .exit)) r ⌝ }
 {
-    let asked = sheet::read_row(plan, row);
+    let mut starts = [0usize; sheet::STARTS];
+    let cells = sheet::cut(row, &mut starts);
+    let asked = sheet::read_cut(plan, row, cells, &starts);
     if !asked.readable {
         return put_unreadable(out, at);
     }
-    let answer = draw_row(plan, row, asked.swap, asked.count, line, index);
+    let answer = draw_row(
+        plan,
+        row,
+        cells,
+        &starts,
+        asked.swap,
+        asked.count,
+        line,
+        index,
+    );
     let next = put_answer(out, at, answer, line, index);
     Answered {
         number: answer.number,

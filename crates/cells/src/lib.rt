@@ -1,15 +1,49 @@
-// The cells of a row, as lent bytes: the cell of a column by the header's plan here, and what a swap cell and the token cells say as
-// `cellwords` has it. Every byte string is defined for. What it is, is said by specs/Cells.antt.
+// The cells of a row, as lent bytes: a row is cut once, and the cell of a column by the header's plan is then a part of it; what a swap cell
+// and the token cells say as `cellwords` has it. Every byte string is defined for. What it is, is said by specs/Cells.antt.
 pub use cellwords::Swap;
 pub use cellwords::swap_of;
 pub use cellwords::token_count;
 use header::COLUMNS;
 use header::Plan;
 ghost use mathlib.Core.Path.{_≡_};
+ghost use lib.ListN.{set};
 ghost use Rattle.header.specs.Header.{cellsOf};
-ghost use Rattle.cells.specs.Cells.{cellAt, cellOf};
+ghost use Rattle.cells.specs.Cells.{cellAt, cellOf, Cut};
 
-// A cell by its place from 1, a part of the row; no bytes for the place 0 and past the last.
+// Room for where each cell of a row of all columns starts, and for one place more.
+pub const STARTS: usize = 8;
+
+// A place, kept where there is room for it.
+fn keep(starts: &mut [usize], k: usize, at: usize)
+    ensures { λ _. ⌜ now (starts .exit) ≡ set (now (starts .entry)) k at ⌝ }
+{
+    if k < starts.len() {
+        starts[k] = at;
+    }
+}
+
+// How many cells a row has, and where the first of them start. The place after a cell's tab is kept after each, and after the last one more
+// than the length, so that a cell ends one byte before what is kept next.
+pub fn cut(row: &[u8], starts: &mut [usize]) -> usize
+    ensures { λ r. ⌜ Cut (now (row .entry)) (now (starts .exit)) r ⌝ }
+{
+    keep(starts, 0, 0);
+    let mut t = row;
+    let mut from = 0;
+    let mut n = 0;
+    loop {
+        let end = scan::find(t, b'\t');
+        n += 1;
+        from += end + 1;
+        keep(starts, n, from);
+        if end == t.len() {
+            return n;
+        }
+        t = &t[end + 1..];
+    }
+}
+
+// A cell by its place from 1, a part of the row, where its start is not kept; no bytes for the place 0 and past the last.
 fn cell_at(row: &[u8], place: usize) -> &[u8]
     ensures { λ r. ⌜ now r ≡ cellAt place (cellsOf (now (row .entry))) ⌝ }
 {
@@ -31,13 +65,39 @@ fn cell_at(row: &[u8], place: usize) -> &[u8]
     }
 }
 
-// The cell of a column, a part of the row.
-pub fn cell(plan: Plan, row: &[u8], column: usize) -> &[u8]
+// A cell of a row that is cut, by its place from 1, a part of the row; no bytes for the place 0 and past the last.
+fn cell_in<'a>(row: &'a [u8], count: usize, starts: &[usize], place: usize) -> &'a [u8]
+    requires { ⌜ Cut (now row) (now starts) count ⌝ }
+    ensures { λ r. ⌜ now r ≡ cellAt place (cellsOf (now (row .entry))) ⌝ }
+{
+    if place == 0 {
+        return &row[0..0];
+    }
+    if count < place {
+        return &row[0..0];
+    }
+    if starts.len() <= place {
+        return cell_at(row, place);
+    }
+    let from = starts[place - 1];
+    let to = starts[place] - 1;
+    &row[from..to]
+}
+
+// The cell of a column of a row that is cut, a part of the row.
+pub fn cell_of<'a>(
+    plan: Plan,
+    row: &'a [u8],
+    count: usize,
+    starts: &[usize],
+    column: usize,
+) -> &'a [u8]
+    requires { ⌜ Cut (now row) (now starts) count ⌝ }
     ensures { λ r. ⌜ now r ≡ cellOf plan column (now (row .entry)) ⌝ }
 {
     if COLUMNS <= column {
         return &row[0..0];
     }
     let place = plan.places[column];
-    cell_at(row, place)
+    cell_in(row, count, starts, place)
 }

@@ -1,15 +1,12 @@
--- Laws of rows: of the loop over the cells a turn and each way out, and what a row asks.
+-- Laws of rows: what a row asks.
 -- Assumes nothing.
-use Prim.Native.Nat.{ℕ, _+_, _-_, _≤_, _<_}
-use native.Mathlib.Omega.{arith}
+use Prim.Native.Nat.{ℕ, _≤_, _<_}
 use mathlib.Core.Path.{_≡_, sym, _∙_}
 use mathlib.Core.Bool.{true, false}
 use mathlib.Core.List.{List, [], _∷_}
-use lib.ListN.{length, take, drop}
+use lib.ListN.{length}
 use lib.Seq.{length-take-le}
 use borrow.Author.Tests.{eq-eqb, ne-eqb, lt-ltb, le-ltb}
-use Rattle.scan.specs.Part.{Place, indexOf}
-use Rattle.form.proofs.Laws.{parts-last, parts-more}
 use Rattle.header.specs.declared.Plan.{Plan}
 use Rattle.header.specs.Header.{cellsOf}
 use Rattle.cellwords.specs.declared.Swap.{Swap}
@@ -19,15 +16,6 @@ use Rattle.cells.specs.Cells.{cellOf, snCells, tokensIn}
 use Rattle.cellwords.proofs.Laws.{last-within}
 use Rattle.sheet.specs.declared.Asked.{Asked}
 use Rattle.sheet.specs.Sheet.{Unreadable, withSwap, requestOf, told}
-
--- ---- the number of cells
-
-module _ (A : ℕ) (t : List ℕ) (n k : ℕ) (f : Place t (indexOf 9 t) k) (h : A ≡ n + length (cellsOf t)) where
-  pub cells-last : k ≡ length t → n + 1 ≡ A
-  cells-last e = let z = rw (parts-last 9 t k f e) at h in omega arith
-
-  pub cells-more : (k ≡ length t → ⊥) → A ≡ n + 1 + length (cellsOf (take (length t - (k + 1)) (drop (k + 1) t)))
-  cells-more e = let z = rw (parts-more 9 t k f e) at h in omega arith
 
 -- ---- what a row asks
 

@@ -3,8 +3,17 @@ use borrow.Author.Needs.{needs}
 use Rattle.batch.proofs.answer_row.Statement.{statement}
 use Rattle.batch.proofs.answer_row.Tie as tie
 
-read-row-requires : tie.Need-read-row-requires
-read-row-requires c κs = search needs
+slice-aggregate-cut : tie.Need-slice-aggregate-cut
+slice-aggregate-cut c = search needs
+
+cut-requires : tie.Need-cut-requires
+cut-requires c κs = search needs
+
+slice-aggregate-read-cut : tie.Need-slice-aggregate-read-cut
+slice-aggregate-read-cut c = search needs
+
+read-cut-requires : tie.Need-read-cut-requires
+read-cut-requires c κs = search needs
 
 put-unreadable-requires : tie.Need-put-unreadable-requires
 put-unreadable-requires c κs = search needs
@@ -14,6 +23,9 @@ same-length c = search needs
 
 returns : tie.Need-returns
 returns c = search row-unreadable
+
+slice-aggregate-draw-row : tie.Need-slice-aggregate-draw-row
+slice-aggregate-draw-row c = search needs
 
 draw-row-requires : tie.Need-draw-row-requires
 draw-row-requires c κs = search needs
@@ -37,10 +49,14 @@ pub answer-row-spec : {M : Type 1} → statement M
 answer-row-spec =
     tie.close
     (tie.spec
-    read-row-requires
+    slice-aggregate-cut
+    cut-requires
+    slice-aggregate-read-cut
+    read-cut-requires
     put-unreadable-requires
     same-length
     returns
+    slice-aggregate-draw-row
     draw-row-requires
     put-answer-requires
     same-length-2

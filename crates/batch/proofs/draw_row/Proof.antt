@@ -3,23 +3,23 @@ use borrow.Author.Needs.{needs}
 use Rattle.batch.proofs.draw_row.Statement.{statement}
 use Rattle.batch.proofs.draw_row.Tie as tie
 
-cell-requires : tie.Need-cell-requires
-cell-requires c κs = search needs
+cell-of-requires : tie.Need-cell-of-requires
+cell-of-requires c κs = search needs
 
-cell-requires-2 : tie.Need-cell-requires-2
-cell-requires-2 c κs = search needs
+cell-of-requires-2 : tie.Need-cell-of-requires-2
+cell-of-requires-2 c κs = search needs
 
-cell-requires-3 : tie.Need-cell-requires-3
-cell-requires-3 c κs = search needs
+cell-of-requires-3 : tie.Need-cell-of-requires-3
+cell-of-requires-3 c κs = search needs
 
-cell-requires-4 : tie.Need-cell-requires-4
-cell-requires-4 c κs = search needs
+cell-of-requires-4 : tie.Need-cell-of-requires-4
+cell-of-requires-4 c κs = search needs
 
-cell-requires-5 : tie.Need-cell-requires-5
-cell-requires-5 c κs = search needs
+cell-of-requires-5 : tie.Need-cell-of-requires-5
+cell-of-requires-5 c κs = search needs
 
-cell-requires-6 : tie.Need-cell-requires-6
-cell-requires-6 c κs = search needs
+cell-of-requires-6 : tie.Need-cell-of-requires-6
+cell-of-requires-6 c κs = search needs
 
 draw-requires : tie.Need-draw-requires
 draw-requires c κs = search needs
@@ -37,12 +37,12 @@ pub draw-row-spec : {M : Type 1} → statement M
 draw-row-spec =
     tie.close
     (tie.spec
-    cell-requires
-    cell-requires-2
-    cell-requires-3
-    cell-requires-4
-    cell-requires-5
-    cell-requires-6
+    cell-of-requires
+    cell-of-requires-2
+    cell-of-requires-3
+    cell-of-requires-4
+    cell-of-requires-5
+    cell-of-requires-6
     draw-requires
     same-length
     same-length-2

@@ -1,16 +1,13 @@
 use borrow.Author.Needs.{needs}
 use Rattle.sheet.proofs.Laws.{row-long, row-other, row-no, row-yes, row-swap}
-use Rattle.sheet.proofs.read_row.Statement.{statement}
-use Rattle.sheet.proofs.read_row.Tie as tie
+use Rattle.sheet.proofs.read_cut.Statement.{statement}
+use Rattle.sheet.proofs.read_cut.Tie as tie
 
 unreadable-requires : tie.Need-unreadable-requires
 unreadable-requires c κs = search needs
 
 returns : tie.Need-returns
 returns c = search row-long
-
-cell-count-requires : tie.Need-cell-count-requires
-cell-count-requires c κs = search needs
 
 unreadable-requires-2 : tie.Need-unreadable-requires-2
 unreadable-requires-2 c κs = search needs
@@ -21,8 +18,8 @@ returns-2 c = search row-other
 tokens-in-requires : tie.Need-tokens-in-requires
 tokens-in-requires c κs = search needs
 
-cell-requires : tie.Need-cell-requires
-cell-requires c κs = search needs
+cell-of-requires : tie.Need-cell-of-requires
+cell-of-requires c κs = search needs
 
 swap-of-requires : tie.Need-swap-of-requires
 swap-of-requires c κs = search needs
@@ -48,17 +45,16 @@ returns-4 c = search row-yes
 returns-5 : tie.Need-returns-5
 returns-5 c = search row-swap
 
-pub read-row-spec : {M : Type 1} → statement M
-read-row-spec =
+pub read-cut-spec : {M : Type 1} → statement M
+read-cut-spec =
     tie.close
     (tie.spec
     unreadable-requires
     returns
-    cell-count-requires
     unreadable-requires-2
     returns-2
     tokens-in-requires
-    cell-requires
+    cell-of-requires
     swap-of-requires
     enum-told
     enum-told-2

@@ -1,8 +1,8 @@
 use borrow.Author.Needs.{needs}
 use Rattle.cells.proofs.Laws.{cell-left-out}
 use borrow.Author.Needs.{length-unmapped}
-use Rattle.cells.proofs.cell.Statement.{statement}
-use Rattle.cells.proofs.cell.Tie as tie
+use Rattle.cells.proofs.cell_of.Statement.{statement}
+use Rattle.cells.proofs.cell_of.Tie as tie
 
 sub-result : tie.Need-sub-result
 sub-result c = search needs
@@ -22,14 +22,14 @@ mul-place c = search needs
 element-copy-out-place : tie.Need-element-copy-out-place
 element-copy-out-place c = search needs
 
-cell-at-requires : tie.Need-cell-at-requires
-cell-at-requires c κs = search needs
+cell-in-requires : tie.Need-cell-in-requires
+cell-in-requires c κs = search needs
 
 returns-2 : tie.Need-returns-2
 returns-2 c = search needs
 
-pub cell-spec : {M : Type 1} → statement M
-cell-spec =
+pub cell-of-spec : {M : Type 1} → statement M
+cell-of-spec =
     tie.close
     (tie.spec
     sub-result
@@ -38,5 +38,5 @@ cell-spec =
     returns
     mul-place
     element-copy-out-place
-    cell-at-requires
+    cell-in-requires
     returns-2)
