@@ -3,14 +3,16 @@
 // are by specs/Chains.antt.
 ghost use mathlib.Core.Path.{_≡_};
 ghost use mathlib.Core.List.{map};
-ghost use Prim.Native.Nat.{min};
+ghost use Prim.Native.Nat.{_+_, _*_, _≤_, min};
 ghost use lib.ListN.{length, take};
 ghost use Rattle.emit.specs.Text.{Written, decimal};
 ghost use Rattle.reading.specs.Parting.{joined};
 ghost use Rattle.shown.specs.Chained.{parting, listed};
 ghost use Rattle.heads.specs.Text.{ended, chainText, chainsText, rowText};
 ghost use Rattle.rows.specs.Chains.{carbonsOf};
+ghost use Rattle.rows.specs.Near.{Near};
 use emit::put_byte;
+use emit::put_number;
 use emit::put_text;
 pub use heads::put_decimal;
 pub use heads::put_head;
@@ -35,7 +37,8 @@ fn put_index(out: &mut [u8], at: usize, more: bool, index: u16) -> usize
     put_decimal(out, p, index as u64)
 }
 
-fn put_indices(out: &mut [u8], at: usize, indices: &[u16]) -> usize
+// The indices of a chain, each with a look at the end.
+fn put_each(out: &mut [u8], at: usize, indices: &[u16]) -> usize
     ensures { λ r. ⌜ Written (now (out .entry)) at (joined 46 (map decimal (now (indices .entry)))) (now (out .exit)) r ⌝ }
 {
     let mut p = at;
@@ -45,6 +48,69 @@ fn put_indices(out: &mut [u8], at: usize, indices: &[u16]) -> usize
         i += 1;
     }
     p
+}
+
+// A number where there is room for five digits.
+fn store_number(out: &mut [u8], at: usize, n: u16) -> usize
+    requires { ⌜ at + 5 ≤ length (now out) ⌝ }
+    ensures { λ r. ⌜ Near 5 (now (out .entry)) at (decimal n) (now (out .exit)) r ⌝ }
+{
+    if n < 10 {
+        out[at] = (48 + n) as u8;
+        return at + 1;
+    }
+    let tens = n / 10;
+    if n < 100 {
+        out[at] = (48 + tens) as u8;
+        out[at + 1] = (48 + n % 10) as u8;
+        return at + 2;
+    }
+    if n < 1000 {
+        out[at] = (48 + tens / 10) as u8;
+        out[at + 1] = (48 + tens % 10) as u8;
+        out[at + 2] = (48 + n % 10) as u8;
+        return at + 3;
+    }
+    put_number(out, at, n as u32)
+}
+
+// An index of a list where there is room for a dot and five digits.
+fn store_index(out: &mut [u8], at: usize, more: bool, index: u16) -> usize
+    requires { ⌜ at + 6 ≤ length (now out) ⌝ }
+    ensures { λ r. ⌜ Near 6 (now (out .entry)) at (listed more 46 (decimal index)) (now (out .exit)) r ⌝ }
+{
+    if more {
+        out[at] = b'.';
+        return store_number(out, at + 1, index);
+    }
+    store_number(out, at, index)
+}
+
+// The indices of a chain where there is room for all of them: no look at the end.
+fn store_each(out: &mut [u8], at: usize, indices: &[u16]) -> usize
+    requires { ⌜ at + 6 * length (now indices) ≤ length (now out) ⌝ }
+    ensures { λ r. ⌜ Written (now (out .entry)) at (joined 46 (map decimal (now (indices .entry)))) (now (out .exit)) r ⌝ }
+{
+    let mut p = at;
+    let mut i = 0;
+    while i < indices.len() {
+        p = store_index(out, p, 0 < i, indices[i]);
+        i += 1;
+    }
+    p
+}
+
+// The indices of a chain.
+fn put_indices(out: &mut [u8], at: usize, indices: &[u16]) -> usize
+    ensures { λ r. ⌜ Written (now (out .entry)) at (joined 46 (map decimal (now (indices .entry)))) (now (out .exit)) r ⌝ }
+{
+    if out.len() < at {
+        return put_each(out, at, indices);
+    }
+    if (out.len() - at) / 6 < indices.len() {
+        return put_each(out, at, indices);
+    }
+    store_each(out, at, indices)
 }
 
 // A chain: its sn and its indices.

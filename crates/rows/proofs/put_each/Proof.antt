@@ -7,8 +7,8 @@ use Rattle.emit.specs.Text.{Written, decimal}
 use Rattle.emit.proofs.Laws.{written-nil, written-length}
 use Rattle.reading.specs.Parting.{joined}
 use Rattle.sites.proofs.Laws.{sites-more, sites-all}
-use Rattle.rows.proofs.put_indices.Statement.{statement}
-use Rattle.rows.proofs.put_indices.Tie as tie
+use Rattle.rows.proofs.put_each.Statement.{statement}
+use Rattle.rows.proofs.put_each.Tie as tie
 
 abbrev Inv-loop : tie.InvT-loop
 Inv-loop out₀ at indices p₀ i₀ out p i = (i ≤ length indices) × Written out₀ at (joined 46 (map decimal (take i indices))) out p
@@ -44,8 +44,8 @@ same-length c = search written-length
 returns : tie.Need-returns Inv-loop μ-loop
 returns c = search sites-all
 
-pub put-indices-spec : {M : Type 1} → statement M
-put-indices-spec =
+pub put-each-spec : {M : Type 1} → statement M
+put-each-spec =
     tie.close
     (tie.spec
     Inv-loop

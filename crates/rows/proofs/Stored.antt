@@ -1,0 +1,75 @@
+-- Laws of the indices that are written where there is room: a law for each way out and for a turn of the loop. Assumes nothing.
+use Prim.Native.Nat.{ℕ, _+_, _*_, _-_, _/_, _%_, _^_, _≤_, _<_}
+use native.Mathlib.Omega.{arith}
+use mathlib.Core.Path.{_≡_, refl, ap, _∙_}
+use mathlib.Core.Bool.{Bool, true, false}
+use mathlib.Core.List.{List, [], _∷_, map}
+use lib.ListN.{length, take, getD, set, length-set}
+use lib.Dec.{ltb}
+use Rattle.emit.specs.Text.{Written, decimal}
+use Rattle.emit.proofs.Laws.{written-append, written-nil, written-small, written-two, written-three, written-length}
+use Rattle.reading.specs.Parting.{joined}
+use Rattle.shown.specs.Chained.{listed, parting}
+use Rattle.sites.proofs.Laws.{sites-more}
+use Rattle.heads.proofs.Room.{digits-few}
+use Rattle.rows.specs.Near.{Near}
+
+-- a byte where there is room
+stored : (xs : List ℕ) (at b r : ℕ) → at < length xs → length xs < 2 ^ 64 → r ≡ at + 1 → Written xs at (b ∷ []) (set xs at b) r
+stored xs at b r h g e = record { elements = refl; next = omega arith }
+
+-- ---- a number
+
+module _ (xs : List ℕ) (at n : ℕ) (room : at + 5 ≤ length xs) (g : length xs < 2 ^ 64) where
+  pub stored-one : n < 10 → Near 5 xs at (decimal n) (set xs at (48 + n)) (at + 1)
+  stored-one h = record { text = written-small n h (stored xs at (48 + n) (at + 1) (omega arith) g refl); next = omega arith }
+
+  module _ (tens : ℕ) (e : tens ≡ n / 10) (h : 10 ≤ n) where
+    pub stored-two : n < 100 → Near 5 xs at (decimal n) (set (set xs at (48 + tens)) (at + 1) (48 + n % 10)) (at + 2)
+    stored-two k =
+        let l = length-set xs at (48 + n / 10) in
+        record {
+          text = (rw e (written-two n g h k (stored xs at (48 + n / 10) (at + 1) (omega arith) g refl)
+              (stored (set xs at (48 + n / 10)) (at + 1) (48 + n % 10) (at + 2) (omega (arith, l)) (omega (arith, l)) (omega arith))));
+          next = omega arith;
+        }
+
+    pub stored-three : 100 ≤ n → n < 1000
+        → Near 5 xs at (decimal n) (set (set (set xs at (48 + tens / 10)) (at + 1) (48 + tens % 10)) (at + 2) (48 + n % 10)) (at + 3)
+    stored-three j k =
+        let ys : List ℕ = set xs at (48 + tens / 10) in
+        let zs : List ℕ = set ys (at + 1) (48 + tens % 10) in
+        let l = length-set xs at (48 + tens / 10) in
+        let m = length-set ys (at + 1) (48 + tens % 10) in
+        let t : Written xs at (decimal tens) zs (at + 2)
+        = written-two tens g (omega (arith, e)) (omega (arith, e)) (stored xs at (48 + tens / 10) (at + 1) (omega arith) g refl)
+        (stored ys (at + 1) (48 + tens % 10) (at + 2) (omega (arith, l)) (omega (arith, l)) (omega arith)) in
+        let d : decimal tens ≡ decimal (n / 10) = ap decimal e in
+        record {
+          text = written-three n g j (rw d at t) (stored zs (at + 2) (48 + n % 10) (at + 3) (omega (arith, l, m)) (omega (arith, l, m)) (omega arith));
+          next = omega arith;
+        }
+
+pub stored-many : (xs ys : List ℕ) (at n r : ℕ) → n < 2 ^ 16 → Written xs at (decimal n) ys r → Near 5 xs at (decimal n) ys r
+stored-many xs ys at n r h w = record { text = w; next = omega (arith, w .next, digits-few 4 n (omega arith)) }
+
+-- ---- an index
+
+pub stored-first : (xs ys : List ℕ) (at n r : ℕ) (more : Bool) → more ≡ false → Near 5 xs at (decimal n) ys r → Near 6 xs at (listed more 46 (decimal n)) ys r
+unfolding listed parting
+stored-first xs ys at n r more e w = record { text = (rw e (w .text)); next = omega (arith, w .next) }
+
+pub stored-next : (xs ys : List ℕ) (at n r : ℕ) (more : Bool) → more ≡ true → at + 6 ≤ length xs → length xs < 2 ^ 64
+    → Near 5 (set xs at 46) (at + 1) (decimal n) ys r → Near 6 xs at (listed more 46 (decimal n)) ys r
+unfolding listed parting
+stored-next xs ys at n r more e room g w =
+    record { text = (rw e (written-append g (stored xs at 46 (at + 1) (omega arith) g refl) (w .text))); next = omega (arith, w .next) }
+
+pub stored-length : (xs : List ℕ) (at b : ℕ) {ts ys : List ℕ} {p r : ℕ} → Near 5 (set xs at b) p ts ys r → length ys ≡ length xs
+stored-length xs at b w = written-length (w .text) ∙ length-set xs at b
+
+-- ---- the indices of a chain
+
+pub stored-more : {xs ys zs : List ℕ} {a p q : ℕ} (i : ℕ) (g : length xs < 2 ^ 64) (js : List ℕ) → i < length js → Written xs a (joined 46 (map decimal (take i js))) ys p
+    → Near 6 ys p (listed (ltb 0 i) 46 (decimal (getD js i 0))) zs q → Written xs a (joined 46 (map decimal (take (i + 1) js))) zs q
+stored-more i g js h w u = sites-more i g js h w (u .text)
