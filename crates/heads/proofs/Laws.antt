@@ -1,10 +1,14 @@
 -- Laws of the writers of the head of a row: a law for each way out. Assumes nothing.
-use Prim.Native.Nat.{ℕ, _^_, _<_}
+use Prim.Native.Nat.{ℕ, _+_, _^_, _≤_, _<_}
+use native.Mathlib.Omega.{arith}
 use mathlib.Core.List.{List, [], _∷_}
 use lib.ListN.{length}
 use Rattle.emit.specs.Text.{Written, decimal}
-use Rattle.emit.proofs.Laws.{written-append}
+use Rattle.emit.proofs.Laws.{written-append, written-small}
 use Rattle.heads.specs.Text.{ended, headText}
+
+pub digit-text : {xs ys : List ℕ} {at p : ℕ} (n : ℕ) → n ≤ 9 → Written xs at ((48 + n) ∷ []) ys p → Written xs at (decimal n) ys p
+digit-text n h w = written-small n (omega arith) w
 
 module _ {xs ys zs : List ℕ} {a p q : ℕ} (t : List ℕ) (b : ℕ) (g : length xs < 2 ^ 64) (w : Written xs a t ys p) (u : Written ys p (b ∷ []) zs q) where
   pub ended-text : Written xs a (ended t b) zs q

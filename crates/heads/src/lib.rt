@@ -4,16 +4,26 @@ ghost use Rattle.emit.specs.Text.{Written, decimal};
 ghost use Rattle.heads.specs.Text.{ended, headText};
 use emit::put_byte;
 
-// The decimal digits of n, most significant first, with no leading zero.
-pub fn put_decimal(out: &mut [u8], at: usize, n: u64) -> usize
+// The decimal digits of n, most significant first, with no leading zero, one by one.
+fn put_many(out: &mut [u8], at: usize, n: u64) -> usize
     ensures { λ r. ⌜ Written (now (out .entry)) at (decimal n) (now (out .exit)) r ⌝ }
 {
     if n < 10 {
         put_byte(out, at, (48 + n) as u8)
     } else {
-        let p = put_decimal(out, at, n / 10);
+        let p = put_many(out, at, n / 10);
         put_byte(out, p, (48 + n % 10) as u8)
     }
+}
+
+// The decimal digits of n. Most numbers of a row have one, which needs no calls one within the other.
+pub fn put_decimal(out: &mut [u8], at: usize, n: u64) -> usize
+    ensures { λ r. ⌜ Written (now (out .entry)) at (decimal n) (now (out .exit)) r ⌝ }
+{
+    if n <= 9 {
+        return put_byte(out, at, (48 + n) as u8);
+    }
+    put_many(out, at, n)
 }
 
 // A number and a tab.

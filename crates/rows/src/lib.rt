@@ -13,7 +13,6 @@ ghost use Rattle.rows.specs.Chains.{carbonsOf};
 ghost use Rattle.rows.specs.Near.{Near};
 use emit::put_byte;
 use emit::put_number;
-use emit::put_text;
 pub use heads::put_decimal;
 pub use heads::put_head;
 pub use heads::put_number_cell;
@@ -164,7 +163,7 @@ fn put_chains(out: &mut [u8], at: usize, lists: Lists, index: &[u16]) -> usize
 fn put_text_cell(out: &mut [u8], at: usize, text: &[u8]) -> usize
     ensures { λ r. ⌜ Written (now (out .entry)) at (ended (now (text .entry)) 9) (now (out .exit)) r ⌝ }
 {
-    let p = put_text(out, at, text);
+    let p = copying::copy_at(out, at, text);
     put_byte(out, p, b'\t')
 }
 

@@ -1,36 +1,43 @@
-use Prim.Native.Nat.{_≤_, _-_}
+use borrow.Author.Needs.{needs}
+use Prim.Native.Nat.{_+_, _≤_, _-_}
 use native.Mathlib.Omega.{arith}
 use mathlib.Core.Path.{_≡_, refl}
 use lib.ListN.{length, take, length-set}
 use Rattle.emit.specs.Text.{Written}
-use Rattle.emit.proofs.Laws.{written-nil, written-whole, written-length}
-use Rattle.copying.proofs.Laws.{copied-byte}
+use Rattle.emit.proofs.Laws.{written-whole, written-length}
+use Rattle.copying.proofs.Laws.{copied-none, copied-byte}
 use Rattle.copying.proofs.copy_whole.Statement.{statement}
 use Rattle.copying.proofs.copy_whole.Tie as tie
 
 abbrev Inv-loop : tie.InvT-loop
-Inv-loop out₀ text i₀ out i = (i ≤ length text) × (length out ≡ length out₀) × Written out₀ 0 (take i text) out i
+Inv-loop out₀ at text i₀ out i = (i ≤ length text) × (length out ≡ length out₀) × Written out₀ at (take i text) out (at + i)
 
 abbrev μ-loop : tie.MeasureT-loop
-μ-loop out₀ text i₀ out i = length text - i
+μ-loop out₀ at text i₀ out i = length text - i
 
 loop-holds : tie.Need-loop-holds Inv-loop μ-loop
-loop-holds c = (omega arith, refl, written-nil _ _ (omega arith))
+loop-holds c = (omega arith, refl, copied-none _ _ (omega arith))
 
 shared-slice-read-out : tie.Need-shared-slice-read-out Inv-loop μ-loop
-shared-slice-read-out c = omega arith
+shared-slice-read-out c = search needs
+
+add-out : tie.Need-add-out Inv-loop μ-loop
+add-out c = search needs
 
 slice-write-out : tie.Need-slice-write-out Inv-loop μ-loop
-slice-write-out c = omega arith
+slice-write-out c = search needs
 
 add-i : tie.Need-add-i Inv-loop μ-loop
-add-i c = omega arith
+add-i c = search needs
 
 loop-less : tie.Need-loop-less Inv-loop μ-loop
-loop-less c = omega arith
+loop-less c = search needs
 
 loop-again : tie.Need-loop-again Inv-loop μ-loop
 loop-again c = (omega arith, search (length-set, arith), search (copied-byte, arith))
+
+add-result : tie.Need-add-result Inv-loop μ-loop
+add-result c = search needs
 
 same-length : tie.Need-same-length Inv-loop μ-loop
 same-length c = search written-length
@@ -46,9 +53,11 @@ copy-whole-spec =
     μ-loop
     loop-holds
     shared-slice-read-out
+    add-out
     slice-write-out
     add-i
     loop-less
     loop-again
+    add-result
     same-length
     returns)
