@@ -16,6 +16,7 @@ use Rattle.emit.proofs.Laws.{written-append, written-nil}
 use Rattle.form.specs.Parts.{partsAt}
 use Rattle.form.proofs.Laws.{parts-last, parts-more}
 use Rattle.sheet.specs.Sheet.{requestOf}
+use Rattle.header.specs.declared.Plan.{Plan}
 use Rattle.tally.specs.declared.Counts.{Counts}
 use Rattle.beginning.specs.declared.Answered.{Answered}
 use Rattle.beginning.specs.declared.Stage.{Stage}
@@ -23,9 +24,10 @@ use Rattle.beginning.specs.declared.Stage.the-variants.{Header, Rows, Over}
 use Rattle.beginning.specs.declared.Batch.{Batch}
 use Rattle.beginning.specs.declared.Lined.{Lined}
 use Rattle.tally.specs.Counts.{counting, withAnswer, timesFrom, countLines}
+use Rattle.batch.specs.declared.Passed.{Passed}
 use Rattle.batch.specs.Reply.{RowAnswered}
 use Rattle.beginning.specs.Beginning.{textsOf, numbersOf, headerBatch, HeaderAnswered}
-use Rattle.batch.specs.Batch.{Held, batchAfter, heldAfter, heldFrom, isHeader, heldLast, before, staged, Holds, LinesAnswered, Finished}
+use Rattle.batch.specs.Batch.{Held, batchAfter, heldAfter, heldFrom, isHeader, heldLast, before, staged, Holds, LinesAnswered, among, passedIn, isRows, Finished}
 
 -- ---- a row
 
@@ -143,6 +145,43 @@ turn-full b₀ text xs is os at ys js ps b t p limit h g =
       all = λ z. absurd (true≢false (sym z));
       some = λ z. g;
     }
+
+-- ---- the rows of a text, counted where the counts stand
+
+module _ (plan : Plan) (ts₀ text xs is os : List ℕ) (at : ℕ) (ys js ps ts t : List ℕ) (p n : ℕ) (h : Turned (among plan ts₀) text xs is os at ys js ps (among plan ts) t p)
+    (f : Place t (indexOf 10 t) n) where
+  pub rows-more : (zs ks qs us : List ℕ) (a : Answered) → length os < 2 ^ 64 → (n ≡ length t → ⊥)
+      → RowAnswered (requestOf plan (take (n - 0) t)) ys js ps p zs ks qs a → us ≡ withAnswer ts (a .number)
+      → Turned (among plan ts₀) text xs is os at zs ks qs (among plan us) (take (length t - (n + 1)) (drop (n + 1) t)) (a .next)
+  rows-more zs ks qs us a g d w e =
+      turn-more (among plan ts₀) text xs is os at ys js ps (among plan ts) t p n h f (among plan us) zs ks qs (a .next) g d
+      (row-counted (among plan ts) (take (n - 0) t) ys js ps p zs ks qs a (counting us) w (ap counting e))
+
+  pub rows-last : (limit : ℕ) → n ≡ length t
+      → LinesAnswered (among plan ts₀) text xs is os at limit ys js ps (passedIn plan ts (record { used = length text - length t; next = p; whole = true }))
+  rows-last limit e = turn-last (among plan ts₀) text xs is os at ys js ps (among plan ts) t p n h f limit e
+
+pub rows-full : (plan : Plan) (ts₀ text xs is os : List ℕ) (at : ℕ) (ys js ps ts t : List ℕ) (p limit : ℕ)
+    → Turned (among plan ts₀) text xs is os at ys js ps (among plan ts) t p → limit < p
+    → LinesAnswered (among plan ts₀) text xs is os at limit ys js ps (passedIn plan ts (record { used = length text - length t; next = p; whole = false }))
+rows-full plan ts₀ text xs is os at ys js ps ts t p limit h g = turn-full (among plan ts₀) text xs is os at ys js ps (among plan ts) t p limit h g
+
+-- a batch among its rows
+rows-batch : (b : Batch) → isRows (b .stage) ≡ true → b ≡ among (b .plan) (b .counts .times)
+rows-batch b e = ap (λ (s : Stage). staged s b) (go (b .stage) e)
+  where
+    go : (s : Stage) → isRows s ≡ true → s ≡ Rows
+    go Header e = absurd (true≢false (sym e))
+    go Rows e = refl
+    go Over e = absurd (true≢false (sym e))
+
+pub rows-answered : (b : Batch) (q : Bool) (text xs is os : List ℕ) (at limit : ℕ) (ys js ps us : List ℕ) (r : Passed) → q ≡ isRows (b .stage) → not q ≡ false
+    → LinesAnswered (among (b .plan) (b .counts .times)) text xs is os at limit ys js ps (passedIn (b .plan) us r)
+    → LinesAnswered b text xs is os at limit ys js ps
+    (record { batch = record { stage = Rows; plan = b .plan; counts = record { times = us } }; used = r .used; next = r .next; whole = r .whole })
+rows-answered b q text xs is os at limit ys js ps us r e n w =
+    let z : b ≡ among (b .plan) (b .counts .times) = rows-batch b (sym e ∙ not-false q n) in
+    subst (λ (x : Batch). LinesAnswered x text xs is os at limit ys js ps (passedIn (b .plan) us r)) (sym z) w
 
 -- ---- the end of a sheet
 

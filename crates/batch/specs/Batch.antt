@@ -14,6 +14,7 @@ use Rattle.beginning.specs.declared.Stage.{Stage}
 use Rattle.beginning.specs.declared.Stage.the-variants.{Header, Rows, Over}
 use Rattle.beginning.specs.declared.Batch.{Batch}
 use Rattle.batch.specs.declared.Lines.{Lines}
+use Rattle.batch.specs.declared.Passed.{Passed}
 use Rattle.tally.specs.Counts.{counting, timesFrom, timesOf, countLines}
 use Rattle.beginning.specs.Beginning.{Reply, refused, textsOf, numbersOf, titles, headerReplies}
 use Rattle.batch.specs.Reply.{replyOf, lineIn, indexIn}
@@ -150,6 +151,19 @@ pub record LinesAnswered (b : Batch) (text xs is os : List ℕ) (at limit : ℕ)
   pub within : r .used ≤ length text
   pub all : r .whole ≡ true → partsAt 10 (drop (r .used) text) ≡ drop (r .used) text ∷ []
   pub some : r .whole ≡ false → limit < r .next
+
+-- a batch among its rows
+abbrev pub among : Plan → List ℕ → Batch
+among plan times = record { stage = Rows; plan = plan; counts = counting times }
+
+abbrev pub isRows : Stage → Bool
+isRows Header = false
+isRows Rows = true
+isRows Over = false
+
+-- some rows as lines
+abbrev pub passedIn : Plan → List ℕ → Passed → Lines
+passedIn plan times r = record { batch = among plan times; used = r .used; next = r .next; whole = r .whole }
 
 -- the last answer and the counts were written; h is held then
 pub record Finished (b : Batch) (l xs is os : List ℕ) (at : ℕ) (ys js ps : List ℕ) (r : ℕ) : Type 0 where

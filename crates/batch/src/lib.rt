@@ -10,7 +10,7 @@ ghost use Rattle.sheet.specs.Cells.{cellOf, snCells, Cut};
 ghost use Rattle.sheet.specs.Sheet.{requestOf};
 ghost use Rattle.batch.specs.Reply.{answerText, RowAnswered};
 ghost use Rattle.beginning.specs.declared.Stage.the-variants.{Rows};
-ghost use Rattle.batch.specs.Batch.{heldAfter, before, staged, Holds, LinesAnswered, isHeader, heldLast, Finished};
+ghost use Rattle.batch.specs.Batch.{heldAfter, before, staged, Holds, LinesAnswered, among, passedIn, isRows, isHeader, heldLast, Finished};
 pub use beginning::Answered;
 pub use beginning::Batch;
 pub use beginning::Lined;
@@ -22,6 +22,8 @@ use forward::Answer;
 pub use remnant::keep;
 use rows::put_row;
 use sheet::Plan;
+use tally::Counts;
+use tally::count_in;
 use tally::put_count_lines;
 
 // How much of the line slice is the line.
@@ -161,8 +163,53 @@ pub fn answer_line(
     }
 }
 
-// The lines of a text that end in LF, one by one, until what is written passes a limit.
-pub fn answer_lines(
+// How much of a text some rows are, the place after what was written, and whether no LF is left in the text.
+struct Passed {
+    used: usize,
+    next: usize,
+    whole: bool,
+}
+
+// The rows of a text that end in LF, one by one, until what is written passes a limit. The answers are counted where the counts stand: no batch
+// is handed from row to row.
+fn answer_rows(
+    plan: Plan,
+    times: &mut [u64],
+    text: &[u8],
+    line: &mut [u8],
+    index: &mut [u16],
+    out: &mut [u8],
+    at: usize,
+    limit: usize,
+) -> Passed
+    ensures { λ r. ⌜ LinesAnswered (among plan (now (times .entry))) (now (text .entry)) (now (line .entry)) (now (index .entry)) (now (out .entry)) at limit (now (line .exit)) (now (index .exit)) (now (out .exit)) (passedIn plan (now (times .exit)) r) ⌝ }
+{
+    let mut t = text;
+    let mut p = at;
+    while p <= limit {
+        let n = scan::find(t, b'\n');
+        if n == t.len() {
+            return Passed {
+                used: text.len() - t.len(),
+                next: p,
+                whole: true,
+            };
+        }
+        let rest = &t[n + 1..];
+        let answered = answer_row(plan, &t[0..n], line, index, out, p);
+        count_in(times, answered.number);
+        p = answered.next;
+        t = rest;
+    }
+    Passed {
+        used: text.len() - t.len(),
+        next: p,
+        whole: false,
+    }
+}
+
+// The lines of a text that end in LF, one by one, until what is written passes a limit, in any stage.
+fn answer_each(
     batch: Batch,
     text: &[u8],
     line: &mut [u8],
@@ -198,6 +245,50 @@ pub fn answer_lines(
         used: text.len() - t.len(),
         next: p,
         whole: false,
+    }
+}
+
+// The lines of a text that end in LF, one by one, until what is written passes a limit.
+pub fn answer_lines(
+    batch: Batch,
+    text: &[u8],
+    line: &mut [u8],
+    index: &mut [u16],
+    out: &mut [u8],
+    at: usize,
+    limit: usize,
+) -> Lines
+    ensures { λ r. ⌜ LinesAnswered batch (now (text .entry)) (now (line .entry)) (now (index .entry)) (now (out .entry)) at limit (now (line .exit)) (now (index .exit)) (now (out .exit)) r ⌝ }
+{
+    let stage = batch.stage;
+    if !is_rows(stage) {
+        return answer_each(batch, text, line, index, out, at, limit);
+    }
+    let plan = batch.plan;
+    let counts = batch.counts;
+    let mut times = counts.times;
+    let passed = answer_rows(plan, &mut times, text, line, index, out, at, limit);
+    let counted = Counts { times };
+    let after = Batch {
+        stage: Stage::Rows,
+        plan,
+        counts: counted,
+    };
+    Lines {
+        batch: after,
+        used: passed.used,
+        next: passed.next,
+        whole: passed.whole,
+    }
+}
+
+fn is_rows(stage: Stage) -> bool
+    ensures { λ r. ⌜ r ≡ isRows stage ⌝ }
+{
+    match stage {
+        Stage::Header => false,
+        Stage::Rows => true,
+        Stage::Over => false,
     }
 }
 

@@ -24,6 +24,12 @@ count-past c n h l = ap counting (sym (set-out (c .times) n _ (omega arith)))
 pub count-more : (times : List ℕ) (n k : ℕ) → k ≡ after (getD times n 0) 1 → counting (set times n k) ≡ counting (withAnswer times n)
 count-more times n k e = rw e
 
+pub count-here : (times : List ℕ) (n k : ℕ) → k ≡ after (getD times n 0) 1 → set times n k ≡ withAnswer times n
+count-here times n k e = rw e
+
+pub count-out : (times : List ℕ) (n : ℕ) → length times ≤ n → times ≡ withAnswer times n
+count-out times n h = sym (set-out times n _ h)
+
 pub count-none : (n times : ℕ) (xs : List ℕ) (a : ℕ) → times ≡ 0 → a < 2 ^ 64 → Written xs a (countLine n times) xs a
 unfolding countLine
 count-none n times xs a e h = rw (eq-eqb times 0 e) (written-nil xs a h)

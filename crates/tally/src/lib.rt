@@ -45,6 +45,16 @@ impl Counts {
     }
 }
 
+// One more answer, counted where the counts stand.
+pub fn count_in(times: &mut [u64], answer: u16)
+    ensures { λ _. ⌜ now (times .exit) ≡ withAnswer (now (times .entry)) answer ⌝ }
+{
+    let at = answer as usize;
+    if at < times.len() {
+        times[at] = one_more(times[at]);
+    }
+}
+
 // The line of an answer, where it was met.
 fn put_count_line(out: &mut [u8], at: usize, answer: usize, times: u64) -> usize
     ensures { λ r. ⌜ Written (now (out .entry)) at (countLine answer times) (now (out .exit)) r ⌝ }

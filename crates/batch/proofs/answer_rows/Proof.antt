@@ -1,0 +1,122 @@
+use borrow.Author.Needs.{needs}
+use native.Mathlib.Omega.{arith}
+use Prim.Native.Nat.{_≤_, _<_, _^_}
+use mathlib.Core.Path.{_≡_, refl}
+use lib.ListN.{length}
+use Rattle.batch.specs.Batch.{among}
+use Rattle.batch.proofs.LineLaws.{Turned, turn-start, rows-more, rows-last, rows-full}
+use Rattle.batch.proofs.answer_rows.Statement.{statement}
+use Rattle.batch.proofs.answer_rows.Tie as tie
+
+abbrev Inv-loop : tie.InvT-loop
+Inv-loop plan times₀ text line₀ index₀ out₀ at limit t₀ p₀ times line index out t p = Turned (among plan times₀) text line₀ index₀ out₀ at line index out (among plan times) t p × (length t ≤ length text) × (length out₀ < 2 ^ 64) × (length times ≡ length times₀) × (length line ≡ length line₀) × (length index ≡ length index₀) × (length out ≡ length out₀)
+
+abbrev μ-loop : tie.MeasureT-loop
+μ-loop plan times₀ text line₀ index₀ out₀ at limit t₀ p₀ times line index out t p = length t
+
+loop-holds : tie.Need-loop-holds Inv-loop μ-loop
+loop-holds c = (search (turn-start, arith), omega arith, omega arith, refl, refl, refl, refl)
+
+find-requires : tie.Need-find-requires Inv-loop μ-loop
+find-requires c κs = search needs
+
+sub-t18 : tie.Need-sub-t18 Inv-loop μ-loop
+sub-t18 c = search needs
+
+same-length : tie.Need-same-length Inv-loop μ-loop
+same-length c = search needs
+
+same-length-2 : tie.Need-same-length-2 Inv-loop μ-loop
+same-length-2 c = search needs
+
+same-length-3 : tie.Need-same-length-3 Inv-loop μ-loop
+same-length-3 c = search needs
+
+same-length-4 : tie.Need-same-length-4 Inv-loop μ-loop
+same-length-4 c = search needs
+
+returns : tie.Need-returns Inv-loop μ-loop
+returns c = search rows-last
+
+add-rest : tie.Need-add-rest Inv-loop μ-loop
+add-rest c = search needs
+
+sub-rest : tie.Need-sub-rest Inv-loop μ-loop
+sub-rest c = search needs
+
+part-rest-start : tie.Need-part-rest-start Inv-loop μ-loop
+part-rest-start c = search needs
+
+part-rest-end : tie.Need-part-rest-end Inv-loop μ-loop
+part-rest-end c = search needs
+
+sub-answer-row : tie.Need-sub-answer-row Inv-loop μ-loop
+sub-answer-row c = search needs
+
+part-answer-row-start : tie.Need-part-answer-row-start Inv-loop μ-loop
+part-answer-row-start c = search needs
+
+part-answer-row-end : tie.Need-part-answer-row-end Inv-loop μ-loop
+part-answer-row-end c = search needs
+
+answer-row-requires : tie.Need-answer-row-requires Inv-loop μ-loop
+answer-row-requires c κs = search needs
+
+count-in-requires : tie.Need-count-in-requires Inv-loop μ-loop
+count-in-requires c κs = search needs
+
+loop-less : tie.Need-loop-less Inv-loop μ-loop
+loop-less c = search needs
+
+loop-again : tie.Need-loop-again Inv-loop μ-loop
+loop-again c = (search rows-more, omega arith, search needs, search needs, search needs, search needs, search needs)
+
+sub-t36 : tie.Need-sub-t36 Inv-loop μ-loop
+sub-t36 c = search needs
+
+same-length-5 : tie.Need-same-length-5 Inv-loop μ-loop
+same-length-5 c = search needs
+
+same-length-6 : tie.Need-same-length-6 Inv-loop μ-loop
+same-length-6 c = search needs
+
+same-length-7 : tie.Need-same-length-7 Inv-loop μ-loop
+same-length-7 c = search needs
+
+same-length-8 : tie.Need-same-length-8 Inv-loop μ-loop
+same-length-8 c = search needs
+
+returns-2 : tie.Need-returns-2 Inv-loop μ-loop
+returns-2 c = search rows-full
+
+pub answer-rows-spec : {M : Type 1} → statement M
+answer-rows-spec =
+    tie.close
+    (tie.spec
+    Inv-loop
+    μ-loop
+    loop-holds
+    find-requires
+    sub-t18
+    same-length
+    same-length-2
+    same-length-3
+    same-length-4
+    returns
+    add-rest
+    sub-rest
+    part-rest-start
+    part-rest-end
+    sub-answer-row
+    part-answer-row-start
+    part-answer-row-end
+    answer-row-requires
+    count-in-requires
+    loop-less
+    loop-again
+    sub-t36
+    same-length-5
+    same-length-6
+    same-length-7
+    same-length-8
+    returns-2)
