@@ -1,5 +1,5 @@
-// A text that was made elsewhere, copied to a place of a lent slice. What `emit` does byte by byte with a look at the end, without that look
-// where there is room for all of it.
+// A text, or indices, that were made elsewhere, copied to a place of a lent slice. What `emit` does one by one with a look at the end, without
+// that look where there is room for all of it.
 ghost use Prim.Native.Nat.{_+_, _≤_};
 ghost use lib.ListN.{length};
 ghost use Rattle.emit.specs.Text.{Written};
@@ -35,4 +35,30 @@ pub fn copy_text(out: &mut [u8], text: &[u8]) -> usize
     ensures { λ r. ⌜ Written (now (out .entry)) 0 (now (text .entry)) (now (out .exit)) r ⌝ }
 {
     copy_at(out, 0, text)
+}
+
+// Indices for which there is room.
+fn copy_all(out: &mut [u16], at: usize, numbers: &[u16]) -> usize
+    requires { ⌜ at + length (now numbers) ≤ length (now out) ⌝ }
+    ensures { λ r. ⌜ Written (now (out .entry)) at (now (numbers .entry)) (now (out .exit)) r ⌝ }
+{
+    let mut i = 0;
+    while i < numbers.len() {
+        out[at + i] = numbers[i];
+        i += 1;
+    }
+    at + i
+}
+
+// Indices at a place, as far as there is room.
+pub fn copy_indices(out: &mut [u16], at: usize, numbers: &[u16]) -> usize
+    ensures { λ r. ⌜ Written (now (out .entry)) at (now (numbers .entry)) (now (out .exit)) r ⌝ }
+{
+    if out.len() < at {
+        return emit::put_indices(out, at, numbers);
+    }
+    if out.len() - at < numbers.len() {
+        return emit::put_indices(out, at, numbers);
+    }
+    copy_all(out, at, numbers)
 }

@@ -33,10 +33,10 @@ fn put_part(out: &mut [u16], at: usize, numbers: &[u16], from: usize, count: usi
     let n = numbers.len();
     let end = from + count;
     if end <= n {
-        return emit::put_indices(out, at, &numbers[from..end]);
+        return copying::copy_indices(out, at, &numbers[from..end]);
     }
     if from <= n {
-        return emit::put_indices(out, at, &numbers[from..n]);
+        return copying::copy_indices(out, at, &numbers[from..n]);
     }
     at
 }

@@ -6,20 +6,20 @@ use Rattle.indices.proofs.put_part.Tie as tie
 add-end : tie.Need-add-end
 add-end c = search needs
 
-mul-put-indices : tie.Need-mul-put-indices
-mul-put-indices c = search needs
+mul-copy-indices : tie.Need-mul-copy-indices
+mul-copy-indices c = search needs
 
-sub-put-indices : tie.Need-sub-put-indices
-sub-put-indices c = search needs
+sub-copy-indices : tie.Need-sub-copy-indices
+sub-copy-indices c = search needs
 
-part-put-indices-start : tie.Need-part-put-indices-start
-part-put-indices-start c = search needs
+part-copy-indices-start : tie.Need-part-copy-indices-start
+part-copy-indices-start c = search needs
 
-part-put-indices-end : tie.Need-part-put-indices-end
-part-put-indices-end c = search needs
+part-copy-indices-end : tie.Need-part-copy-indices-end
+part-copy-indices-end c = search needs
 
-put-indices-requires : tie.Need-put-indices-requires
-put-indices-requires c κs = search needs
+copy-indices-requires : tie.Need-copy-indices-requires
+copy-indices-requires c κs = search needs
 
 same-length : tie.Need-same-length
 same-length c = search needs
@@ -27,17 +27,17 @@ same-length c = search needs
 returns : tie.Need-returns
 returns c = search part-whole
 
-mul-put-indices-2 : tie.Need-mul-put-indices-2
-mul-put-indices-2 c = search needs
+mul-copy-indices-2 : tie.Need-mul-copy-indices-2
+mul-copy-indices-2 c = search needs
 
-part-put-indices-start-2 : tie.Need-part-put-indices-start-2
-part-put-indices-start-2 c = search needs
+part-copy-indices-start-2 : tie.Need-part-copy-indices-start-2
+part-copy-indices-start-2 c = search needs
 
-part-put-indices-end-2 : tie.Need-part-put-indices-end-2
-part-put-indices-end-2 c = search needs
+part-copy-indices-end-2 : tie.Need-part-copy-indices-end-2
+part-copy-indices-end-2 c = search needs
 
-put-indices-requires-2 : tie.Need-put-indices-requires-2
-put-indices-requires-2 c κs = search needs
+copy-indices-requires-2 : tie.Need-copy-indices-requires-2
+copy-indices-requires-2 c κs = search needs
 
 same-length-2 : tie.Need-same-length-2
 same-length-2 c = search needs
@@ -53,17 +53,17 @@ put-part-spec =
     tie.close
     (tie.spec
     add-end
-    mul-put-indices
-    sub-put-indices
-    part-put-indices-start
-    part-put-indices-end
-    put-indices-requires
+    mul-copy-indices
+    sub-copy-indices
+    part-copy-indices-start
+    part-copy-indices-end
+    copy-indices-requires
     same-length
     returns
-    mul-put-indices-2
-    part-put-indices-start-2
-    part-put-indices-end-2
-    put-indices-requires-2
+    mul-copy-indices-2
+    part-copy-indices-start-2
+    part-copy-indices-end-2
+    copy-indices-requires-2
     same-length-2
     returns-2
     returns-3)
