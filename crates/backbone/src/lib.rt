@@ -1,6 +1,6 @@
 // The carbons of a chain without what they carry, written at a place of a lent slice: the mark before a carbon, the O of an epoxide after it,
 // and the flexible tail.
-ghost use mathlib.Core.List.{[], _∷_, _++_};
+ghost use mathlib.Core.List.{[], _∷_};
 ghost use Rattle.emit.specs.Text.{Written};
 ghost use Rattle.backbone.specs.Text.{carbonText, bridgeText, pairsText, flexibleText};
 
@@ -26,14 +26,6 @@ pub fn put_bridge(out: &mut [u8], at: usize, bond: u8) -> usize
         return emit::put_byte(out, at, b'O');
     }
     at
-}
-
-// A carbon that carries nothing, between the bond before it and the bond after it.
-pub fn put_bare(out: &mut [u8], at: usize, before: u8, bond: u8) -> usize
-    ensures { λ r. ⌜ Written (now (out .entry)) at (carbonText before ++ bridgeText bond) (now (out .exit)) r ⌝ }
-{
-    let p = put_carbon(out, at, before);
-    put_bridge(out, p, bond)
 }
 
 fn put_pair(out: &mut [u8], at: usize) -> usize
