@@ -27,7 +27,7 @@ use Rattle.atoms.proofs.Bridges.{no-bridge}
 use Rattle.atoms.proofs.AtomLaws.{Numbering, numbering-none, number-busy, number-bare, numbers-literal, numbers-size, empty-parts, bare-counted, bridge-zero}
 
 -- four carbons that carry nothing, known by one number
-pub four-idle : (us : List ℕ) (k last n : ℕ) → k + 3 ≤ last → n ≡ getD us k 0 + 256 * getD us (k + 1) 0 + 65536 * getD us (k + 2) 0 + 16777216 * getD us (k + 3) 0
+pub four-idle : (us : List ℕ) (k last n : ℕ) → k + 3 ≤ last → n ≡ getD us k 0 + getD us (k + 1) 0 * 256 + getD us (k + 2) 0 * 65536 + getD us (k + 3) 0 * 16777216
     → n ≡ 0 → IdleFour us k last
 four-idle us k last n h e z = record { within = h; idle = λ j f g. go j (j - k) (omega arith) (omega arith) }
   where

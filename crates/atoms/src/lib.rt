@@ -6,7 +6,7 @@ use record::MAX_CARBONS;
 ghost use mathlib.Core.Path.{_≡_};
 ghost use mathlib.Core.Bool.{true};
 ghost use Prim.Native.Nat.{_+_, _*_, _≤_, _<_, min};
-ghost use lib.ListN.{length, getD};
+ghost use lib.ListN.{length};
 ghost use Rattle.emit.specs.Text.{Written};
 ghost use Rattle.reading.specs.Chain.{partsEnd, bridgeEnd, floatEnd};
 ghost use Rattle.chain.specs.Drawing.{branchPart, branches};
@@ -25,12 +25,6 @@ fn wide(n: u8) -> u16
     ensures { λ r. ⌜ r ≡ n ⌝ }
 {
     n as u16
-}
-
-fn widest(n: u8) -> u32
-    ensures { λ r. ⌜ Counts 255 n r ⌝ }
-{
-    n as u32
 }
 
 // The atoms of a group's branch.
@@ -161,18 +155,6 @@ fn has_room(room: usize, at: usize, first: u32, carbon: u16, last: u16) -> bool
     true
 }
 
-// Whether each of four carbons is busy, as one number, which one load makes: 0 where none of them is.
-fn four_busy(busy: &[u8], i: usize) -> u32
-    requires { ⌜ i + 3 < length (now busy) ⌝ }
-    ensures { λ r. ⌜ r ≡ getD (now (busy .entry)) i 0 + 256 * getD (now (busy .entry)) (i + 1) 0 + 65536 * getD (now (busy .entry)) (i + 2) 0 + 16777216 * getD (now (busy .entry)) (i + 3) 0 ⌝ }
-{
-    let a = widest(busy[i]);
-    let b = widest(busy[i + 1]);
-    let c = widest(busy[i + 2]);
-    let d = widest(busy[i + 3]);
-    a + 256 * b + 65536 * c + 16777216 * d
-}
-
 // Whether the four carbons from k on are literal and carry nothing.
 fn idle_four(busy: &[u8], k: u16, last: u16) -> bool
     requires { ⌜ (length (now busy) ≡ 256) × (k ≤ last) × (last ≤ 255) ⌝ }
@@ -181,7 +163,7 @@ fn idle_four(busy: &[u8], k: u16, last: u16) -> bool
     if k + 3 > last {
         return false;
     }
-    if four_busy(busy, k as usize) == 0 {
+    if runs::word(busy, k as usize) == 0 {
         return true;
     }
     false

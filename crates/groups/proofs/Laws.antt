@@ -123,15 +123,6 @@ module _ (s : List ℕ) (a₁ : Bool) (e₁ : a₁ ≡ sameBytes s hydroxyText) 
   unfolding substituentOf
   hydroxy-found t = rw (sym e₁ ∙ t)
 
-  module _ (n₁ : a₁ ≡ false) (a₂ : Bool) (e₂ : a₂ ≡ sameBytes s ketoText) where
-    pub keto-found : a₂ ≡ true → At keto ≡ substituentOf s
-    unfolding substituentOf
-    keto-found t = rw (sym e₁ ∙ n₁, sym e₂ ∙ t)
-
-    pub row-looked : (r : Found) → a₂ ≡ false → r ≡ lookupFrom 0 entries s → r ≡ substituentOf s
-    unfolding substituentOf
-    row-looked r t e = rw (sym e₁ ∙ n₁, sym e₂ ∙ t) e
-
 -- ---- what callers use
 
 lookup-row : (i : ℕ) (es : List Entry) (s : List ℕ) (n : ℕ) → lookupFrom i es s ≡ At n → n < i + length es

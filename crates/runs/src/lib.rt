@@ -20,7 +20,7 @@ fn wide(x: u8) -> u32
 }
 
 // Four bytes as one number, which is 0 exactly if each of them is: one load and one test in place of four.
-fn word(xs: &[u8], i: usize) -> u32
+pub fn word(xs: &[u8], i: usize) -> u32
     requires { ⌜ i + 3 < length (now xs) ⌝ }
     ensures { λ r. ⌜ r ≡ getD (now (xs .entry)) i 0 + getD (now (xs .entry)) (i + 1) 0 * 256 + getD (now (xs .entry)) (i + 2) 0 * 65536 + getD (now (xs .entry)) (i + 3) 0 * 16777216 ⌝ }
 {

@@ -11,8 +11,8 @@ add-if1 c = search needs
 returns : tie.Need-returns
 returns c = λ e. absurd (false≢true e)
 
-four-busy-requires : tie.Need-four-busy-requires
-four-busy-requires c κs = search needs
+word-requires : tie.Need-word-requires
+word-requires c κs = search needs
 
 returns-2 : tie.Need-returns-2
 returns-2 c = λ e. search (four-idle, arith)
@@ -21,4 +21,4 @@ returns-3 : tie.Need-returns-3
 returns-3 c = λ e. absurd (false≢true e)
 
 pub idle-four-spec : {M : Type 1} → statement M
-idle-four-spec = tie.close (tie.spec add-if1 returns four-busy-requires returns-2 returns-3)
+idle-four-spec = tie.close (tie.spec add-if1 returns word-requires returns-2 returns-3)
