@@ -48,8 +48,8 @@ fn draw_in<'a>(
     )
 }
 
-// A request: refused with a number of document 01 and the place of the token, or drawn. Most have one token or two, and an array that is
-// filled for four takes as long as much of their drawing.
+// A request: refused with a number of document 01 and the place of the token, or drawn. Most have one token or two: then an array for two
+// chains is filled, and not one for four.
 pub fn draw<'a>(
     class: &[u8],
     swap: bool,
