@@ -1,0 +1,125 @@
+-- Laws of shapes as numbers.
+-- Assumes nothing.
+use Prim.Native.Nat.{ℕ, zero, suc, _+_, _-_, _*_, _%_, _≤_, _<_}
+use native.Mathlib.Nat.{add-zero, zero-add, mod-eq-of-lt}
+use native.Mathlib.Numerals.{add-one}
+use native.Mathlib.Omega.{arith}
+use mathlib.Core.Path.{_≡_, refl, sym, ap, _∙_}
+use mathlib.Core.Bool.{Bool, true, false}
+use mathlib.Core.List.{List, [], _∷_, _++_}
+use lib.Dec.{eqb}
+use lib.ListN.{length, take, drop, getD, set, length-drop}
+use lib.Seq.{sets, sets-eq, set-out, getD-take, getD-drop, drop-drop, take-set-le, drop-set-add, drop-at}
+use Rattle.drawable.specs.declared.Shape.{Shape}
+use Rattle.shapes.specs.Shapes.{flagCode, noShape, shapeIn, numbersOf, shapesFrom, shapesIn, Stored}
+
+flag-back : (b : Bool) → eqb (flagCode b) 1 ≡ b
+flag-back true = refl
+flag-back false = refl
+
+-- ---- stores
+
+pub three-set : (xs : List ℕ) (at a b c : ℕ) → Stored xs at (a ∷ b ∷ c ∷ []) (set (set (set xs at a) (at + 1) b) (at + 2) c)
+three-set xs at a b c =
+    let two : at + 2 ≡ suc (suc at) = omega arith in
+    record { is = rw (add-one at, two) }
+
+stored-append : (ts us xs : List ℕ) (at : ℕ) → sets (sets xs at ts) (at + length ts) us ≡ sets xs at (ts ++ us)
+stored-append [] us xs at = rw (add-zero at)
+stored-append (t ∷ ts) us xs at =
+    let e : at + suc (length ts) ≡ suc at + length ts = omega arith in
+    rw e (stored-append ts us (set xs at t) (suc at))
+
+stored-after : {xs ys zs : List ℕ} (ts us : List ℕ) (at k : ℕ) → k ≡ at + length ts → Stored xs at ts ys → Stored ys k us zs → Stored xs at (ts ++ us) zs
+stored-after {xs} ts us at k e f g = record { is = rw (g .is, f .is, e) (stored-append ts us xs at) }
+
+pub shape-set : {xs ys zs us : List ℕ} (x : Shape) (at a b c d e f g h i : ℕ) → a ≡ x .first → b ≡ x .carbon → c ≡ flagCode (x .acyl) → d ≡ flagCode (x .«ether_base») → e ≡ x .unlocated
+    → f ≡ x .«bond_count» → g ≡ x .«group_count» → h ≡ x .«float_count» → i ≡ x .«ring_count»
+    → Stored xs at (a ∷ b ∷ c ∷ []) ys → Stored ys (at + 3) (d ∷ e ∷ f ∷ []) zs → Stored zs (at + 6) (g ∷ h ∷ i ∷ []) us → Stored xs at (numbersOf x) us
+shape-set x at a b c d e f g h i a₌ b₌ c₌ d₌ e₌ f₌ g₌ h₌ i₌ p q r =
+    rw (← a₌, ← b₌, ← c₌, ← d₌, ← e₌, ← f₌, ← g₌, ← h₌, ← i₌)
+    (stored-after (a ∷ b ∷ c ∷ d ∷ e ∷ f ∷ []) (g ∷ h ∷ i ∷ []) at (at + 6) refl (stored-after (a ∷ b ∷ c ∷ []) (d ∷ e ∷ f ∷ []) at (at + 3) refl p q) r)
+
+-- ---- a chain read
+
+nth : (ns : List ℕ) (b j : ℕ) → j < 9 → getD (take 9 (drop b ns)) j 0 ≡ getD ns (b + j) 0
+nth ns b j h = rw (getD-take 9 (drop b ns) j 0 h) (getD-drop b ns j 0)
+
+nth-first : (ns : List ℕ) (b : ℕ) → getD (take 9 (drop b ns)) 0 0 ≡ getD ns b 0
+nth-first ns b = nth ns b 0 (omega arith) ∙ rw (add-zero b)
+
+pub shape-read : (ns : List ℕ) (b p q r : ℕ) → p ≡ getD ns b 0 % 65536 → q ≡ getD ns (b + 1) 0 % 65536 → r ≡ getD ns (b + 4) 0 % 65536
+    → record { first = p; carbon = q; acyl = eqb (getD ns (b + 2) 0) 1; «ether_base» = eqb (getD ns (b + 3) 0) 1; unlocated = r; «bond_count» = getD ns (b + 5) 0; «group_count» = getD ns (b + 6) 0; «float_count» = getD ns (b + 7) 0; «ring_count» = getD ns (b + 8) 0 }
+    ≡ shapeIn (take 9 (drop b ns))
+unfolding shapeIn
+shape-read ns b p q r p₌ q₌ r₌ =
+    rw (nth-first ns b, nth ns b 1 (omega arith), nth ns b 2 (omega arith), nth ns b 3 (omega arith), nth ns b 4 (omega arith), nth ns b 5 (omega arith), nth ns b 6 (omega arith), nth ns b 7 (omega arith), nth ns b 8 (omega arith), ← p₌, ← q₌, ← r₌)
+
+-- ---- chains end to end
+
+from-at : (n i : ℕ) (ns : List ℕ) (z : Shape) → i < n → getD (shapesFrom n ns) i z ≡ shapeIn (take 9 (drop (9 * i) ns))
+unfolding shapesFrom
+from-at zero i ns z h = absurd (omega arith)
+from-at (suc n) zero ns z h = refl
+from-at (suc n) (suc i) ns z h =
+    let e : 9 * suc i ≡ 9 + 9 * i = omega arith in
+    from-at n i (drop 9 ns) z (omega arith) ∙ rw (e, drop-drop (9 * i) 9 ns)
+
+from-past : (n i : ℕ) (ns : List ℕ) (z : Shape) → n ≤ i → getD (shapesFrom n ns) i z ≡ z
+unfolding shapesFrom
+from-past zero i ns z h = refl
+from-past (suc n) zero ns z h = absurd (omega arith)
+from-past (suc n) (suc i) ns z h = from-past n i (drop 9 ns) z (omega arith)
+
+pub shape-there : (ns : List ℕ) (i : ℕ) (x : Shape) → i < 4 → x ≡ shapeIn (take 9 (drop (9 * i) ns)) → x ≡ getD (shapesIn ns) i noShape
+unfolding shapesIn
+shape-there ns i x h e = e ∙ sym (from-at 4 i ns noShape (omega arith))
+
+pub shape-past : (ns : List ℕ) (i : ℕ) (x : Shape) → 4 ≤ i → x ≡ noShape → x ≡ getD (shapesIn ns) i noShape
+unfolding shapesIn
+shape-past ns i x h e = e ∙ sym (from-past 4 i ns noShape h)
+
+-- ---- a chain kept
+
+back : (x : Shape) (rest : List ℕ) → x .first < 65536 → x .carbon < 65536 → x .unlocated < 65536 → shapeIn (take 9 (numbersOf x ++ rest)) ≡ x
+unfolding shapeIn
+back x rest a b c = rw (flag-back (x .acyl), flag-back (x .«ether_base»), mod-eq-of-lt a, mod-eq-of-lt b, mod-eq-of-lt c)
+
+take-sets : (vs ns : List ℕ) (n i : ℕ) → n ≤ i → take n (sets ns i vs) ≡ take n ns
+take-sets [] ns n i h = refl
+take-sets (v ∷ vs) ns n i h = take-sets vs (set ns i v) n (suc i) (omega arith) ∙ take-set-le n ns i v h
+
+drop-sets : (vs ns : List ℕ) (n i : ℕ) → drop n (sets ns (n + i) vs) ≡ sets (drop n ns) i vs
+drop-sets [] ns n i = refl
+drop-sets (v ∷ vs) ns n i =
+    let e : suc (n + i) ≡ n + suc i = omega arith in
+    rw (e, drop-sets vs (set ns (n + i) v) n (suc i), drop-set-add n ns i v)
+
+module _ (vs : List ℕ) (x : Shape) (size : length vs ≡ 9) (is : (rest : List ℕ) → shapeIn (take 9 (vs ++ rest)) ≡ x) where
+  from-set : (n i : ℕ) (ns : List ℕ) → i < n → 9 * n ≤ length ns → shapesFrom n (sets ns (9 * i) vs) ≡ set (shapesFrom n ns) i x
+  unfolding shapesFrom
+  from-set zero i ns h l = absurd (omega arith)
+  from-set (suc n) zero ns h l =
+      let s : sets ns 0 vs ≡ vs ++ drop (length vs) ns = sets-eq vs ns 0 (omega arith) ∙ rw (zero-add (length vs)) in
+      rw (s, is (drop (length vs) ns), drop-at vs (drop (length vs) ns) 9 size, size)
+  from-set (suc n) (suc i) ns h l =
+      let e : 9 * suc i ≡ 9 + 9 * i = omega arith in
+      let k : 9 * n ≤ length (drop 9 ns) = omega (arith, length-drop 9 ns) in
+      rw (e, take-sets vs ns 9 (9 + 9 * i) (omega arith), drop-sets vs ns 9 (9 * i), from-set n i (drop 9 ns) (omega arith) k)
+
+pub shape-kept : {xs ys : List ℕ} (i : ℕ) (x : Shape) → x .first < 65536 → x .carbon < 65536 → x .unlocated < 65536 → length xs ≡ 36 → i < 4 → Stored xs (9 * i) (numbersOf x) ys
+    → shapesIn ys ≡ set (shapesIn xs) i x
+unfolding shapesIn
+shape-kept {xs} i x a b c l h w = rw (w .is) (from-set (numbersOf x) x refl (λ (rest : List ℕ). back x rest a b c) 4 i xs h (omega arith))
+
+length-from : (n : ℕ) (ns : List ℕ) → length (shapesFrom n ns) ≡ n
+unfolding shapesFrom
+length-from zero ns = refl
+length-from (suc n) ns = ap suc (length-from n (drop 9 ns))
+
+pub length-shapes : (ns : List ℕ) → length (shapesIn ns) ≡ 4
+unfolding shapesIn
+length-shapes ns = length-from 4 ns
+
+pub shape-none : (xs : List ℕ) (i : ℕ) (x : Shape) → 4 ≤ i → shapesIn xs ≡ set (shapesIn xs) i x
+shape-none xs i x h = sym (set-out (shapesIn xs) i x (rw (length-shapes xs) (omega arith)))

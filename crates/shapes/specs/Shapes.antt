@@ -1,0 +1,48 @@
+-- The shapes of the chains of a request as numbers of an array, and back. Assumes nothing.
+use Prim.Native.Nat.{ℕ, zero, suc, _%_}
+use mathlib.Core.Path.{_≡_}
+use mathlib.Core.Bool.{Bool, true, false}
+use mathlib.Core.List.{List, [], _∷_}
+use lib.Dec.{eqb}
+use lib.ListN.{take, drop, getD}
+use lib.Seq.{sets}
+use Rattle.drawable.specs.declared.Shape.{Shape}
+use Rattle.drawable.specs.Chains.{Chains, itemsOf}
+
+abbrev pub flagCode : Bool → ℕ
+flagCode true = 1
+flagCode false = 0
+
+-- past the last chain
+abbrev pub noShape : Shape
+noShape =
+    record { first = 0; carbon = 0; acyl = false; «ether_base» = false; unlocated = 0; «bond_count» = 0; «group_count» = 0; «float_count» = 0; «ring_count» = 0 }
+
+-- nine numbers: those of a chain
+unfoldable pub shapeIn : List ℕ → Shape
+shapeIn ns =
+    record { first = getD ns 0 0 % 65536; carbon = getD ns 1 0 % 65536; acyl = eqb (getD ns 2 0) 1; «ether_base» = eqb (getD ns 3 0) 1; unlocated = getD ns 4 0 % 65536; «bond_count» = getD ns 5 0; «group_count» = getD ns 6 0; «float_count» = getD ns 7 0; «ring_count» = getD ns 8 0 }
+
+-- and the other way
+abbrev pub numbersOf : Shape → List ℕ
+numbersOf x =
+    x .first ∷ x .carbon ∷ flagCode (x .acyl) ∷ flagCode (x .«ether_base») ∷ x .unlocated ∷ x .«bond_count» ∷ x .«group_count» ∷ x .«float_count» ∷ x .«ring_count» ∷ []
+
+-- n chains, whose numbers stand end to end
+unfoldable pub shapesFrom : ℕ → List ℕ → List Shape
+unfolding shapeIn
+shapesFrom zero ns = []
+shapesFrom (suc n) ns = shapeIn (take 9 ns) ∷ shapesFrom n (drop 9 ns)
+
+-- the four chains of an array
+unfoldable pub shapesIn : List ℕ → List Shape
+unfolding shapesFrom
+shapesIn ns = shapesFrom 4 ns
+
+-- numbers written over those of an array from a place on
+pub record Stored (xs : List ℕ) (at : ℕ) (ts ys : List ℕ) : Type 0 where
+  pub is : ys ≡ sets xs at ts
+
+-- the chains of a request, so many of them, by the numbers of their shapes and of their lists
+abbrev pub chainsKept : ℕ → List ℕ → List ℕ → Chains
+chainsKept count ns l = record { count = count; items = itemsOf (shapesIn ns) l }
