@@ -25,7 +25,7 @@ use Rattle.template.specs.Template.{classOf, fewest, most, roleOf, hasTail}
 use Rattle.template.proofs.Placing.{AcceptsFrom}
 use Rattle.template.proofs.Tail.{TailReads}
 use Rattle.template.proofs.Theorem.{Accepted}
-use Rattle.drawable.specs.Chains.{chainsOf}
+use Rattle.shapes.specs.Shapes.{chainsKept}
 use Rattle.judge.specs.declared.Fault.{Fault}
 use Rattle.judge.specs.declared.Judged.{Judged}
 use Rattle.judge.specs.Verdict.{Verdict, Refused, Drawable, tokens, firstOf, kindRefusal, wrongTail, orElse, judgeDrawn, judgeChains, judgeRead, wrongCount, judgeTokens, judgeClass, verdict, isRefusal}
@@ -266,17 +266,17 @@ module _ (class t : List ℕ) (count : ℕ) (sn1 sn2 sn3 sn4 : List ℕ) where
 
 -- ---- what the answer of the code says of the verdict
 
--- the chains that it holds, with the lists l, are those of the verdict, and the atoms of the tail t are counted
-pub record Drawn (j : Judged) (l t : List ℕ) (v : Verdict) : Type 0 where
+-- the n chains that the numbers ns and the lists l hold are those of the verdict, and the atoms of the tail t are counted
+pub record Drawn (j : Judged) (n : ℕ) (ns l t : List ℕ) (v : Verdict) : Type 0 where
   pub chains : List Chain
   pub is : v ≡ Drawable (j .class) chains
-  pub drawing : Drawing (j .class) chains (chainsOf (j .shapes) l)
+  pub drawing : Drawing (j .class) chains (chainsKept n ns l)
   pub atoms : j .«tail_atoms» ≡ tailAtoms t
 
-pub answer-drawable : (j : Judged) (l t : List ℕ) (v : Verdict) → JudgedIs j l t v → j .fault .number ≡ 0 → Drawn j l t v
-answer-drawable j l t (Refused n p) h z = absurd (omega (arith, h .0, h .2))
-answer-drawable j l t (Drawable c ds) h z = record { chains = ds; is = ap (λ (x : Class). Drawable x ds) (sym (h .1)); drawing = rw (h .1) (h .2); atoms = h .3 }
+pub answer-drawable : (j : Judged) (n : ℕ) (ns l t : List ℕ) (v : Verdict) → JudgedIs j n ns l t v → j .fault .number ≡ 0 → Drawn j n ns l t v
+answer-drawable j n ns l t (Refused m p) h z = absurd (omega (arith, h .0, h .2))
+answer-drawable j n ns l t (Drawable c ds) h z = record { chains = ds; is = ap (λ (x : Class). Drawable x ds) (sym (h .1)); drawing = rw (h .1) (h .2); atoms = h .3 }
 
-pub answer-refused : (j : Judged) (l t : List ℕ) (v : Verdict) → JudgedIs j l t v → (j .fault .number ≡ 0 → ⊥) → v ≡ Refused (j .fault .number) (j .fault .place)
-answer-refused j l t (Refused n p) h z = rw (h .0, h .1)
-answer-refused j l t (Drawable c ds) h z = absurd (z (h .0))
+pub answer-refused : (j : Judged) (n : ℕ) (ns l t : List ℕ) (v : Verdict) → JudgedIs j n ns l t v → (j .fault .number ≡ 0 → ⊥) → v ≡ Refused (j .fault .number) (j .fault .place)
+answer-refused j n ns l t (Refused m p) h z = rw (h .0, h .1)
+answer-refused j n ns l t (Drawable c ds) h z = absurd (z (h .0))

@@ -38,6 +38,8 @@ use Rattle.judge.specs.declared.Seen.{Seen}
 use Rattle.judge.specs.Verdict.{firstOf, noFault, kindRefusal}
 use Rattle.judge.specs.Judged.{DrawsAll, none, more, KindIs, Sight, sightOf, SeenIs, earlierOf, noFaults, withReasons}
 use Rattle.drawable.proofs.Parts.{items-length}
+use Rattle.shapes.specs.Shapes.{shapesIn}
+use Rattle.shapes.proofs.Laws.{length-shapes}
 use Rattle.judge.proofs.Items.{items-next}
 
 -- ---- one token
@@ -181,20 +183,23 @@ module _ (sn1 sn2 sn3 sn4 : List ℕ) where
   looked-at c role i t s r e w = rw (← e, ← r) w
 
   -- before the first
-  pub met-first : (c : Class) (f : Faults) (xs : List Shape) (l : List ℕ) → f ≡ noFaults → Met c f (take 0 (itemsOf xs l)) (tokensOf (take 0 (sn1 ∷ sn2 ∷ sn3 ∷ sn4 ∷ [])))
+  pub met-first : (c : Class) (f : Faults) (ns l : List ℕ) → f ≡ noFaults → Met c f (take 0 (itemsOf (shapesIn ns) l)) (tokensOf (take 0 (sn1 ∷ sn2 ∷ sn3 ∷ sn4 ∷ [])))
   unfolding tokensOf tokensFrom
-  met-first c f xs l e = rw e (met-none c)
+  met-first c f ns l e = rw e (met-none c)
 
-  -- a turn: the lists of the token's chain are laid into its part
-  pub met-next : (c : Class) (s : Seen) (f g : Faults) (xs : List Shape) (l p : List ℕ) (i n : ℕ) → length xs ≡ 4 → 77 * n ≤ length l → i < n → n ≤ 4
+  -- a turn: the numbers of the token's chain are kept, and its lists are laid into its part
+  pub met-next : (c : Class) (s : Seen) (f g : Faults) (ns ms l p : List ℕ) (i n : ℕ) → 77 * n ≤ length l → i < n → n ≤ 4
       → length p ≡ length (midOf (77 * i) (77 * i + 77 - 77 * i) l) → SeenIs (roleOf c (i + 1)) (sightOf s p) (tokenOf (getD (sn1 ∷ sn2 ∷ sn3 ∷ sn4 ∷ []) i []))
-      → g ≡ withReasons f (s .reasons) (i + 1) → Met c f (take i (itemsOf xs l)) (tokensOf (take i (sn1 ∷ sn2 ∷ sn3 ∷ sn4 ∷ [])))
-      → Met c g (take (i + 1) (itemsOf (set xs i (s .shape)) (putMid (77 * i) (77 * i + 77 - 77 * i) l p))) (tokensOf (take (i + 1) (sn1 ∷ sn2 ∷ sn3 ∷ sn4 ∷ [])))
+      → g ≡ withReasons f (s .reasons) (i + 1) → shapesIn ms ≡ set (shapesIn ns) i (s .shape)
+      → Met c f (take i (itemsOf (shapesIn ns) l)) (tokensOf (take i (sn1 ∷ sn2 ∷ sn3 ∷ sn4 ∷ [])))
+      → Met c g (take (i + 1) (itemsOf (shapesIn ms) (putMid (77 * i) (77 * i + 77 - 77 * i) l p))) (tokensOf (take (i + 1) (sn1 ∷ sn2 ∷ sn3 ∷ sn4 ∷ [])))
   unfolding tokensOf
-  met-next c s f g xs l p i n a b h k r w y m =
+  met-next c s f g ns ms l p i n b h k r w y q m =
       let four : List (List ℕ) = sn1 ∷ sn2 ∷ sn3 ∷ sn4 ∷ [] in
+      let xs : List Shape = shapesIn ns in
+      let a : length xs ≡ 4 = length-shapes ns in
       let d : take (i + 1) four ≡ take i four ++ (getD four i [] ∷ []) = rw (add-one i) (take-suc four i [] (omega arith)) in
       let e : take (i + 1) (itemsOf (set xs i (s .shape)) (putMid (77 * i) (77 * i + 77 - 77 * i) l p)) ≡ take i (itemsOf xs l) ++ (drawnOf (s .shape) p ∷ []) = ap (λ (j : ℕ). take j (itemsOf (set xs i (s .shape)) (putMid (77 * i) (77 * i + 77 - 77 * i) l p))) (add-one i) ∙ items-next i (s .shape) xs l p (omega arith) (omega arith) r in
       rw
-      (y, d, e, tokens-one (All []) (take i four) (getD four i []))
+      (y, q, d, e, tokens-one (All []) (take i four) (getD four i []))
       (met-more c f (take i (itemsOf xs l)) i (sightOf s p) (tokensFrom (All []) (take i four)) (tokenOf (getD four i [])) (omega (arith, length-take i (itemsOf xs l), items-length xs l)) m w)

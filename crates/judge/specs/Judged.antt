@@ -13,7 +13,8 @@ use Rattle.chain.specs.Refusals.{placeRefusal, drawRefusal}
 use Rattle.template.specs.declared.Class.{Class}
 use Rattle.template.specs.Template.{roleOf}
 use Rattle.drawable.specs.Drawn.{Drawn, drawnOf, Draws}
-use Rattle.drawable.specs.Chains.{Chains, drawnIn, chainsOf}
+use Rattle.drawable.specs.Chains.{Chains, drawnIn}
+use Rattle.shapes.specs.Shapes.{chainsKept}
 use Rattle.judge.specs.declared.Judged.{Judged}
 use Rattle.judge.specs.declared.Fault.{Fault}
 use Rattle.judge.specs.declared.Faults.{Faults}
@@ -32,10 +33,10 @@ pub record Drawing (c : Class) (ds : List Chain) (x : Chains) : Type 0 where
   pub counted : x .count ≡ length ds
   pub drawn : DrawsAll c 1 (drawnIn x) ds
 
--- the judged request j, with the lists l of its chains, stands for a verdict on a request with the tail t
-abbrev pub JudgedIs : Judged → List ℕ → List ℕ → Verdict → Type 0
-JudgedIs j l t (Refused n p) = (j .fault .number ≡ n) × (j .fault .place ≡ p) × (0 < n)
-JudgedIs j l t (Drawable c ds) = (j .fault .number ≡ 0) × (j .class ≡ c) × Drawing c ds (chainsOf (j .shapes) l) × (j .«tail_atoms» ≡ tailAtoms t)
+-- the judged request j with n tokens, with the numbers ns of its chains and their lists l, stands for a verdict on a request with the tail t
+abbrev pub JudgedIs : Judged → ℕ → List ℕ → List ℕ → List ℕ → Verdict → Type 0
+JudgedIs j n ns l t (Refused m p) = (j .fault .number ≡ m) × (j .fault .place ≡ p) × (0 < m)
+JudgedIs j n ns l t (Drawable c ds) = (j .fault .number ≡ 0) × (j .class ≡ c) × Drawing c ds (chainsKept n ns l) × (j .«tail_atoms» ≡ tailAtoms t)
 
 -- ---- what is known of the tokens that were looked at
 

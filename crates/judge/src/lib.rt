@@ -1,16 +1,15 @@
 // Whether a request is refused, before its slices are looked at: class, number of tokens, tokens, kinds, tail, and what cannot be drawn, in
-// the order of document 01. Every request has an answer. Which, is said by specs/Verdict.antt. The lists of its chains are laid into a lent
-// array, a part for each token.
+// the order of document 01. Every request has an answer. Which, is said by specs/Verdict.antt. The numbers of its chains (crate `shapes`) and
+// their lists are laid into lent arrays, a part for each token.
 use chain::Role;
 use class::Code;
 use drawable::CHAIN_ROOM;
 use drawable::Shape;
-use drawable::Shapes;
 use record::ChainPrefix;
 use record::GROUP_ROOM;
 use record::MAX_BONDS;
+use shapes::SHAPE_ROOM;
 use template::Class;
-use token::MAX_TOKENS;
 ghost use mathlib.Core.Path.{_≡_};
 ghost use Prim.Native.Nat.{_+_, _*_, _<_, _≤_, min};
 ghost use mathlib.Core.List.{[], _∷_};
@@ -37,13 +36,12 @@ pub struct Fault {
     pub place: usize,
 }
 
-// A request that was judged: refused; or its class, the atoms of its tail and its chains, and no fault. An enum holds no array, so the fault
-// stands beside them. The lists of the chains stand in an array that was lent.
+// A request that was judged: refused; or its class and the atoms of its tail, and no fault. Its chains stand in arrays that were lent: they
+// would be copied at every call.
 pub struct Judged {
     pub fault: Fault,
     pub class: Class,
     pub tail_atoms: u16,
-    pub shapes: Shapes,
 }
 
 // What one token is refused for: 31 or 11; and its chain, where it is read: 22; 32 or 33; 12 to 15. Each is 0 where nothing is due.
@@ -69,25 +67,6 @@ struct Faults {
     draw: Fault,
 }
 
-// No chains: past the count nothing is read.
-fn no_chains() -> Shapes
-    ensures { λ r. ⌜ r .count ≡ 0 ⌝ }
-{
-    let shape = Shape {
-        first: 0,
-        carbon: 0,
-        acyl: false,
-        ether_base: false,
-        unlocated: 0,
-        bond_count: 0,
-        group_count: 0,
-        float_count: 0,
-        ring_count: 0,
-    };
-    let items = [shape; MAX_TOKENS];
-    Shapes { count: 0, items }
-}
-
 impl Judged {
     // A request that is refused before its tokens are looked at.
     fn refused(fault: Fault) -> Judged
@@ -97,7 +76,6 @@ impl Judged {
             fault,
             class: Class::Fa,
             tail_atoms: 0,
-            shapes: no_chains(),
         }
     }
 }
@@ -266,23 +244,21 @@ fn judge_tokens<'a>(
     sn2: &'a [u8],
     sn3: &'a [u8],
     sn4: &'a [u8],
+    shapes: &mut [u64; SHAPE_ROOM],
     lists: &mut [u64],
 ) -> Judged
     requires { ⌜ count ≤ 4 ⌝ }
     requires { ⌜ 77 * count ≤ length (now lists) ⌝ }
-    ensures { λ r. ⌜ JudgedIs r (now (lists .exit)) (now (tail .entry)) (judgeRead class (now (tail .entry)) (tokensOf (tokens count (now (sn1 .entry)) (now (sn2 .entry)) (now (sn3 .entry)) (now (sn4 .entry))))) ⌝ }
+    ensures { λ r. ⌜ JudgedIs r count (now (shapes .exit)) (now (lists .exit)) (now (tail .entry)) (judgeRead class (now (tail .entry)) (tokensOf (tokens count (now (sn1 .entry)) (now (sn2 .entry)) (now (sn3 .entry)) (now (sn4 .entry))))) ⌝ }
 {
-    let none = no_chains();
-    let mut items = none.items;
     let mut faults = Faults::new();
     let mut i = 0;
     while i < count {
         let from = CHAIN_ROOM * i;
         let to = from + CHAIN_ROOM;
         let seen = look(class, i, sn1, sn2, sn3, sn4, &mut lists[from..to]);
-        let shape = seen.shape;
         faults = faults.join(seen.reasons, i + 1);
-        items[i] = shape;
+        shapes::keep_shape(shapes, i, seen.shape);
         i += 1;
     }
     let atoms = tail::tail_atoms(tail);
@@ -290,7 +266,6 @@ fn judge_tokens<'a>(
         fault: faults.due(wrong_tail(class, tail, atoms)),
         class,
         tail_atoms: atoms,
-        shapes: Shapes { count, items },
     }
 }
 
@@ -304,8 +279,8 @@ fn wrong_count(class: Class, count: usize) -> bool
     class::most(class) < count
 }
 
-// Whether a request is refused, and for what; or its class, the atoms of its tail, which is read once, and its chains, whose lists are laid
-// into the lent array, a part of 77 numbers for each token; there is room for the tokens, of which there are four at most.
+// Whether a request is refused, and for what; or its class, the atoms of its tail, which is read once, and its chains, which are kept in the
+// lent arrays: nine numbers for each, and its lists in a part of 77; there is room for the tokens, of which there are four at most.
 pub fn judge<'a>(
     class: &[u8],
     tail: &[u8],
@@ -314,10 +289,11 @@ pub fn judge<'a>(
     sn2: &'a [u8],
     sn3: &'a [u8],
     sn4: &'a [u8],
+    shapes: &mut [u64; SHAPE_ROOM],
     lists: &mut [u64],
 ) -> Judged
     requires { ⌜ 77 * min count 4 ≤ length (now lists) ⌝ }
-    ensures { λ r. ⌜ JudgedIs r (now (lists .exit)) (now (tail .entry)) (verdict (now (class .entry)) (now (tail .entry)) count (tokens count (now (sn1 .entry)) (now (sn2 .entry)) (now (sn3 .entry)) (now (sn4 .entry)))) ⌝ }
+    ensures { λ r. ⌜ JudgedIs r count (now (shapes .exit)) (now (lists .exit)) (now (tail .entry)) (verdict (now (class .entry)) (now (tail .entry)) count (tokens count (now (sn1 .entry)) (now (sn2 .entry)) (now (sn3 .entry)) (now (sn4 .entry)))) ⌝ }
 {
     let Code::Known(known) = class::class_of(class) else {
         return Judged::refused(Fault {
@@ -331,5 +307,5 @@ pub fn judge<'a>(
             place: 0,
         });
     }
-    judge_tokens(known, tail, count, sn1, sn2, sn3, sn4, lists)
+    judge_tokens(known, tail, count, sn1, sn2, sn3, sn4, shapes, lists)
 }

@@ -5,7 +5,7 @@ use mathlib.Core.List.{[], _∷_}
 use lib.ListN.{length, take}
 use Rattle.token.specs.Request.{tokensOf}
 use Rattle.drawable.specs.Chains.{itemsOf}
-use Rattle.record.proofs.Laws.{length-mapped}
+use Rattle.shapes.specs.Shapes.{shapesIn}
 use Rattle.judge.proofs.Laws.{Met, met-first, met-next}
 use Rattle.judge.proofs.Judging.{tokens-judged}
 use borrow.Author.Needs.{needs}
@@ -13,19 +13,16 @@ use Rattle.judge.proofs.judge_tokens.Statement.{statement}
 use Rattle.judge.proofs.judge_tokens.Tie as tie
 
 abbrev Inv-loop : tie.InvT-loop
-Inv-loop class tail count sn1 sn2 sn3 sn4 lists₀ items₀ faults₀ i₀ lists items faults i = Met class faults (take i (itemsOf items lists)) (tokensOf (take i (sn1 ∷ sn2 ∷ sn3 ∷ sn4 ∷ []))) × (i ≤ count) × (count ≤ 4) × (length items ≡ 4) × (77 * count ≤ length lists) × (length lists ≡ length lists₀)
+Inv-loop class tail count sn1 sn2 sn3 sn4 shapes₀ lists₀ faults₀ i₀ shapes lists faults i = Met class faults (take i (itemsOf (shapesIn shapes) lists)) (tokensOf (take i (sn1 ∷ sn2 ∷ sn3 ∷ sn4 ∷ []))) × (i ≤ count) × (count ≤ 4) × (77 * count ≤ length lists) × (length lists ≡ length lists₀)
 
 abbrev μ-loop : tie.MeasureT-loop
-μ-loop class tail count sn1 sn2 sn3 sn4 lists₀ items₀ faults₀ i₀ lists items faults i = count - i
-
-no-chains-requires : tie.Need-no-chains-requires Inv-loop μ-loop
-no-chains-requires c κs = search needs
+μ-loop class tail count sn1 sn2 sn3 sn4 shapes₀ lists₀ faults₀ i₀ shapes lists faults i = count - i
 
 new-requires : tie.Need-new-requires Inv-loop μ-loop
 new-requires c κs = search needs
 
 loop-holds : tie.Need-loop-holds Inv-loop μ-loop
-loop-holds c = (search met-first, omega arith, search needs, search length-mapped, search needs, search needs)
+loop-holds c = (search met-first, omega arith, search needs, search needs, search needs)
 
 mul-from : tie.Need-mul-from Inv-loop μ-loop
 mul-from c = search needs
@@ -54,11 +51,8 @@ add-join c = search needs
 join-requires : tie.Need-join-requires Inv-loop μ-loop
 join-requires c κs = search needs
 
-mul-items : tie.Need-mul-items Inv-loop μ-loop
-mul-items c = search needs
-
-array-set-from-items : tie.Need-array-set-from-items Inv-loop μ-loop
-array-set-from-items c = search needs
+keep-shape-requires : tie.Need-keep-shape-requires Inv-loop μ-loop
+keep-shape-requires c κs = search needs
 
 add-i : tie.Need-add-i Inv-loop μ-loop
 add-i c = search needs
@@ -67,7 +61,7 @@ loop-less : tie.Need-loop-less Inv-loop μ-loop
 loop-less c = search needs
 
 loop-again : tie.Need-loop-again Inv-loop μ-loop
-loop-again c = (met-next _ _ _ _ _ _ _ _ _ _ _ _ _ (c .before .before .before .before .before .before .before .loop .inv .3) (c .before .before .before .before .before .before .before .loop .inv .4) (c .before .before .before .before .before .before .loop-test .taken) (c .before .before .before .before .before .before .before .loop .inv .2) (c .before .before .before .lists .given .0) (c .before .before .before .before .look .ensures) (c .join .ensures) (c .before .before .before .before .before .before .before .loop .inv .0), omega arith, search needs, search needs, search needs, search needs)
+loop-again c = (search met-next, omega arith, search needs, search needs, search needs)
 
 tail-atoms-requires : tie.Need-tail-atoms-requires Inv-loop μ-loop
 tail-atoms-requires c κs = search needs
@@ -90,7 +84,6 @@ judge-tokens-spec =
     (tie.spec
     Inv-loop
     μ-loop
-    no-chains-requires
     new-requires
     loop-holds
     mul-from
@@ -102,8 +95,7 @@ judge-tokens-spec =
     look-requires
     add-join
     join-requires
-    mul-items
-    array-set-from-items
+    keep-shape-requires
     add-i
     loop-less
     loop-again
