@@ -5,7 +5,7 @@ use native.Mathlib.Nat.{add-zero, add-suc, suc-add}
 use native.Mathlib.Numerals.{add-one}
 use native.Mathlib.Omega.{arith}
 use mathlib.Core.Path.{_≡_, refl, sym, ap, _∙_, subst}
-use mathlib.Core.Bool.{Bool, true, false, cond}
+use mathlib.Core.Bool.{Bool, true, false, cond, false≢true}
 use mathlib.Core.List.{List, [], _∷_, _++_}
 use lib.ListN.{length, take, getD, set, length-take}
 use lib.Seq.{take-suc}
@@ -36,7 +36,7 @@ use Rattle.judge.specs.declared.Faults.{Faults}
 use Rattle.judge.specs.declared.Reasons.{Reasons}
 use Rattle.judge.specs.declared.Seen.{Seen}
 use Rattle.judge.specs.Verdict.{firstOf, noFault, kindRefusal}
-use Rattle.judge.specs.Judged.{DrawsAll, none, more, KindIs, Sight, sightOf, SeenIs, earlierOf, noFaults, withReasons}
+use Rattle.judge.specs.Judged.{DrawsAll, none, more, KindIs, Sight, sightOf, SeenIs, earlierOf, noFaults, nothingDue, withReasons}
 use Rattle.drawable.proofs.Parts.{items-length}
 use Rattle.shapes.specs.Shapes.{shapesIn}
 use Rattle.shapes.proofs.Laws.{length-shapes}
@@ -104,6 +104,51 @@ pub joined : (f : Faults) (n : Reasons) (p : ℕ) (a b c d : Fault) → a ≡ ea
     → d ≡ earlierOf (f .draw) (n .draw) p → record { token = a; kind = b; place = c; draw = d } ≡ withReasons f n p
 unfolding withReasons
 joined f n p a b c d e h k l = rw (e, h, k, l)
+
+-- ---- a token that is refused for nothing
+
+module _ (n : Reasons) where
+  pub token-due : (n .token ≡ 0 → ⊥) → false ≡ nothingDue n
+  unfolding nothingDue
+  token-due a = rw (ne-eqb (n .token) 0 a)
+
+  module _ (a : n .token ≡ 0) where
+    pub kind-due : (n .kind ≡ 0 → ⊥) → false ≡ nothingDue n
+    unfolding nothingDue
+    kind-due b = rw (eq-eqb (n .token) 0 a, ne-eqb (n .kind) 0 b)
+
+    module _ (b : n .kind ≡ 0) where
+      pub place-due : (n .place ≡ 0 → ⊥) → false ≡ nothingDue n
+      unfolding nothingDue
+      place-due c = rw (eq-eqb (n .token) 0 a, eq-eqb (n .kind) 0 b, ne-eqb (n .place) 0 c)
+
+      pub draw-due : n .place ≡ 0 → eqb (n .draw) 0 ≡ nothingDue n
+      unfolding nothingDue
+      draw-due c = rw (eq-eqb (n .token) 0 a, eq-eqb (n .kind) 0 b, eq-eqb (n .place) 0 c)
+
+-- a number 0 changes no fault
+earlier-same : (f : Fault) (n p : ℕ) → eqb n 0 ≡ true → earlierOf f n p ≡ f
+unfolding earlierOf
+earlier-same f n p e = rw e (go (eqb (f .number) 0))
+  where
+    go : (b : Bool) → cond b f f ≡ f
+    go true = refl
+    go false = refl
+
+-- nor do reasons of which none is due
+faults-stay : (f : Faults) (n : Reasons) (p : ℕ) (b : Bool) → b ≡ nothingDue n → b ≡ true → f ≡ withReasons f n p
+unfolding nothingDue withReasons
+faults-stay f n p b e h = go (eqb (n .token) 0) (eqb (n .kind) 0) (eqb (n .place) 0) (eqb (n .draw) 0) refl refl refl refl (sym e ∙ h)
+  where
+    go : (w x y z : Bool) → eqb (n .token) 0 ≡ w → eqb (n .kind) 0 ≡ x → eqb (n .place) 0 ≡ y → eqb (n .draw) 0 ≡ z → cond w (cond x (cond y z false) false) false ≡ true
+        → f ≡ withReasons f n p
+    go false x y z k l m o q = absurd (false≢true q)
+    go true false y z k l m o q = absurd (false≢true q)
+    go true true false z k l m o q = absurd (false≢true q)
+    go true true true z k l m o q =
+        rw (earlier-same (f .token) (n .token) p k, earlier-same (f .kind) (n .kind) p l, earlier-same (f .place) (n .place) p m, earlier-same (f .draw) (n .draw) p (o ∙ q))
+
+-- ---- the first fault
 
 -- the first fault of chains with one more behind them
 first-snoc : (test : Role → Chain → ℕ) (c : Class) (p q : ℕ) (ds : List Chain) (d : Chain) → q ≡ p + length ds
@@ -203,3 +248,11 @@ module _ (sn1 sn2 sn3 sn4 : List ℕ) where
       rw
       (y, q, d, e, tokens-one (All []) (take i four) (getD four i []))
       (met-more c f (take i (itemsOf xs l)) i (sightOf s p) (tokensFrom (All []) (take i four)) (tokenOf (getD four i [])) (omega (arith, length-take i (itemsOf xs l), items-length xs l)) m w)
+
+  -- a turn with a token that is refused for nothing: the faults stay
+  pub met-clear : (c : Class) (s : Seen) (f : Faults) (ns ms l p : List ℕ) (i n : ℕ) (b : Bool) → 77 * n ≤ length l → i < n → n ≤ 4
+      → length p ≡ length (midOf (77 * i) (77 * i + 77 - 77 * i) l) → SeenIs (roleOf c (i + 1)) (sightOf s p) (tokenOf (getD (sn1 ∷ sn2 ∷ sn3 ∷ sn4 ∷ []) i []))
+      → b ≡ nothingDue (s .reasons) → b ≡ true → shapesIn ms ≡ set (shapesIn ns) i (s .shape)
+      → Met c f (take i (itemsOf (shapesIn ns) l)) (tokensOf (take i (sn1 ∷ sn2 ∷ sn3 ∷ sn4 ∷ [])))
+      → Met c f (take (i + 1) (itemsOf (shapesIn ms) (putMid (77 * i) (77 * i + 77 - 77 * i) l p))) (tokensOf (take (i + 1) (sn1 ∷ sn2 ∷ sn3 ∷ sn4 ∷ [])))
+  met-clear c s f ns ms l p i n b x h k r w e z q m = met-next c s f f ns ms l p i n x h k r w (faults-stay f (s .reasons) (i + 1) b e z) q m

@@ -1,7 +1,7 @@
 -- What the judged request of the code holds. Assumes nothing.
 use Prim.Native.Nat.{ℕ, suc, _<_, _≤_}
 use mathlib.Core.Path.{_≡_}
-use mathlib.Core.Bool.{Bool, cond}
+use mathlib.Core.Bool.{Bool, false, cond}
 use mathlib.Core.List.{List, [], _∷_}
 use lib.Dec.{eqb}
 use lib.ListN.{length}
@@ -64,6 +64,10 @@ earlierOf f n p = cond (eqb (f .number) 0) (cond (eqb n 0) f (record { number = 
 
 abbrev pub noFaults : Faults
 noFaults = record { token = noFault; kind = noFault; place = noFault; draw = noFault }
+
+-- whether a token is refused for nothing
+unfoldable pub nothingDue : Reasons → Bool
+nothingDue n = cond (eqb (n .token) 0) (cond (eqb (n .kind) 0) (cond (eqb (n .place) 0) (eqb (n .draw) 0) false) false) false
 
 -- one token more, with its place
 unfoldable pub withReasons : Faults → Reasons → ℕ → Faults

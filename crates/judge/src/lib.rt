@@ -19,7 +19,7 @@ ghost use Rattle.token.specs.Request.{tokensOf};
 ghost use Rattle.tail.specs.Grammar.{tailAtoms};
 ghost use Rattle.template.specs.Template.{roleOf};
 ghost use Rattle.judge.specs.Verdict.{tokens, wrongTail, wrongCount, judgeRead, verdict};
-ghost use Rattle.judge.specs.Judged.{JudgedIs, KindIs, sightOf, SeenIs, noFaults, earlierOf, withReasons, dueOf};
+ghost use Rattle.judge.specs.Judged.{JudgedIs, KindIs, sightOf, SeenIs, noFaults, earlierOf, nothingDue, withReasons, dueOf};
 
 // A class code that is none of the eight.
 pub const UNKNOWN_CLASS: u16 = 20;
@@ -91,6 +91,22 @@ fn earlier(fault: Fault, number: u16, place: usize) -> Fault
         return fault;
     }
     Fault { number, place }
+}
+
+// Whether a token is refused for nothing, as most are.
+fn nothing_due(reasons: Reasons) -> bool
+    ensures { λ r. ⌜ r ≡ nothingDue reasons ⌝ }
+{
+    if reasons.token != 0 {
+        return false;
+    }
+    if reasons.kind != 0 {
+        return false;
+    }
+    if reasons.place != 0 {
+        return false;
+    }
+    reasons.draw == 0
 }
 
 impl Faults {
@@ -257,9 +273,13 @@ fn judge_tokens<'a>(
         let from = CHAIN_ROOM * i;
         let to = from + CHAIN_ROOM;
         let seen = look(class, i, sn1, sn2, sn3, sn4, &mut lists[from..to]);
-        faults = faults.join(seen.reasons, i + 1);
         shapes::keep_shape(shapes, i, seen.shape);
         i += 1;
+        // It leaves the faults as they are, and they are not copied.
+        if nothing_due(seen.reasons) {
+            continue;
+        }
+        faults = faults.join(seen.reasons, i);
     }
     let atoms = tail::tail_atoms(tail);
     Judged {

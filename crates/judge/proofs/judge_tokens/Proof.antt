@@ -6,7 +6,7 @@ use lib.ListN.{length, take}
 use Rattle.token.specs.Request.{tokensOf}
 use Rattle.drawable.specs.Chains.{itemsOf}
 use Rattle.shapes.specs.Shapes.{shapesIn}
-use Rattle.judge.proofs.Laws.{Met, met-first, met-next}
+use Rattle.judge.proofs.Laws.{Met, met-first, met-next, met-clear}
 use Rattle.judge.proofs.Judging.{tokens-judged}
 use borrow.Author.Needs.{needs}
 use Rattle.judge.proofs.judge_tokens.Statement.{statement}
@@ -45,23 +45,31 @@ part-look-end c = search needs
 look-requires : tie.Need-look-requires Inv-loop μ-loop
 look-requires c κs = search needs
 
-add-join : tie.Need-add-join Inv-loop μ-loop
-add-join c = search needs
-
-join-requires : tie.Need-join-requires Inv-loop μ-loop
-join-requires c κs = search needs
-
 keep-shape-requires : tie.Need-keep-shape-requires Inv-loop μ-loop
 keep-shape-requires c κs = search needs
 
 add-i : tie.Need-add-i Inv-loop μ-loop
 add-i c = search needs
 
+nothing-due-requires : tie.Need-nothing-due-requires Inv-loop μ-loop
+nothing-due-requires c κs = search needs
+
 loop-less : tie.Need-loop-less Inv-loop μ-loop
 loop-less c = search needs
 
 loop-again : tie.Need-loop-again Inv-loop μ-loop
-loop-again c = (search met-next, omega arith, search needs, search needs, search needs)
+loop-again c =
+    (met-clear _ _ _ _ _ _ _ _ _ _ _ _ _ _ (c .before .before .before .before .before .before .before .before .before .loop .inv .3) (c .before .before .before .before .before .before .before .before .loop-test .taken) (c .before .before .before .before .before .before .before .before .before .loop .inv .2) (c .before .before .before .before .before .lists .given .0) (c .before .before .before .before .before .before .look .ensures) (c .before .nothing-due .ensures) (c .if1 .taken) (c .before .before .keep-shape .ensures) (c .before .before .before .before .before .before .before .before .before .loop .inv .0), omega arith, search needs, search needs, search needs)
+
+join-requires : tie.Need-join-requires Inv-loop μ-loop
+join-requires c κs = search needs
+
+loop-less-2 : tie.Need-loop-less-2 Inv-loop μ-loop
+loop-less-2 c = search needs
+
+loop-again-2 : tie.Need-loop-again-2 Inv-loop μ-loop
+loop-again-2 c =
+    (met-next _ _ _ _ _ _ _ _ _ _ _ _ _ _ (c .before .before .before .before .before .before .before .before .before .before .loop .inv .3) (c .before .before .before .before .before .before .before .before .before .loop-test .taken) (c .before .before .before .before .before .before .before .before .before .before .loop .inv .2) (c .before .before .before .before .before .before .lists .given .0) (c .before .before .before .before .before .before .before .look .ensures) (c .join .ensures) (c .before .before .before .keep-shape .ensures) (c .before .before .before .before .before .before .before .before .before .before .loop .inv .0), omega arith, search needs, search needs, search needs)
 
 tail-atoms-requires : tie.Need-tail-atoms-requires Inv-loop μ-loop
 tail-atoms-requires c κs = search needs
@@ -93,12 +101,14 @@ judge-tokens-spec =
     part-look-start
     part-look-end
     look-requires
-    add-join
-    join-requires
     keep-shape-requires
     add-i
+    nothing-due-requires
     loop-less
     loop-again
+    join-requires
+    loop-less-2
+    loop-again-2
     tail-atoms-requires
     wrong-tail-requires
     due-requires
