@@ -1,11 +1,11 @@
 // The line of a class: its template, and what follows the text. The chains are put in order by sn once; their sites are made once.
 use builder::Builder;
-use drawable::Shapes;
 use listing::Rising;
 use listing::Sites;
 use placed::NOTE_ROOM;
+use shapes::SHAPE_ROOM;
 use template::Class;
-ghost use Rattle.drawable.specs.Chains.{chainsOf};
+ghost use Rattle.shapes.specs.Shapes.{chainsKept};
 ghost use Rattle.builder.specs.Build.{rooms};
 ghost use Rattle.lines.specs.Line.{LineBuilt};
 
@@ -27,10 +27,11 @@ pub fn build_line(
     swap: bool,
     tail: &[u8],
     tail_atoms: u16,
-    shapes: Shapes,
+    count: usize,
+    shapes: &[u64; SHAPE_ROOM],
     lists: &[u64],
 ) -> Line
-    ensures { λ r. ⌜ LineBuilt class swap (now (tail .entry)) «tail_atoms» (chainsOf shapes (now (lists .entry))) (rooms (now (out .entry)) (now (index .entry)) (now (rows .entry)) (now (notes .entry))) (rooms (now (out .exit)) (now (index .exit)) (now (rows .exit)) (now (notes .exit))) r ⌝ }
+    ensures { λ r. ⌜ LineBuilt class swap (now (tail .entry)) «tail_atoms» (chainsKept count (now (shapes .entry)) (now (lists .entry))) (rooms (now (out .entry)) (now (index .entry)) (now (rows .entry)) (now (notes .entry))) (rooms (now (out .exit)) (now (index .exit)) (now (rows .exit)) (now (notes .exit))) r ⌝ }
 {
     let b = templates::class_smiles(
         out,
@@ -40,6 +41,7 @@ pub fn build_line(
         class,
         tail,
         tail_atoms,
+        count,
         shapes,
         lists,
     );

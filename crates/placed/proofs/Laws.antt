@@ -1,21 +1,15 @@
 -- Laws of the chains in their places.
 -- Assumes nothing.
-use Prim.Native.Nat.{ℕ, zero, suc, _+_, _-_, _*_, _≤_, _<_, min}
+use Prim.Native.Nat.{ℕ, zero, suc, _+_, _≤_, _<_, min}
 use native.Mathlib.Numerals.{add-one}
 use native.Mathlib.Omega.{arith}
 use mathlib.Core.Path.{_≡_, refl, sym, ap, ap₂, _∙_}
-use mathlib.Core.Option.{Option, none, some}
 use mathlib.Core.List.{List, [], _∷_, _++_, append-nil, append-assoc, map}
-use lib.ListN.{length, take, drop, getD, length-append, length-take}
-use lib.Seq.{take-suc, getD-take, drop-drop}
+use lib.ListN.{length, take, drop, getD, length-append}
+use lib.Seq.{take-suc}
 use Rattle.record.specs.declared.Mod.{Mod}
 use Rattle.chain.specs.Features.{floating}
 use Rattle.chain.specs.Drawing.{carbonAtoms}
-use Rattle.drawable.proofs.Parts.{items-length}
-use Rattle.drawable.specs.declared.Shape.{Shape}
-use Rattle.drawable.specs.declared.Shapes.{Shapes}
-use Rattle.drawable.specs.Drawn.{Drawn, drawnOf}
-use Rattle.drawable.specs.Chains.{Chains, drawnIn, partOf, itemsOf, chainsOf}
 use Rattle.atoms.specs.Index.{indexFrom}
 use Rattle.atoms.specs.Atoms.{indices}
 use Rattle.atoms.proofs.NumberLaws.{carbon-atoms-shift}
@@ -23,77 +17,7 @@ use Rattle.template.specs.Request as request
 use Rattle.template.specs.Request.{headCarbons, indicesOf}
 use Rattle.template.specs.Promise.{Each}
 use Rattle.branches.specs.Text.{rowsIn}
-use Rattle.placed.specs.Fragment.{drawnAt, IsDrawn, ChainAt, ShapeAt, noted, indexList, rowsOf, gathered, summed, Told}
-
-positive : (n : ℕ) → (n ≡ 0 → ⊥) → n ≡ suc (n - 1)
-positive zero h = absurd (h refl)
-positive (suc n) h = omega arith
-
--- ---- the chain of an sn
-
-drawn-at : (l : List Drawn) (k : ℕ) (z : Drawn) → k < length l → drawnAt (suc k) l ≡ some (getD l k z)
-unfolding drawnAt
-drawn-at [] k z h = absurd (omega arith)
-drawn-at (x ∷ l) zero z h = refl
-drawn-at (x ∷ l) (suc k) z h = drawn-at l k z (omega arith)
-
-drawn-past : (l : List Drawn) (k : ℕ) → length l ≤ k → drawnAt (suc k) l ≡ none
-unfolding drawnAt
-drawn-past [] k h = refl
-drawn-past (x ∷ l) zero h = absurd (omega arith)
-drawn-past (x ∷ l) (suc k) h = drawn-past l k (omega arith)
-
-drawn-none : (l : List Drawn) → drawnAt zero l ≡ none
-unfolding drawnAt
-drawn-none [] = refl
-drawn-none (x ∷ l) = refl
-
-module _ (x : Chains) (sn : ℕ) where
-  at-none : {f : Drawn} → sn ≡ 0 → f .carbon ≡ 0 → ChainAt x sn f
-  at-none {f} e z = record { is = rw (e, drawn-none (drawnIn x)) z }
-
-  module _ (n : ℕ) (e : n ≡ min (x .count) 4) (l : length (x .items) ≡ 4) where
-    at-there : (k : ℕ) (z : Drawn) → sn ≡ suc k → k < n → ChainAt x sn (getD (x .items) k z)
-    unfolding drawnIn
-    at-there k z s g =
-        record { is = rw (s, drawn-at (drawnIn x) k z (omega (arith, e, length-take (x .count) (x .items)))) (sym (getD-take (x .count) (x .items) k z (omega (arith, e)))) }
-
-    at-past : (k : ℕ) (f : Drawn) → sn ≡ suc k → n ≤ k → f .carbon ≡ 0 → ChainAt x sn f
-    unfolding drawnIn
-    at-past k f s g z = record { is = rw (s, drawn-past (drawnIn x) k (omega (arith, e, length-take (x .count) (x .items)))) z }
-
--- the chains of numbers and parts
-item-at : (xs : List Shape) (l : List ℕ) (k : ℕ) (z : Shape) (y : Drawn) → k < length xs → getD (itemsOf xs l) k y ≡ drawnOf (getD xs k z) (take 77 (drop (77 * k) l))
-unfolding itemsOf
-item-at [] l k z y h = absurd (omega arith)
-item-at (x ∷ xs) l zero z y h = refl
-item-at (x ∷ xs) l (suc k) z y h =
-    let n : 77 * suc k ≡ 77 + 77 * k = omega arith in
-    item-at xs (drop 77 l) k z y (omega arith) ∙ rw (n, ← drop-drop (77 * k) 77 l)
-
-module _ (s : Shapes) (sn : ℕ) where
-  pub shape-none : {x : Shape} → sn ≡ 0 → x .carbon ≡ 0 → ShapeAt s sn x
-  shape-none e z = record { is = λ l. at-none (chainsOf s l) sn e z }
-
-  module _ (n : ℕ) (e : n ≡ min (s .count) 4) (f : length (s .items) ≡ 4) where
-    four : (l : List ℕ) → length (itemsOf (s .items) l) ≡ 4
-    four l = items-length (s .items) l ∙ f
-
-    pub shape-there : (z : Shape) → (sn ≡ 0 → ⊥) → sn - 1 < n → ShapeAt s sn (getD (s .items) (sn - 1) z)
-    unfolding partOf
-    shape-there z h g =
-        record {
-          is =
-              λ l.
-              rw (item-at (s .items) l (sn - 1) z (drawnOf z l) (omega arith)) at (at-there (chainsOf s l) sn n e (four l) (sn - 1) (drawnOf z l) (positive sn h) g);
-        }
-
-    pub shape-past : {x : Shape} → (sn ≡ 0 → ⊥) → n ≤ sn - 1 → x .carbon ≡ 0 → ShapeAt s sn x
-    shape-past h g z = record { is = λ l. at-past (chainsOf s l) sn n e (four l) (sn - 1) _ (positive sn h) g z }
-
--- a chain, and its part
-pub chain-there : (s : Shapes) (sn : ℕ) (x : Shape) (l : List ℕ) {p : List ℕ} → ShapeAt s sn x → p ≡ partOf sn l → ChainAt (chainsOf s l) sn (drawnOf x p)
-chain-there s sn x l a e = rw e (a .is l)
+use Rattle.placed.specs.Fragment.{noted, indexList, rowsOf, gathered, summed, Told}
 
 -- ---- what is gathered
 

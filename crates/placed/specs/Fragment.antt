@@ -1,5 +1,5 @@
--- The chains of a request by sn, and where each of them stands, by numbers alone. Assumes nothing.
-use Prim.Native.Nat.{ℕ, zero, suc, _+_, _≤_}
+-- The chains of a request in their roles, and where each of them stands, by numbers alone. Assumes nothing.
+use Prim.Native.Nat.{ℕ, _+_, _≤_}
 use mathlib.Core.Path.{_≡_}
 use mathlib.Core.Option.{Option, none, some}
 use mathlib.Core.List.{List, [], _∷_, _++_}
@@ -9,10 +9,9 @@ use Rattle.reading.specs.Chain.{chainEnd}
 use Rattle.chain.specs.declared.Role.{Role}
 use Rattle.chain.specs.Features.{isAcyl, drawnCount, floating}
 use Rattle.chain.specs.Drawing.{carbons, carbonAtoms, flexibleAtom}
-use Rattle.drawable.specs.declared.Shape.{Shape}
-use Rattle.drawable.specs.declared.Shapes.{Shapes}
-use Rattle.drawable.specs.Drawn.{Drawn, drawnOf, Draws}
-use Rattle.drawable.specs.Chains.{Chains, drawnIn, partOf, chainsOf}
+use Rattle.drawable.specs.Drawn.{Drawn, Draws}
+use Rattle.drawable.specs.Chains.{Chains}
+use Rattle.shapes.specs.Sn.{ChainAt}
 use Rattle.branches.specs.Text.{rowsIn}
 use Rattle.fragment.specs.Segment.{Readable}
 use Rattle.atoms.specs.Atoms.{indices}
@@ -37,25 +36,6 @@ pub record Carries (r : Role) (d : Chain) (x : Drawn) : Type 0 where
 abbrev pub Stands : Role → Option Chain → Drawn → Type 0
 Stands r none x = x .carbon ≡ 0
 Stands r (some d) x = Carries r d x
-
--- the chain with this sn, if there is one
-unfoldable pub drawnAt : ℕ → List Drawn → Option Drawn
-drawnAt sn [] = none
-drawnAt zero (x ∷ xs) = none
-drawnAt (suc zero) (x ∷ xs) = some x
-drawnAt (suc (suc sn)) (x ∷ xs) = drawnAt (suc sn) xs
-
-abbrev pub IsDrawn : Option Drawn → Drawn → Type 0
-IsDrawn none f = f .carbon ≡ 0
-IsDrawn (some x) f = f ≡ x
-
--- f is the chain of an sn, or has no carbons where there is none
-pub record ChainAt (x : Chains) (sn : ℕ) (f : Drawn) : Type 0 where
-  pub is : IsDrawn (drawnAt sn (drawnIn x)) f
-
--- the chain of an sn is x with the part of that sn, whatever array the parts stand in
-pub record ShapeAt (s : Shapes) (sn : ℕ) (x : Shape) : Type 0 where
-  pub is : (l : List ℕ) → ChainAt (chainsOf s l) sn (drawnOf x (partOf sn l))
 
 -- the chain of every sn stands in its role
 pub record Stood (ρ : ℕ → Role) (ds : List Chain) (x : Chains) : Type 0 where

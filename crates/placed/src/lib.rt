@@ -1,13 +1,10 @@
-// The chains of a request by sn, and where each of them stands in its line.
+// Where each of the chains of a request stands in its line.
 use chain::Role;
-use drawable::Shape;
-use drawable::Shapes;
 ghost use mathlib.Core.Path.{_≡_};
 ghost use mathlib.Core.List.{[], _∷_};
 ghost use Prim.Native.Nat.{min, _+_, _≤_, _%_};
 ghost use lib.ListN.{length, take, drop, getD, set};
 ghost use Rattle.placed.specs.Notes.{roleCode, roleIn, flagCode, nowhere, placedIn, numbersOf, chainsIn, Stored};
-ghost use Rattle.placed.specs.Fragment.{ShapeAt};
 pub use atoms::in_room;
 pub use drawable::MAX_CHAINS;
 
@@ -180,28 +177,4 @@ pub fn in_places(count: usize) -> usize
         return count;
     }
     MAX_CHAINS
-}
-
-// A chain without carbons.
-fn emptied(mut x: Shape) -> Shape
-    ensures { λ r. ⌜ r .carbon ≡ 0 ⌝ }
-{
-    x.carbon = 0;
-    x
-}
-
-// The chain of an sn, whose lists stand in the part of that sn; one without carbons where the request has no such token.
-pub fn shape_at(shapes: Shapes, sn: u8) -> Shape
-    ensures { λ r. ⌜ ShapeAt shapes sn r ⌝ }
-{
-    let n = in_places(shapes.count);
-    let i = sn as usize;
-    if i == 0 {
-        return emptied(shapes.items[0]);
-    }
-    let k = i - 1;
-    if k < n {
-        return shapes.items[k];
-    }
-    emptied(shapes.items[0])
 }

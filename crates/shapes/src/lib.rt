@@ -7,6 +7,7 @@ ghost use mathlib.Core.List.{[], _∷_};
 ghost use Prim.Native.Nat.{_+_, _≤_, _%_};
 ghost use lib.ListN.{length, take, drop, getD, set};
 ghost use Rattle.shapes.specs.Shapes.{flagCode, noShape, shapeIn, numbersOf, shapesIn, Stored};
+ghost use Rattle.shapes.specs.Sn.{ShapeAt};
 
 // Room for four chains.
 pub const SHAPE_ROOM: usize = 36;
@@ -69,6 +70,20 @@ pub fn shape_in(shapes: &[u64; SHAPE_ROOM], i: usize) -> Shape
         return no_shape();
     }
     read_shape(shapes, 9 * i)
+}
+
+// The chain of an sn, whose lists stand in the part of that sn; an empty one where the request has no such token.
+pub fn shape_at(count: usize, shapes: &[u64; SHAPE_ROOM], sn: u8) -> Shape
+    ensures { λ r. ⌜ ShapeAt count (now (shapes .entry)) sn r ⌝ }
+{
+    let i = sn as usize;
+    if i == 0 {
+        return no_shape();
+    }
+    if count < i {
+        return no_shape();
+    }
+    shape_in(shapes, i - 1)
 }
 
 // Three numbers from a place on.

@@ -12,7 +12,8 @@ use Rattle.drawable.specs.Chains.{Chains}
 use Rattle.template.specs.declared.Class.the-variants.{Fa, Gp, Cl, Sb, Sa}
 use Rattle.template.specs.Template.{elements, glycerol, roleOf}
 use Rattle.template.specs.Request.{fixedPieces, atomsOfPieces}
-use Rattle.placed.specs.Fragment.{ChainAt, Stood}
+use Rattle.shapes.specs.Sn.{ChainAt}
+use Rattle.placed.specs.Fragment.{Stood}
 use Rattle.builder.specs.declared.Builder.{Builder}
 use Rattle.builder.specs.Build.{rooms, Fresh, FixedPushed, SlotPushed, BarePushed}
 use Rattle.templates.specs.Templates.{allSlots, FitsAll, TailOf, Built, Tailless, Tailed}

@@ -2,14 +2,14 @@
 // request's where it is pushed.
 use builder::Builder;
 use chain::Role;
-use drawable::Shapes;
 use drawable::chain_part;
 use placed::NOTE_ROOM;
-use placed::shape_at;
+use shapes::SHAPE_ROOM;
+use shapes::shape_at;
 use template::Class;
 ghost use Rattle.template.specs.declared.Class.the-variants.{Fa, Gp, Cl, Sb, Sa};
 ghost use Rattle.template.specs.Template.{elements, glycerol, roleOf};
-ghost use Rattle.drawable.specs.Chains.{chainsOf};
+ghost use Rattle.shapes.specs.Shapes.{chainsKept};
 ghost use Rattle.builder.specs.Build.{rooms};
 ghost use Rattle.templates.specs.Templates.{allSlots, Tailless, Tailed};
 ghost use Rattle.templates.specs.Classes.{ClassBuilt};
@@ -20,14 +20,15 @@ fn fa_smiles(
     index: &mut [u16],
     rows: &mut [u8],
     notes: &mut [u32; NOTE_ROOM],
-    shapes: Shapes,
+    count: usize,
+    shapes: &[u64; SHAPE_ROOM],
     lists: &[u64],
 ) -> Builder
-    ensures { λ r. ⌜ Tailless (elements Fa) (roleOf Fa) (chainsOf shapes (now (lists .entry))) (rooms (now (out .entry)) (now (index .entry)) (now (rows .entry)) (now (notes .entry))) (rooms (now (out .exit)) (now (index .exit)) (now (rows .exit)) (now (notes .exit))) r ⌝ }
+    ensures { λ r. ⌜ Tailless (elements Fa) (roleOf Fa) (chainsKept count (now (shapes .entry)) (now (lists .entry))) (rooms (now (out .entry)) (now (index .entry)) (now (rows .entry)) (now (notes .entry))) (rooms (now (out .exit)) (now (index .exit)) (now (rows .exit)) (now (notes .exit))) r ⌝ }
 {
     let a = Builder::new();
     let b = a.push_fixed(out, b"O", 1);
-    let first = shape_at(shapes, 1);
+    let first = shape_at(count, shapes, 1);
     b.push_bare(
         out,
         index,
@@ -46,20 +47,21 @@ fn glycerolipid_smiles(
     index: &mut [u16],
     rows: &mut [u8],
     notes: &mut [u32; NOTE_ROOM],
-    shapes: Shapes,
+    count: usize,
+    shapes: &[u64; SHAPE_ROOM],
     lists: &[u64],
 ) -> Builder
-    ensures { λ r. ⌜ Tailless glycerol allSlots (chainsOf shapes (now (lists .entry))) (rooms (now (out .entry)) (now (index .entry)) (now (rows .entry)) (now (notes .entry))) (rooms (now (out .exit)) (now (index .exit)) (now (rows .exit)) (now (notes .exit))) r ⌝ }
+    ensures { λ r. ⌜ Tailless glycerol allSlots (chainsKept count (now (shapes .entry)) (now (lists .entry))) (rooms (now (out .entry)) (now (index .entry)) (now (rows .entry)) (now (notes .entry))) (rooms (now (out .exit)) (now (index .exit)) (now (rows .exit)) (now (notes .exit))) r ⌝ }
 {
     let a = Builder::new();
     let b = a.push_fixed(out, b"C(C", 2);
-    let third = shape_at(shapes, 3);
+    let third = shape_at(count, shapes, 3);
     let c = b.push_slot(out, index, rows, notes, third, chain_part(lists, 3), 3);
     let d = c.push_fixed(out, b")(", 0);
-    let second = shape_at(shapes, 2);
+    let second = shape_at(count, shapes, 2);
     let e = d.push_slot(out, index, rows, notes, second, chain_part(lists, 2), 2);
     let f = e.push_fixed(out, b")C", 1);
-    let first = shape_at(shapes, 1);
+    let first = shape_at(count, shapes, 1);
     f.push_slot(out, index, rows, notes, first, chain_part(lists, 1), 1)
 }
 
@@ -71,19 +73,20 @@ fn gpl_smiles(
     notes: &mut [u32; NOTE_ROOM],
     tail: &[u8],
     tail_atoms: u16,
-    shapes: Shapes,
+    count: usize,
+    shapes: &[u64; SHAPE_ROOM],
     lists: &[u64],
 ) -> Builder
-    ensures { λ r. ⌜ Tailed (now (tail .entry)) «tail_atoms» (elements Gp) (roleOf Gp) (chainsOf shapes (now (lists .entry))) (rooms (now (out .entry)) (now (index .entry)) (now (rows .entry)) (now (notes .entry))) (rooms (now (out .exit)) (now (index .exit)) (now (rows .exit)) (now (notes .exit))) r ⌝ }
+    ensures { λ r. ⌜ Tailed (now (tail .entry)) «tail_atoms» (elements Gp) (roleOf Gp) (chainsKept count (now (shapes .entry)) (now (lists .entry))) (rooms (now (out .entry)) (now (index .entry)) (now (rows .entry)) (now (notes .entry))) (rooms (now (out .exit)) (now (index .exit)) (now (rows .exit)) (now (notes .exit))) r ⌝ }
 {
     let a = Builder::new();
     let b = a.push_fixed(out, b"C(C", 2);
     let c = b.push_fixed(out, tail, tail_atoms);
     let d = c.push_fixed(out, b")(", 0);
-    let second = shape_at(shapes, 2);
+    let second = shape_at(count, shapes, 2);
     let e = d.push_slot(out, index, rows, notes, second, chain_part(lists, 2), 2);
     let f = e.push_fixed(out, b")C", 1);
-    let first = shape_at(shapes, 1);
+    let first = shape_at(count, shapes, 1);
     f.push_slot(out, index, rows, notes, first, chain_part(lists, 1), 1)
 }
 
@@ -93,23 +96,24 @@ fn cl_smiles(
     index: &mut [u16],
     rows: &mut [u8],
     notes: &mut [u32; NOTE_ROOM],
-    shapes: Shapes,
+    count: usize,
+    shapes: &[u64; SHAPE_ROOM],
     lists: &[u64],
 ) -> Builder
-    ensures { λ r. ⌜ Tailless (elements Cl) (roleOf Cl) (chainsOf shapes (now (lists .entry))) (rooms (now (out .entry)) (now (index .entry)) (now (rows .entry)) (now (notes .entry))) (rooms (now (out .exit)) (now (index .exit)) (now (rows .exit)) (now (notes .exit))) r ⌝ }
+    ensures { λ r. ⌜ Tailless (elements Cl) (roleOf Cl) (chainsKept count (now (shapes .entry)) (now (lists .entry))) (rooms (now (out .entry)) (now (index .entry)) (now (rows .entry)) (now (notes .entry))) (rooms (now (out .exit)) (now (index .exit)) (now (rows .exit)) (now (notes .exit))) r ⌝ }
 {
     let a = Builder::new();
     let b = a.push_fixed(out, b"C(COP(=O)(O)OCC(", 9);
-    let second = shape_at(shapes, 2);
+    let second = shape_at(count, shapes, 2);
     let c = b.push_slot(out, index, rows, notes, second, chain_part(lists, 2), 2);
     let d = c.push_fixed(out, b")C", 1);
-    let first = shape_at(shapes, 1);
+    let first = shape_at(count, shapes, 1);
     let e = d.push_slot(out, index, rows, notes, first, chain_part(lists, 1), 1);
     let f = e.push_fixed(out, b")(O)COP(=O)(O)OCC(", 9);
-    let fourth = shape_at(shapes, 4);
+    let fourth = shape_at(count, shapes, 4);
     let g = f.push_slot(out, index, rows, notes, fourth, chain_part(lists, 4), 4);
     let h = g.push_fixed(out, b")C", 1);
-    let third = shape_at(shapes, 3);
+    let third = shape_at(count, shapes, 3);
     h.push_slot(out, index, rows, notes, third, chain_part(lists, 3), 3)
 }
 
@@ -121,16 +125,17 @@ fn sphingoid_smiles(
     notes: &mut [u32; NOTE_ROOM],
     tail: &[u8],
     tail_atoms: u16,
-    shapes: Shapes,
+    count: usize,
+    shapes: &[u64; SHAPE_ROOM],
     lists: &[u64],
 ) -> Builder
-    ensures { λ r. ⌜ Tailed (now (tail .entry)) «tail_atoms» (elements Sb) (roleOf Sb) (chainsOf shapes (now (lists .entry))) (rooms (now (out .entry)) (now (index .entry)) (now (rows .entry)) (now (notes .entry))) (rooms (now (out .exit)) (now (index .exit)) (now (rows .exit)) (now (notes .exit))) r ⌝ }
+    ensures { λ r. ⌜ Tailed (now (tail .entry)) «tail_atoms» (elements Sb) (roleOf Sb) (chainsKept count (now (shapes .entry)) (now (lists .entry))) (rooms (now (out .entry)) (now (index .entry)) (now (rows .entry)) (now (notes .entry))) (rooms (now (out .exit)) (now (index .exit)) (now (rows .exit)) (now (notes .exit))) r ⌝ }
 {
     let a = Builder::new();
     let b = a.push_fixed(out, b"C(C", 2);
     let c = b.push_fixed(out, tail, tail_atoms);
     let d = c.push_fixed(out, b")(N)", 1);
-    let first = shape_at(shapes, 1);
+    let first = shape_at(count, shapes, 1);
     d.push_bare(
         out,
         index,
@@ -151,16 +156,17 @@ fn acyl_sphingoid_smiles(
     notes: &mut [u32; NOTE_ROOM],
     tail: &[u8],
     tail_atoms: u16,
-    shapes: Shapes,
+    count: usize,
+    shapes: &[u64; SHAPE_ROOM],
     lists: &[u64],
 ) -> Builder
-    ensures { λ r. ⌜ Tailed (now (tail .entry)) «tail_atoms» (elements Sa) (roleOf Sa) (chainsOf shapes (now (lists .entry))) (rooms (now (out .entry)) (now (index .entry)) (now (rows .entry)) (now (notes .entry))) (rooms (now (out .exit)) (now (index .exit)) (now (rows .exit)) (now (notes .exit))) r ⌝ }
+    ensures { λ r. ⌜ Tailed (now (tail .entry)) «tail_atoms» (elements Sa) (roleOf Sa) (chainsKept count (now (shapes .entry)) (now (lists .entry))) (rooms (now (out .entry)) (now (index .entry)) (now (rows .entry)) (now (notes .entry))) (rooms (now (out .exit)) (now (index .exit)) (now (rows .exit)) (now (notes .exit))) r ⌝ }
 {
     let a = Builder::new();
     let b = a.push_fixed(out, b"C(C", 2);
     let c = b.push_fixed(out, tail, tail_atoms);
     let d = c.push_fixed(out, b")(N", 1);
-    let second = shape_at(shapes, 2);
+    let second = shape_at(count, shapes, 2);
     let e = d.push_bare(
         out,
         index,
@@ -172,7 +178,7 @@ fn acyl_sphingoid_smiles(
         Role::Acyl,
     );
     let f = e.push_fixed(out, b")", 0);
-    let first = shape_at(shapes, 1);
+    let first = shape_at(count, shapes, 1);
     f.push_bare(
         out,
         index,
@@ -194,19 +200,40 @@ pub fn class_smiles(
     class: Class,
     tail: &[u8],
     tail_atoms: u16,
-    shapes: Shapes,
+    count: usize,
+    shapes: &[u64; SHAPE_ROOM],
     lists: &[u64],
 ) -> Builder
-    ensures { λ r. ⌜ ClassBuilt class (now (tail .entry)) «tail_atoms» (chainsOf shapes (now (lists .entry))) (rooms (now (out .entry)) (now (index .entry)) (now (rows .entry)) (now (notes .entry))) (rooms (now (out .exit)) (now (index .exit)) (now (rows .exit)) (now (notes .exit))) r ⌝ }
+    ensures { λ r. ⌜ ClassBuilt class (now (tail .entry)) «tail_atoms» (chainsKept count (now (shapes .entry)) (now (lists .entry))) (rooms (now (out .entry)) (now (index .entry)) (now (rows .entry)) (now (notes .entry))) (rooms (now (out .exit)) (now (index .exit)) (now (rows .exit)) (now (notes .exit))) r ⌝ }
 {
     match class {
-        Class::Fa => fa_smiles(out, index, rows, notes, shapes, lists),
-        Class::Gl1 => glycerolipid_smiles(out, index, rows, notes, shapes, lists),
-        Class::Gl2 => glycerolipid_smiles(out, index, rows, notes, shapes, lists),
-        Class::Gl3 => glycerolipid_smiles(out, index, rows, notes, shapes, lists),
-        Class::Gp => gpl_smiles(out, index, rows, notes, tail, tail_atoms, shapes, lists),
-        Class::Cl => cl_smiles(out, index, rows, notes, shapes, lists),
-        Class::Sb => sphingoid_smiles(out, index, rows, notes, tail, tail_atoms, shapes, lists),
+        Class::Fa => fa_smiles(out, index, rows, notes, count, shapes, lists),
+        Class::Gl1 => glycerolipid_smiles(out, index, rows, notes, count, shapes, lists),
+        Class::Gl2 => glycerolipid_smiles(out, index, rows, notes, count, shapes, lists),
+        Class::Gl3 => glycerolipid_smiles(out, index, rows, notes, count, shapes, lists),
+        Class::Gp => gpl_smiles(
+            out,
+            index,
+            rows,
+            notes,
+            tail,
+            tail_atoms,
+            count,
+            shapes,
+            lists,
+        ),
+        Class::Cl => cl_smiles(out, index, rows, notes, count, shapes, lists),
+        Class::Sb => sphingoid_smiles(
+            out,
+            index,
+            rows,
+            notes,
+            tail,
+            tail_atoms,
+            count,
+            shapes,
+            lists,
+        ),
         Class::Sa => acyl_sphingoid_smiles(
             out,
             index,
@@ -214,6 +241,7 @@ pub fn class_smiles(
             notes,
             tail,
             tail_atoms,
+            count,
             shapes,
             lists,
         ),

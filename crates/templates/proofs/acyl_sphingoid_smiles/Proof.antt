@@ -1,6 +1,6 @@
 use borrow.Author.Needs.{needs}
 use Rattle.reading.specs.Ascii.{ascii}
-use Rattle.placed.proofs.Laws.{chain-there}
+use Rattle.shapes.proofs.Sn.{chain-there}
 use Rattle.templates.proofs.Templates.{acyl-sphingoid-built}
 use Rattle.templates.proofs.acyl_sphingoid_smiles.Statement.{statement}
 use Rattle.templates.proofs.acyl_sphingoid_smiles.Tie as tie
@@ -62,7 +62,7 @@ returns c =
     let e2 = e3 .before .before .before .before in
     let e1 = e2 .before .before .before in
     let start = e1 .before .before .before .before .before .before in
-    acyl-sphingoid-built (record { text = start .good .0 .0; index = start .good .1 .0 .0; rows = start .good .1 .1 .0 .0 }) (e1 .new .ensures) (e2 .push-fixed .ensures) (e3 .push-fixed2 .ensures) (e4 .push-fixed3 .ensures) (chain-there _ _ _ _ (e5 .shape-at .ensures) (e5p .chain-part .ensures)) (e6 .push-bare .ensures) (e7 .push-fixed4 .ensures) (chain-there _ _ _ _ (e8 .shape-at2 .ensures) (e8p .chain-part2 .ensures)) (e9 .push-bare2 .ensures)
+    acyl-sphingoid-built (record { text = start .good .0 .0; index = start .good .1 .0 .0; rows = start .good .1 .1 .0 .0 }) (e1 .new .ensures) (e2 .push-fixed .ensures) (e3 .push-fixed2 .ensures) (e4 .push-fixed3 .ensures) (chain-there _ _ _ _ _ (e5 .shape-at .ensures) (e5p .chain-part .ensures)) (e6 .push-bare .ensures) (e7 .push-fixed4 .ensures) (chain-there _ _ _ _ _ (e8 .shape-at2 .ensures) (e8p .chain-part2 .ensures)) (e9 .push-bare2 .ensures)
 
 same-length : tie.Need-same-length
 same-length c = returns c .sizes .text

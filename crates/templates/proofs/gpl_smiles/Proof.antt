@@ -1,6 +1,6 @@
 use borrow.Author.Needs.{needs}
 use Rattle.reading.specs.Ascii.{ascii}
-use Rattle.placed.proofs.Laws.{chain-there}
+use Rattle.shapes.proofs.Sn.{chain-there}
 use Rattle.templates.proofs.Templates.{gpl-built}
 use Rattle.templates.proofs.gpl_smiles.Statement.{statement}
 use Rattle.templates.proofs.gpl_smiles.Tie as tie
@@ -62,7 +62,7 @@ returns c =
     let e2 = e3 .before .before .before .before in
     let e1 = e2 .before .before .before in
     let start = e1 .before .before .before .before .before .before in
-    gpl-built (record { text = start .good .0 .0; index = start .good .1 .0 .0; rows = start .good .1 .1 .0 .0 }) (e1 .new .ensures) (e2 .push-fixed .ensures) (e3 .push-fixed2 .ensures) (e4 .push-fixed3 .ensures) (chain-there _ _ _ _ (e5 .shape-at .ensures) (e5p .chain-part .ensures)) (e6 .push-slot .ensures) (e7 .push-fixed4 .ensures) (chain-there _ _ _ _ (e8 .shape-at2 .ensures) (e8p .chain-part2 .ensures)) (e9 .push-slot2 .ensures)
+    gpl-built (record { text = start .good .0 .0; index = start .good .1 .0 .0; rows = start .good .1 .1 .0 .0 }) (e1 .new .ensures) (e2 .push-fixed .ensures) (e3 .push-fixed2 .ensures) (e4 .push-fixed3 .ensures) (chain-there _ _ _ _ _ (e5 .shape-at .ensures) (e5p .chain-part .ensures)) (e6 .push-slot .ensures) (e7 .push-fixed4 .ensures) (chain-there _ _ _ _ _ (e8 .shape-at2 .ensures) (e8p .chain-part2 .ensures)) (e9 .push-slot2 .ensures)
 
 same-length : tie.Need-same-length
 same-length c = returns c .sizes .text
