@@ -1,0 +1,174 @@
+-- What the numbers of the code say of the chains that they stand for. Assumes nothing.
+use Prim.Native.Nat.{ℕ, zero, suc, _+_, _*_, _≤_, _<_, min}
+use native.Mathlib.Nat.{mul-le-mul, mul-le-mul-left}
+use native.Mathlib.Omega.{arith}
+use mathlib.Core.Path.{_≡_, refl, sym, ap}
+use mathlib.Core.Bool.{Bool, true}
+use mathlib.Core.Option.{Option, none, some}
+use mathlib.Core.List.{List, [], _∷_}
+use lib.ListN.{length, take, drop, getD, length-take, length-map}
+use Rattle.record.specs.Chain.{Chain}
+use Rattle.codes.specs.Codes.{groupIn, ringIn}
+use Rattle.reading.proofs.Part.{none≢some}
+use Rattle.chain.specs.declared.Role.{Role}
+use Rattle.chain.specs.Features.{groupsOn, floating}
+use Rattle.drawable.specs.declared.Shape.{Shape}
+use Rattle.drawable.specs.Drawn.{Drawn, drawnOf, groupsIn, ringsIn, groupsPart, floatsPart, ringsPart}
+use Rattle.drawable.specs.Chains.{drawnIn, itemsOf}
+use Rattle.shapes.specs.Shapes.{noShape, shapesIn, chainsKept}
+use Rattle.template.specs.declared.Class.{Class}
+use Rattle.template.specs.Template.{roleOf, hasTail}
+use Rattle.template.specs.Request.{chainAt, nonempty, placed, lineOf}
+use Rattle.template.specs.Promise.{Each}
+use Rattle.placed.specs.Fragment as place
+use Rattle.placed.specs.Fragment.{Carries, drawnAt, IsDrawn, Stood}
+use Rattle.templates.specs.Templates.{TailOf}
+use Rattle.templates.specs.Classes.{StoodIn}
+use Rattle.longest.specs.Longest.{carbonMost, textMost, drawnMost, sitesMost, numbersMost, chainMost, chainMostOf, mostAt, lineMost}
+use Rattle.longest.specs.Covered.{shapeMost, ChainCovered, Covered}
+use Rattle.longest.proofs.Chains.{Modest}
+use Rattle.longest.proofs.Line.{line-most}
+
+-- ---- more of anything makes a line no shorter
+
+text-more : (n g f q g′ f′ q′ : ℕ) → g ≤ g′ → f ≤ f′ → q ≤ q′ → textMost n g f q ≤ textMost n g′ f′ q′
+unfolding textMost carbonMost
+text-more n g f q g′ f′ q′ a b c =
+    let more : 17 + 3 * q + 14 * g ≤ 17 + 3 * q′ + 14 * g′ = omega arith in
+    omega (arith, mul-le-mul-left n more)
+
+numbers-more : (c u g f q g′ f′ q′ : ℕ) → g ≤ g′ → f ≤ f′ → q ≤ q′ → numbersMost c u g f q ≤ numbersMost c u g′ f′ q′
+unfolding numbersMost sitesMost
+numbers-more c u g f q g′ f′ q′ a b e =
+    let n = drawnMost c u in
+    let same : 14 + 6 * n ≤ 14 + 6 * n = omega arith in
+    omega (arith, text-more n g f q g′ f′ q′ a b e, mul-le-mul b same)
+
+-- ---- a chain by its numbers
+
+groups-held : (n m : ℕ) (xs : List ℕ) → length xs ≤ m → length (groupsIn n xs) ≤ min n m
+unfolding groupsIn
+groups-held n m xs h = omega (arith, length-map (take n xs) groupIn, length-take n xs)
+
+rings-held : (n m : ℕ) (xs : List ℕ) → length xs ≤ m → length (ringsIn n xs) ≤ min n m
+unfolding ringsIn
+rings-held n m xs h = omega (arith, length-map (take n xs) ringIn, length-take n xs)
+
+module _ (r : Role) (d : Chain) (x : Shape) (l : List ℕ) (h : Carries r d (drawnOf x l)) where
+  groups-few : length (groupsOn r d) ≤ min (x .«group_count») 18
+  unfolding groupsPart
+  groups-few = omega (arith, ap length (h .draws .groups), groups-held (x .«group_count») 18 (groupsPart l) (omega (arith, length-take 18 (drop 33 l))))
+
+  floats-few : length (floating d) ≤ min (x .«float_count») 18
+  unfolding floatsPart
+  floats-few = omega (arith, ap length (h .draws .floats), groups-held (x .«float_count») 18 (floatsPart l) (omega (arith, length-take 18 (drop 51 l))))
+
+  rings-few : length (d .rings) ≤ min (x .«ring_count») 8
+  unfolding ringsPart
+  rings-few = omega (arith, ap length (h .draws .rings), rings-held (x .«ring_count») 8 (ringsPart l) (omega (arith, length-take 8 (drop 69 l))))
+
+  modest : Modest r d
+  modest =
+      record {
+        drawn = h .drawn;
+        groups = omega (arith, groups-few);
+        floats = omega (arith, floats-few);
+        unlocated = h .bonds;
+        carbon = omega (arith, h .readable .carbons);
+      }
+
+  chain-covered : chainMost r d ≤ shapeMost x
+  unfolding chainMost shapeMost
+  chain-covered =
+      rw (h .draws .carbon, h .draws .unlocated)
+      (numbers-more (d .carbon) (d .unlocated) (length (groupsOn r d)) (length (floating d)) (length (d .rings)) (min (x .«group_count») 18) (min (x .«float_count») 18) (min (x .«ring_count») 8) groups-few floats-few rings-few)
+
+-- ---- the chain of an sn
+
+-- what stands at a place of some chains is one of the numbers, with some part
+abbrev Picked : List Shape → ℕ → ℕ → Option Drawn → Type 0
+Picked xs n i none = Unit {0}
+Picked xs n i (some y) = (i < n) × ((l : List ℕ) × (y ≡ drawnOf (getD xs i noShape) l))
+
+picked : (xs : List Shape) (n i : ℕ) (l : List ℕ) → Picked xs n i (drawnAt (suc i) (take n (itemsOf xs l)))
+unfolding drawnAt itemsOf
+picked xs zero i l = tt
+picked [] (suc n) i l = tt
+picked (x ∷ xs) (suc n) zero l = (omega arith, (take 77 l, refl))
+picked (x ∷ xs) (suc n) (suc i) l = go (drawnAt (suc i) (take n (itemsOf xs (drop 77 l)))) (picked xs n i (drop 77 l))
+  where
+    go : (o : Option Drawn) → Picked xs n i o → Picked (x ∷ xs) (suc n) (suc i) o
+    go none h = tt
+    go (some y) h = (omega (arith, h .0), h .1)
+
+-- a chain with carbons has a place among those that count, and its numbers there
+record Numbered (ns : List ℕ) (count i : ℕ) (r : Role) (d : Chain) : Type 0 where
+  counted : i < count
+  modest : Modest r d
+  covered : chainMost r d ≤ shapeMost (getD (shapesIn ns) i noShape)
+
+module _ (ρ : ℕ → Role) (ds : List Chain) (count : ℕ) (ns l : List ℕ) (h : Stood ρ ds (chainsKept count ns l)) where
+  told : (i : ℕ) (d : Chain) → nonempty (suc i) ds ≡ some d → Numbered ns count i (ρ (suc i)) d
+  unfolding drawnIn
+  told i d e = go (drawnAt (suc i) (take count (itemsOf (shapesIn ns) l))) refl (picked (shapesIn ns) count i l)
+    where
+      r : Role
+      r = ρ (suc i)
+
+      carried : (y : Drawn) → IsDrawn (drawnAt (suc i) (take count (itemsOf (shapesIn ns) l))) y → Carries r d y
+      carried y g = let z = h .stands (suc i) y (record { is = g }) in rw e at z
+
+      go : (o : Option Drawn) → drawnAt (suc i) (take count (itemsOf (shapesIn ns) l)) ≡ o → Picked (shapesIn ns) count i o → Numbered ns count i r d
+      go none q p =
+          let z : Carries r d (drawnOf noShape []) = carried (drawnOf noShape []) (rw q refl) in
+          absurd (omega (arith, z .some, z .draws .carbon))
+      go (some y) q p =
+          let x = getD (shapesIn ns) i noShape in
+          let z : Carries r d (drawnOf x (p .1 .0)) = carried (drawnOf x (p .1 .0)) (rw q (sym (p .1 .1))) in
+          record { counted = p .0; modest = modest r d x (p .1 .0) z; covered = chain-covered r d x (p .1 .0) z }
+
+  -- an sn is never 0
+  no-chain : (ds : List Chain) (d : Chain) → nonempty zero ds ≡ some d → ⊥
+  unfolding nonempty chainAt
+  no-chain [] d e = none≢some e
+  no-chain (b ∷ ds) d e = none≢some e
+
+  all-modest : (sn : ℕ) (d : Chain) → nonempty sn ds ≡ some d → Modest (ρ sn) d
+  all-modest zero d e = absurd (no-chain ds d e)
+  all-modest (suc i) d e = told i d e .modest
+
+-- ---- what the functions answer
+
+-- past the chains that count
+pub past-covered : (count i : ℕ) (ns : List ℕ) → count ≤ i → ChainCovered count ns i 0
+past-covered count i ns g = record { few = omega arith; covers = λ ρ ds l h. go ρ ds l h (nonempty (suc i) ds) refl }
+  where
+    go : (ρ : ℕ → Role) (ds : List Chain) (l : List ℕ) → Stood ρ ds (chainsKept count ns l) → (o : Option Chain) → nonempty (suc i) ds ≡ o → chainMostOf (ρ (suc i)) o ≤ 0
+    go ρ ds l h none e = omega arith
+    go ρ ds l h (some d) e = absurd (omega (arith, g, told ρ ds count ns l h i d e .counted))
+
+-- one that counts
+pub there-covered : (count i r : ℕ) (ns : List ℕ) (x : Shape) → x ≡ getD (shapesIn ns) i noShape → r ≡ shapeMost x → r ≤ 400000000 → ChainCovered count ns i r
+there-covered count i r ns x e f g = record { few = g; covers = λ ρ ds l h. go ρ ds l h (nonempty (suc i) ds) refl }
+  where
+    go : (ρ : ℕ → Role) (ds : List Chain) (l : List ℕ) → Stood ρ ds (chainsKept count ns l) → (o : Option Chain) → nonempty (suc i) ds ≡ o → chainMostOf (ρ (suc i)) o ≤ r
+    go ρ ds l h none q = omega arith
+    go ρ ds l h (some d) q = rw (f, e) (told ρ ds count ns l h i d q .covered)
+
+-- THE LINE
+pub line-covered : (t : List ℕ) (k count : ℕ) (ns : List ℕ) (a b c d : ℕ) → ChainCovered count ns 0 a → ChainCovered count ns 1 b → ChainCovered count ns 2 c → ChainCovered count ns 3 d
+    → Covered t k count ns (200 + length t + 4 * k + (a + b + c + d))
+unfolding lineMost mostAt
+line-covered t k count ns a b c d p q r s = record { covers = go }
+  where
+    go : (x : Class) (swap : Bool) (ds : List Chain) (l : List ℕ) → (hasTail x ≡ true → TailOf t k) → StoodIn x ds (chainsKept count ns l) → Each place.Told (placed x t ds)
+        → length (lineOf x swap t ds) ≤ 200 + length t + 4 * k + (a + b + c + d)
+    go x swap ds l h g m =
+        omega (
+          arith,
+          line-most x swap t k ds h m (all-modest (roleOf x) ds count ns l g),
+          p .covers (roleOf x) ds l g,
+          q .covers (roleOf x) ds l g,
+          r .covers (roleOf x) ds l g,
+          s .covers (roleOf x) ds l g,
+        )

@@ -1,0 +1,45 @@
+-- What the contracts of `longest` cite: a number that no line of some chains is longer than. Assumes nothing.
+use Prim.Native.Nat.{ℕ, suc, _≤_, min}
+use mathlib.Core.Path.{_≡_}
+use mathlib.Core.Bool.{Bool, true}
+use mathlib.Core.List.{List}
+use lib.ListN.{length}
+use Rattle.record.specs.Chain.{Chain}
+use Rattle.chain.specs.declared.Role.{Role}
+use Rattle.drawable.specs.declared.Shape.{Shape}
+use Rattle.shapes.specs.Shapes.{chainsKept}
+use Rattle.template.specs.declared.Class.{Class}
+use Rattle.template.specs.Template.{hasTail}
+use Rattle.template.specs.Request.{nonempty, placed, lineOf}
+use Rattle.template.specs.Promise.{Each}
+use Rattle.placed.specs.Fragment.{Stood, Told}
+use Rattle.templates.specs.Templates.{TailOf}
+use Rattle.templates.specs.Classes.{StoodIn}
+use Rattle.longest.specs.Longest.{numbersMost, chainMostOf}
+
+-- the numbers of a chain, a count past the room of its list counting as the room
+unfoldable pub shapeMost : Shape → ℕ
+unfolding numbersMost
+shapeMost x = numbersMost (x .carbon) (x .unlocated) (min (x .«group_count») 18) (min (x .«float_count») 18) (min (x .«ring_count») 8)
+
+-- the numbers of a chain where its counts are within their rooms
+pub record Few (n g f q : ℕ) : Type 0 where
+  pub carbons : n ≤ 196607
+  pub groups : g ≤ 18
+  pub floats : f ≤ 18
+  pub rings : q ≤ 8
+
+-- r is n, and at most m
+pub record Bounded (m n r : ℕ) : Type 0 where
+  pub is : r ≡ n
+  pub few : r ≤ m
+
+-- r is no less than what the chain at a place adds to the line of any chains that have these numbers; its sn is one more than its place
+pub record ChainCovered (count : ℕ) (ns : List ℕ) (i r : ℕ) : Type 0 where
+  pub few : r ≤ 400000000
+  pub covers : (ρ : ℕ → Role) (ds : List Chain) (l : List ℕ) → Stood ρ ds (chainsKept count ns l) → chainMostOf (ρ (suc i)) (nonempty (suc i) ds) ≤ r
+
+-- r is no less than the length of the line of any such chains, with a tail t of k atoms
+pub record Covered (t : List ℕ) (k count : ℕ) (ns : List ℕ) (r : ℕ) : Type 0 where
+  pub covers : (c : Class) (swap : Bool) (ds : List Chain) (l : List ℕ) → (hasTail c ≡ true → TailOf t k) → StoodIn c ds (chainsKept count ns l)
+      → Each Told (placed c t ds) → length (lineOf c swap t ds) ≤ r

@@ -1,0 +1,54 @@
+-- How long a line is at most, by the numbers of its chains. The bound is crude, so that it costs little: it is to say of most lines that they
+-- fit, not how long they are. Assumes nothing.
+use Prim.Native.Nat.{ℕ, _+_, _*_}
+use mathlib.Core.Option.{Option, none, some}
+use mathlib.Core.List.{List}
+use lib.ListN.{length}
+use Rattle.record.specs.Chain.{Chain}
+use Rattle.chain.specs.declared.Role.{Role}
+use Rattle.chain.specs.Features.{groupsOn, floating}
+use Rattle.template.specs.declared.Class.{Class}
+use Rattle.template.specs.Template.{roleOf}
+use Rattle.template.specs.Request.{nonempty}
+
+-- a carbon in the text: its mark, itself, its bridge and a carbonyl O, three bytes for each label, and each group in brackets. It has no more
+-- atoms than bytes.
+unfoldable pub carbonMost : ℕ → ℕ → ℕ
+carbonMost groups rings = 17 + 3 * rings + 14 * groups
+
+-- the carbons of a chain, and its floating groups
+unfoldable pub textMost : ℕ → ℕ → ℕ → ℕ → ℕ
+unfolding carbonMost
+textMost carbons groups floats rings = carbons * carbonMost groups rings + 14 * floats
+
+-- the drawn carbons: those written, and the flexible tail
+unfoldable pub drawnMost : ℕ → ℕ → ℕ
+drawnMost carbon unlocated = carbon + 2 * unlocated + 2
+
+-- a site list for each floating group
+unfoldable pub sitesMost : ℕ → ℕ → ℕ
+sitesMost carbons floats = floats * (14 + 6 * carbons)
+
+-- a chain in the line: its text, four bytes in the label block for each of its atoms, its site lists, and its marks with their sum
+unfoldable pub numbersMost : ℕ → ℕ → ℕ → ℕ → ℕ → ℕ
+unfolding textMost sitesMost drawnMost
+numbersMost carbon unlocated groups floats rings =
+    5 * textMost (drawnMost carbon unlocated) groups floats rings + sitesMost (drawnMost carbon unlocated) floats + 25 * unlocated + 50
+
+unfoldable pub chainMost : Role → Chain → ℕ
+unfolding numbersMost
+chainMost r d = numbersMost (d .carbon) (d .unlocated) (length (groupsOn r d)) (length (floating d)) (length (d .rings))
+
+abbrev pub chainMostOf : Role → Option Chain → ℕ
+chainMostOf r none = 0
+chainMostOf r (some d) = chainMost r d
+
+-- the chain of an sn
+unfoldable pub mostAt : Class → List Chain → ℕ → ℕ
+unfolding chainMost nonempty
+mostAt c ds sn = chainMostOf (roleOf c sn) (nonempty sn ds)
+
+-- the tail's text, four bytes in the label block for each of its atoms, what the templates have of their own, and the chains
+unfoldable pub lineMost : Class → List ℕ → ℕ → List Chain → ℕ
+unfolding mostAt
+lineMost c t k ds = 200 + length t + 4 * k + (mostAt c ds 1 + mostAt c ds 2 + mostAt c ds 3 + mostAt c ds 4)

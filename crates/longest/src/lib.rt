@@ -1,0 +1,82 @@
+// How long the line of a request is at most, by the numbers of its chains alone and before any of it is written: a line that is sure to fit can
+// be written at once where it is to stand. The bound is crude, so that it costs little. Which it is, is said by specs/Longest.antt.
+use drawable::Shape;
+use shapes::SHAPE_ROOM;
+ghost use mathlib.Core.Path.{_≡_};
+ghost use Prim.Native.Nat.{_≤_, min};
+ghost use Rattle.longest.specs.Longest.{drawnMost, textMost, sitesMost};
+ghost use Rattle.longest.specs.Covered.{shapeMost, Few, Bounded, ChainCovered, Covered};
+
+// The most groups with a position that a chain has room for, and the most without one.
+const GROUP_ROOM: usize = 18;
+
+// The most rings.
+const RING_ROOM: usize = 8;
+
+// A count, or the room where it is past it.
+fn in_room(n: usize, room: usize) -> usize
+    ensures { λ r. ⌜ Bounded room (min n room) r ⌝ }
+{
+    if n < room {
+        return n;
+    }
+    room
+}
+
+// The drawn carbons: those written, and the flexible tail.
+fn drawn_most(carbon: u16, unlocated: u16) -> usize
+    ensures { λ r. ⌜ Bounded 196607 (drawnMost carbon unlocated) r ⌝ }
+{
+    carbon as usize + 2 * (unlocated as usize) + 2
+}
+
+// The text of a chain, and its atoms.
+fn text_most(carbons: usize, groups: usize, floats: usize, rings: usize) -> usize
+    requires { ⌜ Few carbons groups floats rings ⌝ }
+    ensures { λ r. ⌜ Bounded 60000000 (textMost carbons groups floats rings) r ⌝ }
+{
+    let each = 17 + 3 * rings + 14 * groups;
+    carbons * each + 14 * floats
+}
+
+// A site list for each floating group.
+fn sites_most(carbons: usize, floats: usize) -> usize
+    requires { ⌜ (carbons ≤ 196607) × (floats ≤ 18) ⌝ }
+    ensures { λ r. ⌜ Bounded 22000000 (sitesMost carbons floats) r ⌝ }
+{
+    floats * (14 + 6 * carbons)
+}
+
+// A chain in the line: its text, four bytes in the label block for each of its atoms, its site lists, and its marks with their sum.
+fn shape_most(x: Shape) -> usize
+    ensures { λ r. ⌜ Bounded 400000000 (shapeMost x) r ⌝ }
+{
+    let carbons = drawn_most(x.carbon, x.unlocated);
+    let groups = in_room(x.group_count, GROUP_ROOM);
+    let floats = in_room(x.float_count, GROUP_ROOM);
+    let rings = in_room(x.ring_count, RING_ROOM);
+    let text = text_most(carbons, groups, floats, rings);
+    let sites = sites_most(carbons, floats);
+    5 * text + sites + 25 * (x.unlocated as usize) + 50
+}
+
+// The chain at a place; one past those that count adds nothing.
+fn chain_most(count: usize, i: usize, shapes: &[u64; SHAPE_ROOM]) -> usize
+    ensures { λ r. ⌜ ChainCovered count (now (shapes .entry)) i r ⌝ }
+{
+    if count <= i {
+        return 0;
+    }
+    shape_most(shapes::shape_in(shapes, i))
+}
+
+// A line of any class: the tail and its atoms, what the templates have of their own, and the chains.
+pub fn line_most(tail: &[u8], tail_atoms: u16, count: usize, shapes: &[u64; SHAPE_ROOM]) -> usize
+    ensures { λ r. ⌜ Covered (now (tail .entry)) «tail_atoms» count (now (shapes .entry)) r ⌝ }
+{
+    let a = chain_most(count, 0, shapes);
+    let b = chain_most(count, 1, shapes);
+    let c = chain_most(count, 2, shapes);
+    let d = chain_most(count, 3, shapes);
+    200 + tail.len() + 4 * (tail_atoms as usize) + (a + b + c + d)
+}
