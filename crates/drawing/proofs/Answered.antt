@@ -4,11 +4,11 @@ use Prim.Native.Nat.{ℕ, zero, suc, _+_, _-_, _≤_, _<_, _^_, min}
 use native.Mathlib.Nat.{zero-add, sub-zero}
 use native.Mathlib.Omega.{arith}
 use mathlib.Core.Path.{_≡_, refl, sym, ap, ap₂, _∙_}
-use mathlib.Core.Bool.{Bool, true, false, _||_}
+use mathlib.Core.Bool.{Bool, true, false, cond, _||_}
 use mathlib.Core.List.{List, [], _∷_, _++_, map}
-use lib.ListN.{length, take, drop, length-take, length-map}
+use lib.ListN.{length, take, drop, length-take, length-map, length-append}
 use lib.Seq.{sets, sets-eq, take-all}
-use lib.Dec.{ltb}
+use lib.Dec.{ltb, leb}
 use borrow.Author.Tests.{lt-ltb, le-ltb}
 use Rattle.emit.specs.Text.{Written, after}
 use Rattle.emit.proofs.Laws.{written-length}
@@ -17,9 +17,10 @@ use Rattle.reading.specs.Molecule.{at}
 use Rattle.shown.specs.declared.Site.{Site}
 use Rattle.shown.specs.Notes.{labelsOf}
 use Rattle.template.specs.declared.Class.{Class}
-use Rattle.template.specs.Request.{placed, bySn, snSites, allIndices, lineOf, indexOf}
+use Rattle.template.specs.Request as request
+use Rattle.template.specs.Request.{placed, insertBySn, bySn, snSites, indicesOf, allIndices, lineOf, indexOf}
 use Rattle.placed.specs.declared.Placed.{Placed}
-use Rattle.placed.specs.Fragment.{noted}
+use Rattle.placed.specs.Fragment.{noted, gathered}
 use Rattle.placed.proofs.Ready.{sns-few}
 use Rattle.rising.specs.declared.Rising.{Rising}
 use Rattle.rising.specs.Four.{four}
@@ -109,6 +110,39 @@ at-start : (xs ts : List ℕ) {ys : List ℕ} → ys ≡ sets xs 0 ts → length
 unfolding atStart
 at-start xs ts w h = w ∙ (rw (zero-add (length ts)) at (sets-eq ts xs 0 (omega (arith, h))))
 
+-- ---- the indices of all chains
+
+length-inserted : (p : request.Placed) (ps : List request.Placed) → length (allIndices (insertBySn p ps)) ≡ length (indicesOf p) + length (allIndices ps)
+unfolding allIndices insertBySn
+length-inserted p [] = length-append (indicesOf p) []
+length-inserted p (q ∷ qs) = go (leb (p .sn) (q .sn)) (length-inserted p qs)
+  where
+    go : (b : Bool) → length (allIndices (insertBySn p qs)) ≡ length (indicesOf p) + length (allIndices qs)
+        → length (allIndices (cond b (p ∷ q ∷ qs) (q ∷ insertBySn p qs))) ≡ length (indicesOf p) + length (indicesOf q ++ allIndices qs)
+    go true h = length-append (indicesOf p) (indicesOf q ++ allIndices qs)
+    go false h = omega (arith, length-append (indicesOf q) (allIndices (insertBySn p qs)), h, length-append (indicesOf q) (allIndices qs))
+
+-- by rising sn they are as many as in the order of the text
+length-sorted : (ps : List request.Placed) → length (allIndices (bySn ps)) ≡ length (gathered indicesOf ps)
+unfolding allIndices bySn gathered
+length-sorted [] = refl
+length-sorted (p ∷ ps) = omega (arith, length-inserted p (bySn ps), length-sorted ps, length-append (indicesOf p) (gathered indicesOf ps))
+
+pub index-length : (c : Class) (t : List ℕ) (ds : List Chain) → length (indexOf c t ds) ≡ length (gathered indicesOf (placed c t ds))
+unfolding indexOf
+index-length c t ds = length-sorted (placed c t ds)
+
+-- and the same, where there is one chain at most
+lone : (ps : List request.Placed) → length ps ≤ 1 → allIndices (bySn ps) ≡ gathered indicesOf ps
+unfolding allIndices bySn insertBySn gathered
+lone [] h = refl
+lone (p ∷ []) h = refl
+lone (p ∷ q ∷ ps) h = absurd (omega arith)
+
+pub index-alone : (c : Class) (t : List ℕ) (ds : List Chain) → length (placed c t ds) ≤ 1 → indexOf c t ds ≡ gathered indicesOf (placed c t ds)
+unfolding indexOf
+index-alone c t ds h = lone (placed c t ds) h
+
 -- ---- the answers
 
 module _ {c : Class} {swap : Bool} {t : List ℕ} {ds : List Chain} {vs zs : List ℕ} {end count : ℕ} {l : List Placed} {o : Rising} {z : Sites} {numbers : List ℕ} {used : ℕ}
@@ -151,17 +185,27 @@ module _ {c : Class} {swap : Bool} {t : List ℕ} {ds : List Chain} {vs zs : Lis
       let at : end ≡ length (lineOf c swap t ds) = omega (arith, u, g, b .text .next) in
       rw at (start-of (b .text) (omega (arith, h, at)))
 
-  pub answered : {xs is ys js : List ℕ} {e : ℕ} (ls : Lists) (n : ℕ) → length xs < 2 ^ 63 → end ≤ length xs → ListsHeld (listsAt l (placesIn o)) ls → Counted (take (ls .count) (ls .items)) n
-      → n ≤ length is → Written is 0 (indicesAt l numbers (placesIn o)) js e → ys ≡ sets xs 0 (lineOf c swap t ds)
+  -- accepted, where both slices have room
+  pub answered-in : {xs is ys js : List ℕ} (ls : Lists) → length xs < 2 ^ 63 → length (lineOf c swap t ds) ≤ length xs → ListsHeld (listsAt l (placesIn o)) ls
+      → length (indexOf c t ds) ≤ length is → js ≡ sets is 0 (indexOf c t ds) → ys ≡ sets xs 0 (lineOf c swap t ds)
       → Answers (Drawable c ds) swap t xs is ys js (record { number = 0; token = 0; length = end; lists = ls; sites = z })
   unfolding acceptance
-  answered {xs} {is} ls n u h k m g i w =
-      let at : end ≡ length (lineOf c swap t ds) = omega (arith, u, h, b .text .next) in
-      let line : length (lineOf c swap t ds) ≤ length xs = omega (arith, at, h) in
-      let index : length (indexOf c t ds) ≤ length is = omega (arith, g, counted ls n k m) in
+  answered-in {xs} {is} ls u line k index i w =
+      let at : end ≡ length (lineOf c swap t ds) = omega (arith, u, line, b .text .next) in
       let long = long-enough c swap t ds xs is line index in
       record {
         answer = rw (long, at, lists-are ls k, sites-are) refl;
         line = rw long (at-start xs (lineOf c swap t ds) w line);
-        index = rw long (at-start is (indexOf c t ds) (i .elements ∙ ap (λ (r : List ℕ). sets is 0 r) indices-are) index);
+        index = rw long (at-start is (indexOf c t ds) i index);
       }
+
+  -- the indices as they are written by rising sn
+  pub indices-written : {is js : List ℕ} {e : ℕ} → Written is 0 (indicesAt l numbers (placesIn o)) js e → js ≡ sets is 0 (indexOf c t ds)
+  indices-written {is} i = i .elements ∙ ap (λ (r : List ℕ). sets is 0 r) indices-are
+
+  pub answered : {xs is ys js : List ℕ} {e : ℕ} (ls : Lists) (n : ℕ) → length xs < 2 ^ 63 → end ≤ length xs → ListsHeld (listsAt l (placesIn o)) ls → Counted (take (ls .count) (ls .items)) n
+      → n ≤ length is → Written is 0 (indicesAt l numbers (placesIn o)) js e → ys ≡ sets xs 0 (lineOf c swap t ds)
+      → Answers (Drawable c ds) swap t xs is ys js (record { number = 0; token = 0; length = end; lists = ls; sites = z })
+  answered {xs} {is} ls n u h k m g i w =
+      let at : end ≡ length (lineOf c swap t ds) = omega (arith, u, h, b .text .next) in
+      answered-in ls u (omega (arith, at, h)) k (omega (arith, g, counted ls n k m)) (indices-written i) w

@@ -9,7 +9,7 @@ use lib.ListN.{length, take, drop}
 use borrow.Author.Tests.{not-false}
 use Rattle.record.specs.Chain.{Chain}
 use Rattle.tail.specs.Grammar.{isTail}
-use Rattle.drawable.specs.Chains.{chainsOf}
+use Rattle.shapes.specs.Shapes.{chainsKept}
 use Rattle.template.specs.declared.Class.{Class}
 use Rattle.template.specs.Template.{hasTail}
 use Rattle.template.specs.Request.{lineOf, indexOf}
@@ -26,10 +26,10 @@ use Rattle.forward.proofs.Ready.{ready}
 
 -- ---- refused
 
-pub called-refused : {v : Verdict} {swap : Bool} {t xs is : List ℕ} {a : Answer} (j : Judged) (l : List ℕ) → JudgedIs j l t v → (j .fault .number ≡ 0 → ⊥) → a ≡ refusal (j .fault .number) (j .fault .place)
+pub called-refused : {v : Verdict} {swap : Bool} {t xs is : List ℕ} {a : Answer} (j : Judged) (m : ℕ) (ns l : List ℕ) → JudgedIs j m ns l t v → (j .fault .number ≡ 0 → ⊥) → a ≡ refusal (j .fault .number) (j .fault .place)
     → Called v swap t xs is xs is a
-called-refused {v} {swap} {t} {xs} {is} {a} j l h n e =
-    let w : v ≡ Refused (j .fault .number) (j .fault .place) = answer-refused j l t v h n in
+called-refused {v} {swap} {t} {xs} {is} {a} j m ns l h n e =
+    let w : v ≡ Refused (j .fault .number) (j .fault .place) = answer-refused j m ns l t v h n in
     record {
       answers = rw w (record { answer = e; line = refl; index = refl });
       kept = λ z. absurd (n (sym (ap (λ (x : Answer). x .number) e) ∙ z));
@@ -76,12 +76,12 @@ module _ (class t : List ℕ) (count : ℕ) (sn1 sn2 sn3 sn4 : List ℕ) where
   unfolding wrongTail
   right-tail c ds e q = not-false (isTail t) (rw q at (judged-fits class t count (tokens count sn1 sn2 sn3 sn4) c ds e .tail))
 
-  pub called-drawn : {swap : Bool} {xs is ys js : List ℕ} {a : Answer} (j : Judged) (l : List ℕ) → JudgedIs j l t v → j .fault .number ≡ 0
-      → ChainsDrawn (j .class) swap t (j .«tail_atoms») (chainsOf (j .shapes) l) xs is ys js a → Called v swap t xs is ys js a
-  called-drawn {swap} {xs} {is} {ys} {js} {a} j l h n g =
-      let d = answer-drawable j l t v h n in
+  pub called-drawn : {swap : Bool} {xs is ys js : List ℕ} {a : Answer} (j : Judged) (ns l : List ℕ) → JudgedIs j count ns l t v → j .fault .number ≡ 0
+      → ChainsDrawn (j .class) swap t (j .«tail_atoms») (chainsKept count ns l) xs is ys js a → Called v swap t xs is ys js a
+  called-drawn {swap} {xs} {is} {ys} {js} {a} j ns l h n g =
+      let d = answer-drawable j count ns l t v h n in
       let accepted = judged-accepted class t count sn1 sn2 sn3 sn4 (j .class) (d .chains) (d .is) in
-      let r = ready (j .class) t (d .chains) (j .«tail_atoms») (chainsOf (j .shapes) l) accepted (right-tail (j .class) (d .chains) (d .is)) (d .drawing) (d .atoms) in
+      let r = ready (j .class) t (d .chains) (j .«tail_atoms») (chainsKept count ns l) accepted (right-tail (j .class) (d .chains) (d .is)) (d .drawing) (d .atoms) in
       let w : Answers (Drawable (j .class) (d .chains)) swap t xs is ys js a = g .drawn (d .chains) r in
       record {
         answers = rw (d .is) w;

@@ -18,12 +18,13 @@ use Rattle.template.specs.Request.{chainAt, unlessEmpty, nonempty, tailPart}
 use Rattle.template.proofs.Placing.{AcceptsFrom}
 use Rattle.template.proofs.Tail.{tail-fits}
 use Rattle.template.proofs.Theorem.{Accepted}
-use Rattle.placed.specs.Fragment.{Stands, drawnAt, IsDrawn, ChainAt}
+use Rattle.shapes.specs.Sn.{drawnAt, IsDrawn, ChainAt}
+use Rattle.placed.specs.Fragment.{Stands}
 use Rattle.placed.proofs.Ready.{stands-carried, told}
 use Rattle.templates.specs.Templates.{TailOf}
 use Rattle.templates.specs.Classes.{StoodIn}
 use Rattle.templates.proofs.Fits.{fits-class}
-use Rattle.lines.proofs.Room.{roomy}
+use Rattle.lines.proofs.Room.{places-most, roomy}
 use Rattle.judge.specs.Judged.{DrawsAll, none as noChains, more, Drawing}
 use Rattle.drawing.specs.Draw.{Ready}
 
@@ -70,5 +71,7 @@ ready c t ds k x a h d e =
       stood = stood c ds x d (a .chains);
       fits = fits-class c t ds (a .chains) (λ q. tail-fits t (a .tail q) .few);
       told = told c t ds a;
-      room = λ xs u v. roomy c t ds xs a (omega arith) (omega arith);
+      tokens = d .few;
+      few = omega (arith, places-most c t ds a, d .counted);
+      room = λ xs u v. roomy c t ds xs a (omega (arith, u, d .counted)) (omega (arith, v, d .counted));
     }

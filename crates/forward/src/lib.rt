@@ -3,6 +3,7 @@
 // what an accepted line promises by specs/Call.antt.
 use drawable::LIST_ROOM;
 pub use drawing::Answer;
+use shapes::SHAPE_ROOM;
 ghost use Prim.Native.Nat.{_*_, _≤_, min};
 ghost use lib.ListN.{length};
 ghost use Rattle.judge.specs.Verdict.{verdict, tokens};
@@ -28,14 +29,14 @@ fn draw_in<'a>(
     requires { ⌜ 77 * min count 4 ≤ length (now lists) ⌝ }
     ensures { λ r. ⌜ Called (verdict (now (class .entry)) (now (tail .entry)) count (tokens count (now (sn1 .entry)) (now (sn2 .entry)) (now (sn3 .entry)) (now (sn4 .entry)))) swap (now (tail .entry)) (now (line .entry)) (now (index .entry)) (now (line .exit)) (now (index .exit)) r ⌝ }
 {
-    let judged = judge::judge(class, tail, count, sn1, sn2, sn3, sn4, lists);
+    let mut shapes = [0u64; SHAPE_ROOM];
+    let judged = judge::judge(class, tail, count, sn1, sn2, sn3, sn4, &mut shapes, lists);
     let fault = judged.fault;
     let number = fault.number;
     if number != 0 {
         return drawing::refused(number, fault.place);
     }
     let kind = judged.class;
-    let shapes = judged.shapes;
     drawing::draw_chains(
         line,
         index,
@@ -43,7 +44,8 @@ fn draw_in<'a>(
         swap,
         tail,
         judged.tail_atoms,
-        shapes,
+        count,
+        &shapes,
         lists,
     )
 }

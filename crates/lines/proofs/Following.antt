@@ -105,4 +105,5 @@ line-built {c} {swap} {t} {k} {x} {xs} {ys} {zs} {is} {js} {rs} {ss} {ns} {ms} {
           chains = rw (f .count) there;
           used = f .used ∙ n;
           index = rw (f .used, n) front;
+          indices = rw (f .used) own;
         }

@@ -1,10 +1,11 @@
--- There is room for the indices and rows of an accepted request: four chains of at most 258 indices and 18 floating groups.
+-- There is room for the indices and rows of an accepted request: no more chains than tokens, each with at most 255 indices and 16 floating groups.
 -- Assumes nothing.
 use Prim.Native.Nat.{ℕ, suc, _+_, _*_, _≤_}
 use native.Mathlib.Omega.{arith}
-use mathlib.Core.Path.{_≡_, refl, ap}
+use mathlib.Core.Path.{_≡_, refl, ap, _∙_}
+use mathlib.Core.Bool.{Bool, true, false, cond}
 use mathlib.Core.List.{List, [], _∷_, map}
-use lib.Dec.{eqb}
+use lib.Dec.{eqb, leb}
 use lib.ListN.{length, length-append}
 use Rattle.record.specs.declared.Mod.{Mod}
 use Rattle.record.specs.Chain.{Chain}
@@ -15,13 +16,13 @@ use Rattle.drawable.proofs.Lists.{length-only}
 use Rattle.branches.specs.Text.{rowsIn}
 use Rattle.template.specs.declared.Class.{Class}
 use Rattle.template.specs.Template.{elements}
-use Rattle.template.specs.Request.{Placed, placedFrom, placed, indicesOf}
+use Rattle.template.specs.Request.{Placed, placedFrom, placed, insertBySn, bySn, indicesOf}
+use Rattle.template.specs.Promise.{namesOf, chainsFrom}
 use Rattle.template.proofs.Placing.{variablesTo}
 use Rattle.template.proofs.Notes.{placing-drawable}
 use Rattle.template.proofs.Whole as Whole
-use Rattle.template.proofs.Theorem.{Accepted, drawn-request, indices-few}
+use Rattle.template.proofs.Theorem.{Accepted, promise, drawn-request, indices-few}
 use Rattle.placed.specs.Fragment.{rowsOf, gathered}
-use Rattle.listing.proofs.PlacedLaws.{places-few}
 use Rattle.builder.specs.Build.{Rooms}
 use Rattle.lines.specs.Line.{Roomy}
 
@@ -39,8 +40,43 @@ unfolding gathered
 gathered-most f m h [] a = omega arith
 gathered-most f m h (p ∷ ps) a = omega (arith, length-append (f p) (gathered f ps), h p (a .0), gathered-most f m h ps (a .1))
 
+-- ---- no more chains are placed than there are tokens
+
+length-inserted : (p : Placed) (ps : List Placed) → length (insertBySn p ps) ≡ suc (length ps)
+unfolding insertBySn
+length-inserted p [] = refl
+length-inserted p (q ∷ qs) = go (leb (p .sn) (q .sn)) (length-inserted p qs)
+  where
+    go : (b : Bool) → length (insertBySn p qs) ≡ suc (length qs) → length (cond b (p ∷ q ∷ qs) (q ∷ insertBySn p qs)) ≡ suc (suc (length qs))
+    go true h = refl
+    go false h = ap suc h
+
+length-sorted : (ps : List Placed) → length (bySn ps) ≡ length ps
+unfolding bySn
+length-sorted [] = refl
+length-sorted (p ∷ ps) = length-inserted p (bySn ps) ∙ ap suc (length-sorted ps)
+
+length-names : (ps : List Placed) → length (namesOf ps) ≡ length ps
+unfolding namesOf
+length-names [] = refl
+length-names (p ∷ ps) = ap suc (length-names ps)
+
+length-chains : (sn : ℕ) (ds : List Chain) → length (chainsFrom sn ds) ≤ length ds
+unfolding chainsFrom
+length-chains sn [] = omega arith
+length-chains sn (d ∷ ds) = go (eqb (d .carbon) 0) (length-chains (suc sn) ds)
+  where
+    go : (b : Bool) → length (chainsFrom (suc sn) ds) ≤ length ds → length (cond b (chainsFrom (suc sn) ds) ((sn, d) ∷ chainsFrom (suc sn) ds)) ≤ suc (length ds)
+    go true h = omega arith
+    go false h = omega arith
+
+pub places-most : (c : Class) (t : List ℕ) (ds : List Chain) → Accepted c t ds → length (placed c t ds) ≤ length ds
+places-most c t ds a =
+    let same : length (namesOf (bySn (placed c t ds))) ≡ length (chainsFrom 1 ds) = ap (λ l. length l) (promise c false t ds a .chains) in
+    omega (arith, same, length-names (bySn (placed c t ds)), length-sorted (placed c t ds), length-chains 1 ds)
+
 -- THE ROOM of an accepted request
-pub roomy : (c : Class) (t : List ℕ) (ds : List Chain) (xs : Rooms) → Accepted c t ds → 1020 ≤ length (xs .index) → 64 ≤ length (xs .rows) → Roomy (placed c t ds) xs
+pub roomy : (c : Class) (t : List ℕ) (ds : List Chain) (xs : Rooms) → Accepted c t ds → 255 * length ds ≤ length (xs .index) → 16 * length ds ≤ length (xs .rows) → Roomy (placed c t ds) xs
 unfolding placed
 roomy c t ds xs a h g =
     record {
@@ -51,8 +87,8 @@ roomy c t ds xs a h g =
     ps : List Placed
     ps = placedFrom t ds 0 0 (elements c)
 
-    few : length ps ≤ 4
-    few = places-few c t ds
+    few : length ps ≤ length ds
+    few = places-most c t ds a
 
     st : Whole.Stands t ds (elements c)
     st = drawn-request c t ds a

@@ -38,6 +38,7 @@ pub record LineIs (c : Class) (swap : Bool) (t : List ℕ) (ds : List Chain) (xs
   pub chains : chainsOf b (ys .notes) ≡ map noted (placed c t ds)
   pub used : b .used ≡ length (gathered indicesOf (placed c t ds))
   pub index : take (b .used) (ys .index) ≡ gathered indicesOf (placed c t ds)
+  pub indices : Written (xs .index) 0 (gathered indicesOf (placed c t ds)) (ys .index) (b .used)
 
 -- the line of a class
 pub record LineBuilt (c : Class) (swap : Bool) (t : List ℕ) (k : ℕ) (x : Chains) (xs ys : Rooms) (r : Line) : Type 0 where

@@ -21,7 +21,8 @@ use Rattle.template.specs.Template.{roleOf, hasTail}
 use Rattle.template.specs.Request.{chainAt, nonempty, placed, lineOf}
 use Rattle.template.specs.Promise.{Each}
 use Rattle.placed.specs.Fragment as place
-use Rattle.placed.specs.Fragment.{Carries, drawnAt, IsDrawn, Stood}
+use Rattle.shapes.specs.Sn.{drawnAt, IsDrawn}
+use Rattle.placed.specs.Fragment.{Carries, Stood}
 use Rattle.templates.specs.Templates.{TailOf}
 use Rattle.templates.specs.Classes.{StoodIn}
 use Rattle.longest.specs.Longest.{carbonMost, textMost, drawnMost, sitesMost, numbersMost, chainMost, chainMostOf, mostAt, lineMost}

@@ -15,7 +15,7 @@ same-length c = search needs
 returns : tie.Need-returns
 returns c =
     let judged = c .before .before .before .before .before in
-    called-refused (judged .judge .result) _ (judged .judge .ensures) (c .before .if1 .taken) (c .refused .ensures)
+    called-refused (judged .judge .result) _ _ _ (judged .judge .ensures) (c .before .if1 .taken) (c .refused .ensures)
 
 draw-chains-requires : tie.Need-draw-chains-requires
 draw-chains-requires c κs = search needs
@@ -34,8 +34,8 @@ returns-2 c =
     let drawn = c .before .before .before .before in
     let fine = drawn .before .before .before .before .before in
     let judged = fine .before .before .before .before in
-    let a = judged .before .before .before .before .before .before .before .before .before .before .before .args in
-    called-drawn (a .class .now) (a .tail .now) (a .count) (a .sn1 .now) (a .sn2 .now) (a .sn3 .now) (a .sn4 .now) (judged .judge .result) _ (judged .judge .ensures)
+    let a = judged .before .before .before .before .before .before .before .before .before .before .before .before .args in
+    called-drawn (a .class .now) (a .tail .now) (a .count) (a .sn1 .now) (a .sn2 .now) (a .sn3 .now) (a .sn4 .now) (judged .judge .result) _ _ (judged .judge .ensures)
     (fine .if1 .left) (drawn .draw-chains .ensures)
 
 pub draw-in-spec : {M : Type 1} → statement M
