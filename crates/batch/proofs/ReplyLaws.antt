@@ -17,7 +17,7 @@ use Rattle.listing.specs.declared.Listed.{Listed}
 use Rattle.listing.specs.Four.{four}
 use Rattle.listing.specs.Lists.{noList, listOf}
 use Rattle.listing.proofs.PlacedLaws.{places-few}
-use Rattle.drawing.specs.declared.Answer.{Answer}
+use Rattle.answer.specs.declared.Answer.{Answer}
 use Rattle.forward.specs.Answer.{refusal, acceptance, short, answerTo, atStart, lineAfter, indexAfter, Answers}
 use Rattle.forward.specs.Call.{Called}
 use Rattle.header.specs.declared.Plan.{Plan}

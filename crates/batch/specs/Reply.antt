@@ -10,7 +10,7 @@ use Rattle.record.specs.Chain.{Chain}
 use Rattle.template.specs.declared.Class.{Class}
 use Rattle.template.specs.Request.{Placed, placed, bySn, indicesOf, lineOf}
 use Rattle.judge.specs.Verdict.{Verdict, Refused, Drawable, verdict}
-use Rattle.drawing.specs.declared.Answer.{Answer}
+use Rattle.answer.specs.declared.Answer.{Answer}
 use Rattle.forward.specs.Answer.{short, lineAfter, indexAfter}
 use Rattle.sheet.specs.Sheet.{Row, Unreadable, Asks}
 use Rattle.beginning.specs.declared.Answered.{Answered}

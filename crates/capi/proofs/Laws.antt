@@ -7,7 +7,7 @@ use Rattle.shown.specs.declared.Site.{Site}
 use Rattle.listing.specs.declared.Listed.{Listed}
 use Rattle.listing.specs.Lists.{noList}
 use Rattle.listing.specs.Sites.{noSite}
-use Rattle.drawing.specs.declared.Answer.{Answer}
+use Rattle.answer.specs.declared.Answer.{Answer}
 use Rattle.capi.specs.Report.{listPair, sitePair, reportOf}
 
 pub report-is : (x : Answer) {k l m n : ℕ} {a b c d : Listed} {p q s t : Site} → k ≡ min (x .token) 4294967295 → l ≡ min (x .length) 4294967295

@@ -11,7 +11,7 @@ use Rattle.listing.specs.declared.Sites.{Sites}
 use Rattle.listing.specs.Lists.{noList}
 use Rattle.listing.specs.Sites.{noSite}
 use Rattle.judge.specs.Verdict.{Verdict}
-use Rattle.drawing.specs.declared.Answer.{Answer}
+use Rattle.answer.specs.declared.Answer.{Answer}
 use Rattle.forward.specs.Call.{Called}
 
 -- a count as a number of 32 bits, the largest for all that do not fit

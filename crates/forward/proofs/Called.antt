@@ -18,8 +18,8 @@ use Rattle.judge.specs.declared.Judged.{Judged}
 use Rattle.judge.specs.Judged.{JudgedIs}
 use Rattle.judge.specs.Verdict.{Verdict, Refused, Drawable, wrongTail, verdict, tokens}
 use Rattle.judge.proofs.Accepted.{judged-accepted, judged-fits, answer-drawable, answer-refused}
-use Rattle.drawing.specs.declared.Answer.{Answer}
-use Rattle.drawing.specs.Answer.{refusal, acceptance, short, answerTo, atStart, lineAfter, indexAfter, Answers}
+use Rattle.answer.specs.declared.Answer.{Answer}
+use Rattle.answer.specs.Answer.{refusal, acceptance, short, answerTo, atStart, lineAfter, indexAfter, Answers}
 use Rattle.drawing.specs.Draw.{ChainsDrawn}
 use Rattle.forward.specs.Call.{Kept, Called}
 use Rattle.forward.proofs.Ready.{ready}

@@ -24,9 +24,9 @@ use Rattle.placed.proofs.Ready.{stands-carried, told}
 use Rattle.templates.specs.Templates.{TailOf}
 use Rattle.templates.specs.Classes.{StoodIn}
 use Rattle.templates.proofs.Fits.{fits-class}
-use Rattle.lines.proofs.Room.{places-most, roomy}
+use Rattle.lines.proofs.Room.{places-most, index-room, rows-room}
 use Rattle.judge.specs.Judged.{DrawsAll, none as noChains, more, Drawing}
-use Rattle.drawing.specs.Draw.{Ready}
+use Rattle.room.specs.Ready.{Ready}
 
 -- ---- each chain stands
 
@@ -73,5 +73,6 @@ ready c t ds k x a h d e =
       told = told c t ds a;
       tokens = d .few;
       few = omega (arith, places-most c t ds a, d .counted);
-      room = λ xs u v. roomy c t ds xs a (omega (arith, u, d .counted)) (omega (arith, v, d .counted));
+      index = omega (arith, index-room c t ds a, d .counted);
+      rows = omega (arith, rows-room c t ds a, d .counted);
     }

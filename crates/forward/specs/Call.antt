@@ -10,8 +10,8 @@ use Rattle.template.specs.declared.Class.{Class}
 use Rattle.template.specs.Request.{lineOf, indexOf}
 use Rattle.template.specs.Promise.{Promise}
 use Rattle.judge.specs.Verdict.{Verdict, Drawable}
-use Rattle.drawing.specs.declared.Answer.{Answer}
-use Rattle.drawing.specs.Answer.{Answers}
+use Rattle.answer.specs.declared.Answer.{Answer}
+use Rattle.answer.specs.Answer.{Answers}
 
 -- what is kept where the request is accepted: it has a class and chains, the line and the lists that stand in the slices are theirs, and
 -- the promise holds of them

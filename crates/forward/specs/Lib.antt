@@ -1,3 +1,3 @@
-pub use Rattle.drawing.specs.Answer
+pub use Rattle.answer.specs.Answer
 pub mod Call
 pub mod Cases

@@ -1,8 +1,8 @@
 // The call: a class, a swap flag, a tail and up to four tokens to one line and the index lists of its chains. Every request has an answer,
-// and a request that is refused leaves both slices as they were. What is answered and written is said by specs/Answer.antt of `drawing`, and
+// and a request that is refused leaves both slices as they were. What is answered and written is said by specs/Answer.antt of `answer`, and
 // what an accepted line promises by specs/Call.antt.
+pub use answer::Answer;
 use drawable::LIST_ROOM;
-pub use drawing::Answer;
 use shapes::SHAPE_ROOM;
 ghost use Prim.Native.Nat.{_*_, _≤_, min};
 ghost use lib.ListN.{length};
@@ -34,7 +34,7 @@ fn draw_in<'a>(
     let fault = judged.fault;
     let number = fault.number;
     if number != 0 {
-        return drawing::refused(number, fault.place);
+        return answer::refused(number, fault.place);
     }
     let kind = judged.class;
     drawing::draw_chains(

@@ -1,4 +1,5 @@
--- There is room for the indices and rows of an accepted request: no more chains than tokens, each with at most 255 indices and 16 floating groups.
+-- The room that the indices and rows of an accepted request take: no more chains than tokens, each with at most 255 indices and 16 floating
+-- groups.
 -- Assumes nothing.
 use Prim.Native.Nat.{ℕ, suc, _+_, _*_, _≤_}
 use native.Mathlib.Omega.{arith}
@@ -20,11 +21,8 @@ use Rattle.template.specs.Request.{Placed, placedFrom, placed, insertBySn, bySn
 use Rattle.template.specs.Promise.{namesOf, chainsFrom}
 use Rattle.template.proofs.Placing.{variablesTo}
 use Rattle.template.proofs.Notes.{placing-drawable}
-use Rattle.template.proofs.Whole as Whole
 use Rattle.template.proofs.Theorem.{Accepted, promise, drawn-request, indices-few}
 use Rattle.placed.specs.Fragment.{rowsOf, gathered}
-use Rattle.builder.specs.Build.{Rooms}
-use Rattle.lines.specs.Line.{Roomy}
 
 rows-few : (p : Placed) → Drawable (p .role) (p .chain) → length (rowsOf p) ≤ 16
 unfolding rowsOf rowsIn floating unlocated
@@ -75,23 +73,14 @@ places-most c t ds a =
     let same : length (namesOf (bySn (placed c t ds))) ≡ length (chainsFrom 1 ds) = ap (λ l. length l) (promise c false t ds a .chains) in
     omega (arith, same, length-names (bySn (placed c t ds)), length-sorted (placed c t ds), length-chains 1 ds)
 
--- THE ROOM of an accepted request
-pub roomy : (c : Class) (t : List ℕ) (ds : List Chain) (xs : Rooms) → Accepted c t ds → 255 * length ds ≤ length (xs .index) → 16 * length ds ≤ length (xs .rows) → Roomy (placed c t ds) xs
-unfolding placed
-roomy c t ds xs a h g =
-    record {
-      index = omega (arith, gathered-most indicesOf 255 indices-few ps drawable, few, h);
-      rows = omega (arith, gathered-most rowsOf 16 rows-few ps drawable, few, g);
-    }
-  where
-    ps : List Placed
-    ps = placedFrom t ds 0 0 (elements c)
+-- THE ROOM that an accepted request takes
+module _ (c : Class) (t : List ℕ) (ds : List Chain) (a : Accepted c t ds) where
+  drawable : All (λ p. Drawable (p .role) (p .chain)) (placed c t ds)
+  unfolding placed
+  drawable = let st = drawn-request c t ds a in placing-drawable 0 (length (st .rows)) 0 (variablesTo ds 0 (elements c)) (placedFrom t ds 0 0 (elements c)) (st .placing)
 
-    few : length ps ≤ length ds
-    few = places-most c t ds a
+  pub index-room : length (gathered indicesOf (placed c t ds)) ≤ 255 * length ds
+  index-room = omega (arith, gathered-most indicesOf 255 indices-few (placed c t ds) drawable, places-most c t ds a)
 
-    st : Whole.Stands t ds (elements c)
-    st = drawn-request c t ds a
-
-    drawable : All (λ p. Drawable (p .role) (p .chain)) ps
-    drawable = placing-drawable 0 (length (st .rows)) 0 (variablesTo ds 0 (elements c)) ps (st .placing)
+  pub rows-room : length (gathered rowsOf (placed c t ds)) ≤ 16 * length ds
+  rows-room = omega (arith, gathered-most rowsOf 16 rows-few (placed c t ds) drawable, places-most c t ds a)

@@ -7,16 +7,17 @@ use mathlib.Core.Path.{_≡_, refl}
 use mathlib.Core.Bool.{Bool, true, false, cond}
 use mathlib.Core.Option.{Option, none, some}
 use mathlib.Core.List.{List, [], _∷_, _++_, map}
-use lib.Dec.{ltb}
+use lib.Dec.{eqb, ltb, leb}
 use lib.ListN.{length, length-append}
 use Rattle.emit.specs.Text.{decimal}
 use Rattle.emit.proofs.Laws.{decimal-small, decimal-step}
 use Rattle.reading.specs.Ascii.{ascii}
 use Rattle.reading.specs.Parting.{joined, led, semicolon, comma, point, plus}
 use Rattle.reading.specs.Names.{nameOf, nameBelow, nameCount}
-use Rattle.reading.specs.Molecule.{At, at, notesOf, Sum, sum}
+use Rattle.reading.specs.Molecule.{At, at, notesOf, look, Sum, sum}
 use Rattle.reading.specs.Show.{showLabel, showEntry, entries, upToLast, labelBlock, labelBlocks, showMark, showSites, blockTexts, showSwap, showSum, swapTexts, trailerTexts, showTrailer, showBlocks, showLine}
 use Rattle.reading.proofs.PartingLaws.{All}
+use Rattle.longest.proofs.Once.{one, one-most, once-here}
 
 -- ---- numbers and names
 
@@ -66,7 +67,7 @@ unfolding joined total
 joined-total s [] = omega arith
 joined-total s (p ∷ ps) = omega (arith, length-append p (led s ps), led-total s ps)
 
-pub total-append : (ps qs : List (List ℕ)) → total (ps ++ qs) ≡ total ps + total qs
+total-append : (ps qs : List (List ℕ)) → total (ps ++ qs) ≡ total ps + total qs
 unfolding total
 total-append [] qs = omega arith
 total-append (p ∷ ps) qs = omega (arith, total-append ps qs)
@@ -123,18 +124,52 @@ label-few : (sn : ℕ) → length (showLabel sn) < 4
 unfolding showLabel ascii
 label-few sn = omega arith
 
-entry-few : (o : Option ℕ) → length (showEntry o) < 4
-unfolding showEntry
-entry-few none = omega arith
-entry-few (some sn) = label-few sn
+-- how many entries are labels
+unfoldable labelled : List (Option ℕ) → ℕ
+labelled [] = 0
+labelled (none ∷ es) = labelled es
+labelled (some sn ∷ es) = suc (labelled es)
+
+entries-total : (es : List (Option ℕ)) → total (map showEntry es) ≤ length es + 3 * labelled es
+unfolding total labelled showEntry
+entries-total [] = omega arith
+entries-total (none ∷ es) = omega (arith, entries-total es)
+entries-total (some sn ∷ es) = omega (arith, label-few sn, entries-total es)
 
 length-entries : (n i : ℕ) (ls : List (At ℕ)) → length (entries n i ls) ≡ n
 unfolding entries
 length-entries zero i ls = refl
 length-entries (suc n) i ls = omega (arith, length-entries n (suc i) ls)
 
--- four bytes for each atom up to the last with a label
-pub labels-few : (ls : List (At ℕ)) → total (labelBlocks ls) ≤ 3 + 4 * upToLast ls
+-- atoms from i on meet a label once if it stands at one of them
+entries-more : (n i j sn : ℕ) (ls : List (At ℕ)) → labelled (entries n i (at j sn ∷ ls)) ≤ one (leb i j) + labelled (entries n i ls)
+unfolding entries labelled look
+entries-more zero i j sn ls = omega arith
+entries-more (suc n) i j sn ls = omega (arith, here (eqb i j) (look i ls), entries-more n (suc i) j sn ls, once-here j i)
+  where
+    es : List (Option ℕ)
+    es = entries n (suc i) (at j sn ∷ ls)
+
+    fs : List (Option ℕ)
+    fs = entries n (suc i) ls
+
+    here : (b : Bool) (o : Option ℕ) → labelled (cond b (some sn) o ∷ es) + labelled fs ≤ one b + labelled (o ∷ fs) + labelled es
+    here true none = omega arith
+    here true (some x) = omega arith
+    here false none = omega arith
+    here false (some x) = omega arith
+
+entries-few : (n i : ℕ) (ls : List (At ℕ)) → labelled (entries n i ls) ≤ length ls
+unfolding labelled entries look
+entries-few n i [] = none-there n i
+  where
+    none-there : (n i : ℕ) → labelled (entries n i []) ≤ 0
+    none-there zero i = omega arith
+    none-there (suc n) i = none-there n (suc i)
+entries-few n i (at j sn ∷ ls) = omega (arith, entries-more n i j sn ls, entries-few n i ls, one-most (leb i j))
+
+-- a byte for each atom up to the last with a label, and three more for each label
+labels-few : (ls : List (At ℕ)) → total (labelBlocks ls) ≤ 3 + upToLast ls + 3 * length ls
 unfolding labelBlocks labelBlock total ascii
 labels-few [] = omega arith
 labels-few (l ∷ ls) =
@@ -143,8 +178,9 @@ labels-few (l ∷ ls) =
       arith,
       length-append (joined semicolon (map showEntry es)) (ascii "$"),
       joined-total semicolon (map showEntry es),
-      any-total showEntry 4 es entry-few,
+      entries-total es,
       length-entries (upToLast (l ∷ ls)) 0 (l ∷ ls),
+      entries-few (upToLast (l ∷ ls)) 0 (l ∷ ls),
     )
 
 -- ---- the trailer
@@ -154,7 +190,7 @@ unfolding notesOf
 length-notes [] = refl
 length-notes (at i a ∷ ls) = omega (arith, length-notes ls)
 
-pub swap-few : (ls : List (At ℕ)) → total (swapTexts ls) ≤ 12 + 4 * length ls
+swap-few : (ls : List (At ℕ)) → total (swapTexts ls) ≤ 12 + 4 * length ls
 unfolding swapTexts showSwap total ascii
 swap-few [] = omega arith
 swap-few (l ∷ ls) =
@@ -206,7 +242,7 @@ blocks-few (b ∷ bs) ts =
     )
 
 pub line-few : (text : List ℕ) (labels marks : List (At ℕ)) (sites : List (At (List ℕ))) (sums : List Sum)
-    → length (showLine text labels marks sites sums) ≤ length text + 19 + 4 * upToLast labels + 4 * length labels + (total (map showMark marks) + (total (map showSites sites) + total (map showSum sums)))
+    → length (showLine text labels marks sites sums) ≤ length text + 19 + upToLast labels + 7 * length labels + (total (map showMark marks) + (total (map showSites sites) + total (map showSum sums)))
 unfolding showLine blockTexts trailerTexts
 line-few text labels marks sites sums =
     omega (

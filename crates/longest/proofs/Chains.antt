@@ -1,6 +1,5 @@
 -- How long the marks, the site lists and the sum of a chain are. Assumes nothing.
 use Prim.Native.Nat.{ℕ, zero, suc, _+_, _-_, _*_, _≤_}
-use native.Mathlib.Nat.{mul-le-mul}
 use native.Mathlib.Omega.{arith}
 use mathlib.Core.Path.{_≡_, refl}
 use mathlib.Core.Bool.{Bool, true, false, cond}
@@ -24,9 +23,9 @@ use Rattle.template.specs.Request.{Placed, headCarbons, indicesOf, allMarks, al
 use Rattle.template.specs.Promise.{Each}
 use Rattle.placed.specs.Fragment.{summed, Told}
 use Rattle.listing.proofs.PlacedLaws.{each-all}
-use Rattle.longest.specs.Longest.{carbonMost, drawnMost, sitesMost}
+use Rattle.longest.specs.Longest.{drawnMost, sitesMost}
 use Rattle.longest.proofs.Blocks.{total, total-map, Numbered, mark-few, Sited, sites-few, Summed, sum-few}
-use Rattle.longest.proofs.Texts.{Short, chain-end, literal-light, carbons-light, floats-short, length-floats, drawn-few}
+use Rattle.longest.proofs.Texts.{Short, chain-end, parts-append, parts-few, literal-light, carbons-light, floats-short, length-floats, drawn-few}
 
 -- a chain whose numbers are not large
 pub record Modest (r : Role) (d : Chain) : Type 0 where
@@ -76,27 +75,30 @@ blockMost r d = sitesMost (drawnMost (d .carbon) (d .unlocated)) (length (floati
 
 module _ (r : Role) (d : Chain) (h : Modest r d) where
   -- few atoms come before any of its carbons
-  carbons-soon : (m : ℕ) → m ≤ 256 → m * carbonMost (length (groupsOn r d)) 0 ≤ 256 * 269
-  unfolding carbonMost
-  carbons-soon m l =
-      let few : 17 + 3 * 0 + 14 * length (groupsOn r d) ≤ 269 = omega (arith, h .groups) in
-      mul-le-mul l few
+  carbons-soon : (n : ℕ) → chainEnd n (carbons r d) ≤ n + 2000
+  carbons-soon n =
+      omega (arith, chain-end n (carbons r d) (carbons-light r d), parts-few r d, length-carbons r d, h .drawn, h .groups)
 
-  literal-few : length (literal r d) ≤ 256
+  literal-soon : (n : ℕ) → chainEnd n (literal r d) ≤ n + 2000
   unfolding carbons
-  literal-few =
-      omega (arith, length-carbons r d, h .drawn, length-append (literal r d) (flexible (markOf (bondAt r d (literalEnd r d))) (d .unlocated)))
+  literal-soon n =
+      let more = flexible (markOf (bondAt r d (literalEnd r d))) (d .unlocated) in
+      omega (
+        arith,
+        chain-end n (literal r d) (literal-light r d),
+        parts-append (literal r d) more,
+        parts-few r d,
+        length-append (literal r d) more,
+        length-carbons r d,
+        h .drawn,
+        h .groups,
+      )
 
   marks-most : (n v : ℕ) → n ≤ 4294000000 → total (map showMark (marks r d n v)) ≤ 22 * d .unlocated + 22
   unfolding marks flexibleAtom
   marks-most n v g =
       marks-total (chainEnd n (literal r d)) v (d .unlocated)
-      (omega (
-        arith,
-        chain-end (length (groupsOn r d)) 0 n (literal r d) (literal-light r d),
-        carbons-soon (length (literal r d)) literal-few,
-        h .unlocated,
-      ))
+      (omega (arith, literal-soon n, h .unlocated))
 
   sums-most : (v : ℕ) → total (map showSum (sums r d v)) ≤ 3 * d .unlocated + 26
   unfolding sums total variables remaining
@@ -128,15 +130,7 @@ module _ (r : Role) (d : Chain) (h : Modest r d) where
       let m = chainEnd n (carbons r d) in
       let w = drawnMost (d .carbon) (d .unlocated) in
       let few : length js ≤ w = omega (arith, length-drop (siteSkip r d) (carbonAtoms r d n), length-atoms n, drawn-few r d) in
-      let soon : m + 13 * length (floats d) ≤ 4294967295 =
-      omega (
-        arith,
-        chain-end (length (groupsOn r d)) 0 n (carbons r d) (carbons-light r d),
-        carbons-soon (length (carbons r d)) (omega (arith, length-carbons r d, h .drawn)),
-        length-floats r d,
-        h .floats,
-      )
-      in
+      let soon : m + 13 * length (floats d) ≤ 4294967295 = omega (arith, carbons-soon n, length-floats r d, h .floats) in
       let well : All (Sited w) (siteLists js m (floats d)) =
       sites-well w m js (floats d) (all-drop (λ j. j ≤ 65535) (siteSkip r d) (carbonAtoms r d n) a) few (floats-short r d) soon
       in

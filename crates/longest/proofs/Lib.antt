@@ -1,3 +1,4 @@
+pub mod Once
 pub mod Blocks
 pub mod Texts
 pub mod Chains

@@ -1,5 +1,5 @@
 -- No line is longer than the numbers of its chains say. Assumes nothing.
-use Prim.Native.Nat.{ℕ, _+_, _*_, _≤_}
+use Prim.Native.Nat.{ℕ, _+_, _≤_}
 use native.Mathlib.Omega.{arith}
 use mathlib.Core.Path.{_≡_, refl, ap}
 use mathlib.Core.Bool.{Bool, true}
@@ -26,7 +26,7 @@ use Rattle.longest.proofs.Templates.{weight, template-weighs, KeptAt, K
 module _ (t : List ℕ) (ds : List Chain) where
   -- each sn stands once in a template
   class-weighs : (c : Class) (k : ℕ) → (hasTail c ≡ true → TailOf t k)
-      → summed (weight t ds) (elements c) ≤ 158 + length t + 4 * k + (mostAt c ds 1 + mostAt c ds 2 + mostAt c ds 3 + mostAt c ds 4)
+      → summed (weight t ds) (elements c) ≤ 72 + length t + k + (mostAt c ds 1 + mostAt c ds 2 + mostAt c ds 3 + mostAt c ds 4)
   unfolding summed weight elements glycerol ascii fixedPieces atomsOfPieces show showPiece showLabels mostAt
   class-weighs Fa k h = omega arith
   class-weighs Gl1 k h = omega arith

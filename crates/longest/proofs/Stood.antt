@@ -1,6 +1,6 @@
 -- What the numbers of the code say of the chains that they stand for. Assumes nothing.
 use Prim.Native.Nat.{ℕ, zero, suc, _+_, _*_, _≤_, _<_, min}
-use native.Mathlib.Nat.{mul-le-mul, mul-le-mul-left}
+use native.Mathlib.Nat.{mul-le-mul-right}
 use native.Mathlib.Omega.{arith}
 use mathlib.Core.Path.{_≡_, refl, sym, ap}
 use mathlib.Core.Bool.{Bool, true}
@@ -25,25 +25,16 @@ use Rattle.shapes.specs.Sn.{drawnAt, IsDrawn}
 use Rattle.placed.specs.Fragment.{Carries, Stood}
 use Rattle.templates.specs.Templates.{TailOf}
 use Rattle.templates.specs.Classes.{StoodIn}
-use Rattle.longest.specs.Longest.{carbonMost, textMost, drawnMost, sitesMost, numbersMost, chainMost, chainMostOf, mostAt, lineMost}
+use Rattle.longest.specs.Longest.{textMost, drawnMost, sitesMost, numbersMost, chainMost, chainMostOf, mostAt, lineMost}
 use Rattle.longest.specs.Covered.{shapeMost, ChainCovered, Covered}
 use Rattle.longest.proofs.Chains.{Modest}
 use Rattle.longest.proofs.Line.{line-most}
 
 -- ---- more of anything makes a line no shorter
 
-text-more : (n g f q g′ f′ q′ : ℕ) → g ≤ g′ → f ≤ f′ → q ≤ q′ → textMost n g f q ≤ textMost n g′ f′ q′
-unfolding textMost carbonMost
-text-more n g f q g′ f′ q′ a b c =
-    let more : 17 + 3 * q + 14 * g ≤ 17 + 3 * q′ + 14 * g′ = omega arith in
-    omega (arith, mul-le-mul-left n more)
-
 numbers-more : (c u g f q g′ f′ q′ : ℕ) → g ≤ g′ → f ≤ f′ → q ≤ q′ → numbersMost c u g f q ≤ numbersMost c u g′ f′ q′
-unfolding numbersMost sitesMost
-numbers-more c u g f q g′ f′ q′ a b e =
-    let n = drawnMost c u in
-    let same : 14 + 6 * n ≤ 14 + 6 * n = omega arith in
-    omega (arith, text-more n g f q g′ f′ q′ a b e, mul-le-mul b same)
+unfolding numbersMost textMost sitesMost
+numbers-more c u g f q g′ f′ q′ a b e = omega (arith, mul-le-mul-right (14 + 6 * drawnMost c u) b)
 
 -- ---- a chain by its numbers
 
@@ -56,7 +47,7 @@ unfolding ringsIn
 rings-held n m xs h = omega (arith, length-map (take n xs) ringIn, length-take n xs)
 
 module _ (r : Role) (d : Chain) (x : Shape) (l : List ℕ) (h : Carries r d (drawnOf x l)) where
-  groups-few : length (groupsOn r d) ≤ min (x .«group_count») 18
+  groups-few : length (groupsOn r d) ≤ 18
   unfolding groupsPart
   groups-few = omega (arith, ap length (h .draws .groups), groups-held (x .«group_count») 18 (groupsPart l) (omega (arith, length-take 18 (drop 33 l))))
 
@@ -64,7 +55,7 @@ module _ (r : Role) (d : Chain) (x : Shape) (l : List ℕ) (h : Carries r d (dra
   unfolding floatsPart
   floats-few = omega (arith, ap length (h .draws .floats), groups-held (x .«float_count») 18 (floatsPart l) (omega (arith, length-take 18 (drop 51 l))))
 
-  rings-few : length (d .rings) ≤ min (x .«ring_count») 8
+  rings-few : length (d .rings) ≤ 8
   unfolding ringsPart
   rings-few = omega (arith, ap length (h .draws .rings), rings-held (x .«ring_count») 8 (ringsPart l) (omega (arith, length-take 8 (drop 69 l))))
 
@@ -72,7 +63,7 @@ module _ (r : Role) (d : Chain) (x : Shape) (l : List ℕ) (h : Carries r d (dra
   modest =
       record {
         drawn = h .drawn;
-        groups = omega (arith, groups-few);
+        groups = groups-few;
         floats = omega (arith, floats-few);
         unlocated = h .bonds;
         carbon = omega (arith, h .readable .carbons);
@@ -82,7 +73,7 @@ module _ (r : Role) (d : Chain) (x : Shape) (l : List ℕ) (h : Carries r d (dra
   unfolding chainMost shapeMost
   chain-covered =
       rw (h .draws .carbon, h .draws .unlocated)
-      (numbers-more (d .carbon) (d .unlocated) (length (groupsOn r d)) (length (floating d)) (length (d .rings)) (min (x .«group_count») 18) (min (x .«float_count») 18) (min (x .«ring_count») 8) groups-few floats-few rings-few)
+      (numbers-more (d .carbon) (d .unlocated) (length (groupsOn r d)) (length (floating d)) (length (d .rings)) 18 (min (x .«float_count») 18) 8 groups-few floats-few rings-few)
 
 -- ---- the chain of an sn
 
@@ -149,7 +140,7 @@ past-covered count i ns g = record { few = omega arith; covers = λ ρ ds l h. g
     go ρ ds l h (some d) e = absurd (omega (arith, g, told ρ ds count ns l h i d e .counted))
 
 -- one that counts
-pub there-covered : (count i r : ℕ) (ns : List ℕ) (x : Shape) → x ≡ getD (shapesIn ns) i noShape → r ≡ shapeMost x → r ≤ 400000000 → ChainCovered count ns i r
+pub there-covered : (count i r : ℕ) (ns : List ℕ) (x : Shape) → x ≡ getD (shapesIn ns) i noShape → r ≡ shapeMost x → r ≤ 30000000 → ChainCovered count ns i r
 there-covered count i r ns x e f g = record { few = g; covers = λ ρ ds l h. go ρ ds l h (nonempty (suc i) ds) refl }
   where
     go : (ρ : ℕ → Role) (ds : List Chain) (l : List ℕ) → Stood ρ ds (chainsKept count ns l) → (o : Option Chain) → nonempty (suc i) ds ≡ o → chainMostOf (ρ (suc i)) o ≤ r
@@ -158,12 +149,12 @@ there-covered count i r ns x e f g = record { few = g; covers = λ ρ ds l h. go
 
 -- THE LINE
 pub line-covered : (t : List ℕ) (k count : ℕ) (ns : List ℕ) (a b c d : ℕ) → ChainCovered count ns 0 a → ChainCovered count ns 1 b → ChainCovered count ns 2 c → ChainCovered count ns 3 d
-    → Covered t k count ns (200 + length t + 4 * k + (a + b + c + d))
+    → Covered t k count ns (120 + length t + k + (a + b + c + d))
 unfolding lineMost mostAt
 line-covered t k count ns a b c d p q r s = record { covers = go }
   where
     go : (x : Class) (swap : Bool) (ds : List Chain) (l : List ℕ) → (hasTail x ≡ true → TailOf t k) → StoodIn x ds (chainsKept count ns l) → Each place.Told (placed x t ds)
-        → length (lineOf x swap t ds) ≤ 200 + length t + 4 * k + (a + b + c + d)
+        → length (lineOf x swap t ds) ≤ 120 + length t + k + (a + b + c + d)
     go x swap ds l h g m =
         omega (
           arith,

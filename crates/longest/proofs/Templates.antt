@@ -35,7 +35,7 @@ use Rattle.longest.proofs.Chains.{Modest, blockMost, Kept}
 abbrev blocksOf : Placed → ℕ
 blocksOf p = blockMost (p .role) (p .chain)
 
-pub summed-append : {B : Type 0} (f : B → ℕ) (xs ys : List B) → summed f (xs ++ ys) ≡ summed f xs + summed f ys
+summed-append : {B : Type 0} (f : B → ℕ) (xs ys : List B) → summed f (xs ++ ys) ≡ summed f xs + summed f ys
 unfolding summed
 summed-append f [] ys = omega arith
 summed-append f (x ∷ xs) ys = omega (arith, summed-append f xs ys)
@@ -55,9 +55,9 @@ own-pieces (u ∷ us) l = ap (λ (vs : List Piece). u ∷ vs) (own-pieces us l)
 
 -- ---- a chain
 
--- the text, four times the atoms, and the blocks of a chain that follows n atoms
+-- the text, the atoms and the blocks of a chain that follows n atoms
 chain-weighs : (sn : ℕ) (r : Role) (s : Option ℕ) (l n v : ℕ) (o : Option Chain)
-    → length (show (templatePieces l (chainItem r o))) + 4 * atomsAfter r n o + summed blocksOf (place sn r s n v o) ≤ 4 * n + chainMostOf r o
+    → length (show (templatePieces l (chainItem r o))) + atomsAfter r n o + summed blocksOf (place sn r s n v o) ≤ n + chainMostOf r o
 unfolding templatePieces show summed chainMost numbersMost sitesMost blockMost
 chain-weighs sn r s l n v none = omega arith
 chain-weighs sn r s l n v (some d) = rw append-nil (omega (arith, text-most r d l, atoms-most r d n))
@@ -66,13 +66,13 @@ chain-weighs sn r s l n v (some d) = rw append-nil (omega (arith, text-most r d 
 
 module _ (t : List ℕ) (ds : List Chain) where
   unfoldable pub weight : Element → ℕ
-  weight (fixed b) = length (show (fixedPieces b)) + 4 * atomsOfPieces (fixedPieces b)
-  weight tail = length (show (tailPart t .pieces)) + 4 * tailPart t .size
-  weight (slot sn) = 5 + chainMostOf Slot (nonempty sn ds)
+  weight (fixed b) = length (show (fixedPieces b)) + atomsOfPieces (fixedPieces b)
+  weight tail = length (show (tailPart t .pieces)) + tailPart t .size
+  weight (slot sn) = 2 + chainMostOf Slot (nonempty sn ds)
   weight (chain sn r) = chainMostOf r (nonempty sn ds)
 
   element-weighs : (l n v : ℕ) (e : Element)
-      → length (show (templatePieces l (itemsOf t ds e))) + 4 * elementAtoms t ds n e + summed blocksOf (elementPlaced ds n v e) ≤ 4 * n + weight e
+      → length (show (templatePieces l (itemsOf t ds e))) + elementAtoms t ds n e + summed blocksOf (elementPlaced ds n v e) ≤ n + weight e
   unfolding weight itemsOf elementAtoms elementPlaced summed templatePieces itemPieces nextLabel slotOxygen show showPiece showLabels ascii
   element-weighs l n v (fixed b) = rw (own-pieces (fixedPieces b) l) (omega arith)
   element-weighs l n v tail = rw append-nil (omega arith)
@@ -82,7 +82,7 @@ module _ (t : List ℕ) (ds : List Chain) where
   -- ---- a template
 
   pub template-weighs : (es : List Element) (l n v : ℕ)
-      → length (show (templatePieces l (allItems t ds es))) + 4 * atomsFrom t ds n es + summed blocksOf (placedFrom t ds n v es) ≤ 4 * n + summed weight es
+      → length (show (templatePieces l (allItems t ds es))) + atomsFrom t ds n es + summed blocksOf (placedFrom t ds n v es) ≤ n + summed weight es
   unfolding allItems atomsFrom placedFrom summed templatePieces show
   template-weighs [] l n v = omega arith
   template-weighs (e ∷ es) l n v =
@@ -217,7 +217,7 @@ module _ (t : List ℕ) (ds : List Chain) where
 
   -- the labels stand at sites, and there are no more than chains
   pub labels-weigh : (swap : Bool) (es : List Element)
-      → let ls = labels swap (snSites (bySn (placedFrom t ds 0 0 es))) in 4 * upToLast ls + 4 * length ls ≤ 4 + 4 * atomsFrom t ds 0 es + 4 * length (placedFrom t ds 0 0 es)
+      → let ls = labels swap (snSites (bySn (placedFrom t ds 0 0 es))) in upToLast ls + 7 * length ls ≤ 1 + atomsFrom t ds 0 es + 7 * length (placedFrom t ds 0 0 es)
   unfolding labels upToLast
   labels-weigh swap es = go (swap && ltb 1 (length all))
     where
@@ -227,7 +227,7 @@ module _ (t : List ℕ) (ds : List Chain) where
       all : List (At ℕ)
       all = snSites (bySn ps)
 
-      go : (b : Bool) → 4 * upToLast (cond b all []) + 4 * length (cond b all []) ≤ 4 + 4 * atomsFrom t ds 0 es + 4 * length ps
+      go : (b : Bool) → upToLast (cond b all []) + 7 * length (cond b all []) ≤ 1 + atomsFrom t ds 0 es + 7 * length ps
       go true =
           let m = atomsFrom t ds 0 es in
           omega (

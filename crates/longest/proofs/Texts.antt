@@ -1,7 +1,6 @@
 -- How long the text of a chain is, and how many atoms it has. Assumes nothing.
 use Prim.Native.Nat.{ℕ, zero, suc, _+_, _-_, _*_, _/_, _%_, _≤_}
 use Prim.Native.Char.{code}
-use native.Mathlib.Nat.{mul-le-mul-right}
 use native.Mathlib.Omega.{arith}
 use mathlib.Core.Path.{_≡_, refl, ap, _∙_}
 use mathlib.Core.Bool.{Bool, true, false, cond, _||_, _&&_}
@@ -21,14 +20,15 @@ use Rattle.reading.specs.Template.{itemPieces, chain}
 use Rattle.reading.proofs.PartingLaws.{All, and-left, and-right, all-any}
 use Rattle.reading.proofs.ShowLex.{show-append}
 use Rattle.chain.specs.declared.Role.{Role}
-use Rattle.chain.specs.Lists.{allOf}
+use Rattle.chain.specs.Lists.{allOf, only, valuesFrom}
 use Rattle.chain.specs.Features.{firstDrawn, isAcyl, groupsOn, floating, prefixEnd, literalEnd, flexibleCount, drawnCount}
 use Rattle.chain.specs.Bonds.{bondAt, markOf}
 use Rattle.chain.specs.Drawing.{orNone, branchPart, carbonyl, groupsAt, branches, carbonAt, literal, bare, pairs, flexible, carbons, ringPairs, floats, chainDrawn, atomsEnd}
 use Rattle.chain.proofs.Lists.{all-append, all-mapped, all-values, length-only}
 use Rattle.chain.proofs.Fits.{length-carbons}
 use Rattle.chain.proofs.Accepted.{first-one}
-use Rattle.longest.specs.Longest.{carbonMost, textMost, drawnMost}
+use Rattle.longest.specs.Longest.{textMost, drawnMost}
+use Rattle.longest.proofs.Once.{one, one-most, once, once-here}
 
 -- ---- branches
 
@@ -89,15 +89,28 @@ label-most l = go (ltb l 10)
     go true = omega arith
     go false = omega arith
 
-labels-most : (k l : ℕ) (rs : List reading.Ring) → length (showLabels (labelsAt k l rs)) ≤ 3 * length rs
-unfolding showLabels labelsAt
-labels-most k l [] = omega arith
-labels-most k l (ring s e ∷ rs) = go (eqb s k || eqb e k) (labels-most k (suc l) rs)
+-- the labels that carbons from k on can have: one at the start of a ring, and one at its end
+unfoldable labelsLeft : ℕ → List reading.Ring → ℕ
+labelsLeft k [] = 0
+labelsLeft k (ring s e ∷ rs) = one (leb k s) + one (leb k e) + labelsLeft k rs
+
+labels-two : (k : ℕ) (rs : List reading.Ring) → labelsLeft k rs ≤ 2 * length rs
+unfolding labelsLeft
+labels-two k [] = omega arith
+labels-two k (ring s e ∷ rs) = omega (arith, one-most (leb k s), one-most (leb k e), labels-two k rs)
+
+labels-past : (k l : ℕ) (rs : List reading.Ring) → length (showLabels (labelsAt k l rs)) + 3 * labelsLeft (suc k) rs ≤ 3 * labelsLeft k rs
+unfolding showLabels labelsAt labelsLeft
+labels-past k l [] = omega arith
+labels-past k l (ring s e ∷ rs) = omega (arith, here (eqb s k) (eqb e k), labels-past k (suc l) rs, once s k, once e k)
   where
-    go : (b : Bool) → length (showLabels (labelsAt k (suc l) rs)) ≤ 3 * length rs
-        → length (showLabels (cond b (l ∷ labelsAt k (suc l) rs) (labelsAt k (suc l) rs))) ≤ 3 * suc (length rs)
-    go true h = omega (arith, length-append (showLabel l) (showLabels (labelsAt k (suc l) rs)), label-most l)
-    go false h = omega arith
+    more : List ℕ
+    more = labelsAt k (suc l) rs
+
+    here : (a b : Bool) → length (showLabels (cond (a || b) (l ∷ more) more)) ≤ 3 * one a + 3 * one b + length (showLabels more)
+    here true b = omega (arith, length-append (showLabel l) (showLabels more), label-most l)
+    here false true = omega (arith, length-append (showLabel l) (showLabels more), label-most l)
+    here false false = omega arith
 
 mark-most : (m : ℕ) → length (show (markPieces m)) ≤ 1
 unfolding markPieces show showPiece
@@ -132,35 +145,45 @@ floats-most (p ∷ ps) h =
       floats-most ps (h .1),
     )
 
--- a carbon with short branches, one for each of g groups and one more
-pub record Light (g : ℕ) (c : reading.Carbon) : Type 0 where
+-- a carbon with short branches
+pub record Light (c : reading.Carbon) : Type 0 where
   pub parts : All Short (c .parts)
-  pub few : length (c .parts) ≤ suc g
 
-atom-most : (k l : ℕ) (rs : List reading.Ring) → length (show (atom (ascii "C") (labelsAt k l rs) ∷ [])) ≤ 1 + 3 * length rs
-unfolding show showPiece ascii
-atom-most k l rs = omega (arith, length-append (ascii "C" ++ showLabels (labelsAt k l rs)) [], labels-most k l rs)
+-- the branches of some carbons
+unfoldable pub partsIn : List reading.Carbon → ℕ
+partsIn [] = 0
+partsIn (c ∷ cs) = length (c .parts) + partsIn cs
 
-chain-most : (g : ℕ) (rs : List reading.Ring) (l k : ℕ) (cs : List reading.Carbon) → All (Light g) cs
-    → length (show (chainPieces rs l k cs)) ≤ length cs * carbonMost g (length rs)
-unfolding chainPieces carbonMost show
-chain-most g rs l k [] h = omega arith
-chain-most g rs l k (c ∷ cs) h =
+pub parts-append : (cs ds : List reading.Carbon) → partsIn (cs ++ ds) ≡ partsIn cs + partsIn ds
+unfolding partsIn
+parts-append [] ds = omega arith
+parts-append (c ∷ cs) ds = omega (arith, parts-append cs ds)
+
+chain-most : (rs : List reading.Ring) (l k : ℕ) (cs : List reading.Carbon) → All Light cs
+    → length (show (chainPieces rs l k cs)) ≤ 3 * length cs + 14 * partsIn cs + 3 * labelsLeft k rs
+unfolding chainPieces show showPiece partsIn ascii
+chain-most rs l k [] h = omega arith
+chain-most rs l k (c ∷ cs) h =
     let rest = chainPieces rs l (suc k) cs in
-    let one = atom (ascii "C") (labelsAt k l rs) ∷ [] in
     omega (
       arith,
-      shown (markPieces (c .before) ++ one) (partPieces (c .parts) ++ (bridgePieces (c .bridge) ++ rest)),
-      shown (markPieces (c .before)) one,
+      shown (markPieces (c .before) ++ self) (partPieces (c .parts) ++ (bridgePieces (c .bridge) ++ rest)),
+      shown (markPieces (c .before)) self,
       shown (partPieces (c .parts)) (bridgePieces (c .bridge) ++ rest),
       shown (bridgePieces (c .bridge)) rest,
       mark-most (c .before),
-      atom-most k l rs,
+      self-most,
+      labels-past k l rs,
       parts-most (c .parts) (h .0 .parts),
-      h .0 .few,
       bridge-most (c .bridge),
-      chain-most g rs l (suc k) cs (h .1),
+      chain-most rs l (suc k) cs (h .1),
     )
+  where
+    self : List Piece
+    self = atom (ascii "C") (labelsAt k l rs) ∷ []
+
+    self-most : length (show self) ≤ 1 + length (showLabels (labelsAt k l rs))
+    self-most = omega (arith, length-append (ascii "C" ++ showLabels (labelsAt k l rs)) [])
 
 -- ---- atoms
 
@@ -174,16 +197,15 @@ unfolding bridgeEnd
 bridge-end true n = omega arith
 bridge-end false n = omega arith
 
-pub chain-end : (g q n : ℕ) (cs : List reading.Carbon) → All (Light g) cs → chainEnd n cs ≤ n + length cs * carbonMost g q
-unfolding chainEnd carbonEnd carbonMost
-chain-end g q n [] h = omega arith
-chain-end g q n (c ∷ cs) h =
+pub chain-end : (n : ℕ) (cs : List reading.Carbon) → All Light cs → chainEnd n cs ≤ n + 3 * length cs + 14 * partsIn cs
+unfolding chainEnd carbonEnd partsIn
+chain-end n [] h = omega arith
+chain-end n (c ∷ cs) h =
     omega (
       arith,
       parts-end (suc n) (c .parts) (h .0 .parts),
-      h .0 .few,
       bridge-end (c .bridge) (partsEnd (suc n) (c .parts)),
-      chain-end g q (bridgeEnd (c .bridge) (partsEnd (suc n) (c .parts))) cs (h .1),
+      chain-end (bridgeEnd (c .bridge) (partsEnd (suc n) (c .parts))) cs (h .1),
     )
 
 float-end : (n : ℕ) (ps : List Part) → All Short ps → floatEnd n ps ≤ n + 14 * length ps
@@ -191,24 +213,88 @@ unfolding floatEnd
 float-end n [] h = omega arith
 float-end n (p ∷ ps) h = omega (arith, h .0 .atoms, float-end (suc n + p .size) ps (h .1))
 
+-- ---- the branches of a chain
+
+-- the groups at k are no longer among those past it
+groups-past : (k : ℕ) (gs : List Mod)
+    → length (only (λ g. eqb (g .pos) k) gs) + length (only (λ g. leb (suc k) (g .pos)) gs) ≤ length (only (λ g. leb k (g .pos)) gs)
+unfolding only
+groups-past k [] = omega arith
+groups-past k (m ∷ gs) =
+    omega (
+      arith,
+      with-first (eqb (m .pos) k) (only (λ g. eqb (g .pos) k) gs),
+      with-first (leb (suc k) (m .pos)) (only (λ g. leb (suc k) (g .pos)) gs),
+      with-first (leb k (m .pos)) (only (λ g. leb k (g .pos)) gs),
+      once (m .pos) k,
+      groups-past k gs,
+    )
+  where
+    with-first : (b : Bool) (xs : List Mod) → length (cond b (m ∷ xs) xs) ≡ one b + length xs
+    with-first true xs = omega arith
+    with-first false xs = omega arith
+
+module _ (r : Role) (d : Chain) where
+  keto-one : (k : ℕ) → length (carbonyl r (d .prefix) k) ≤ one (eqb k 1)
+  unfolding carbonyl
+  keto-one k = go (isAcyl r (d .prefix)) (eqb k 1)
+    where
+      go : (a b : Bool) → length {A = Part} (cond a (cond b (branchPart keto ∷ []) []) []) ≤ one b
+      go true true = omega arith
+      go true false = omega arith
+      go false b = omega arith
+
+  -- the branches that carbons from k on can have: each group once, and the carbonyl O
+  left : ℕ → ℕ
+  left k = length (only (λ g. leb k (g .pos)) (groupsOn r d)) + one (leb k 1)
+
+  parts-past : (k : ℕ) → length (carbonAt r d k .parts) + left (suc k) ≤ left k
+  unfolding left carbonAt groupsAt
+  parts-past k =
+      omega (
+        arith,
+        length-append (carbonyl r (d .prefix) k) (branches (groupsAt r d k)),
+        length-branches (groupsAt r d k),
+        groups-past k (groupsOn r d),
+        keto-one k,
+        once-here 1 k,
+      )
+
+  parts-left : (k n : ℕ) → partsIn (valuesFrom (carbonAt r d) k n) ≤ left k
+  unfolding partsIn valuesFrom
+  parts-left k zero = omega arith
+  parts-left k (suc n) = omega (arith, parts-past k, parts-left (suc k) n)
+
+  parts-pairs : (n : ℕ) → partsIn (pairs n) ≡ 0
+  unfolding partsIn pairs
+  parts-pairs zero = refl
+  parts-pairs (suc n) = omega (arith, parts-pairs n)
+
+  parts-flexible : (m n : ℕ) → partsIn (flexible m n) ≡ 0
+  unfolding partsIn flexible
+  parts-flexible m zero = refl
+  parts-flexible m (suc n) = omega (arith, parts-append (pairs (suc n)) (bare 0 ∷ []), parts-pairs (suc n))
+
+  pub parts-few : partsIn (carbons r d) ≤ length (groupsOn r d) + 1
+  unfolding carbons literal left
+  parts-few =
+      omega (
+        arith,
+        parts-append (literal r d) (flexible (markOf (bondAt r d (literalEnd r d))) (d .unlocated)),
+        parts-flexible (markOf (bondAt r d (literalEnd r d))) (d .unlocated),
+        parts-left (firstDrawn r) (suc (literalEnd r d) - firstDrawn r),
+        length-only (λ g. leb (firstDrawn r) (g .pos)) (groupsOn r d),
+        one-most (leb (firstDrawn r) 1),
+      )
+
 -- ---- the carbons of a chain
 
 module _ (r : Role) (d : Chain) where
-  abbrev pub g : ℕ
-  g = length (groupsOn r d)
-
-  carbon-light : (k : ℕ) → Light g (carbonAt r d k)
+  carbon-light : (k : ℕ) → Light (carbonAt r d k)
   unfolding carbonAt groupsAt carbonyl
   carbon-light k =
       record {
         parts = all-append Short (carbonyl r (d .prefix) k) (branches (groupsAt r d k)) (keto-short (isAcyl r (d .prefix)) (eqb k 1)) (branches-short (groupsAt r d k));
-        few = omega (
-          arith,
-          length-append (carbonyl r (d .prefix) k) (branches (groupsAt r d k)),
-          keto-one (isAcyl r (d .prefix)) (eqb k 1),
-          length-branches (groupsAt r d k),
-          length-only (λ m. eqb (m .pos) k) (groupsOn r d),
-        );
       }
     where
       keto-short : (a b : Bool) → All Short (cond a (cond b (branchPart keto ∷ []) []) [])
@@ -216,32 +302,27 @@ module _ (r : Role) (d : Chain) where
       keto-short true false = tt
       keto-short false b = tt
 
-      keto-one : (a b : Bool) → length {A = Part} (cond a (cond b (branchPart keto ∷ []) []) []) ≤ 1
-      keto-one true true = omega arith
-      keto-one true false = omega arith
-      keto-one false b = omega arith
+  bare-light : (m : ℕ) → Light (bare m)
+  bare-light m = record { parts = tt }
 
-  bare-light : (m : ℕ) → Light g (bare m)
-  bare-light m = record { parts = tt; few = omega arith }
-
-  pairs-light : (n : ℕ) → All (Light g) (pairs n)
+  pairs-light : (n : ℕ) → All Light (pairs n)
   unfolding pairs
   pairs-light zero = tt
   pairs-light (suc n) = (bare-light 0, (bare-light 61, pairs-light n))
 
-  flexible-light : (m n : ℕ) → All (Light g) (flexible m n)
+  flexible-light : (m n : ℕ) → All Light (flexible m n)
   unfolding flexible
   flexible-light m zero = tt
-  flexible-light m (suc n) = (bare-light m, all-append (Light g) (pairs (suc n)) (bare 0 ∷ []) (pairs-light (suc n)) (bare-light 0, tt))
+  flexible-light m (suc n) = (bare-light m, all-append Light (pairs (suc n)) (bare 0 ∷ []) (pairs-light (suc n)) (bare-light 0, tt))
 
-  pub literal-light : All (Light g) (literal r d)
+  pub literal-light : All Light (literal r d)
   unfolding literal
-  literal-light = all-values (Light g) (carbonAt r d) (firstDrawn r) (suc (literalEnd r d) - firstDrawn r) (λ i a b. carbon-light i)
+  literal-light = all-values Light (carbonAt r d) (firstDrawn r) (suc (literalEnd r d) - firstDrawn r) (λ i a b. carbon-light i)
 
-  pub carbons-light : All (Light g) (carbons r d)
+  pub carbons-light : All Light (carbons r d)
   unfolding carbons
   carbons-light =
-      all-append (Light g) (literal r d) (flexible (markOf (bondAt r d (literalEnd r d))) (d .unlocated)) literal-light
+      all-append Light (literal r d) (flexible (markOf (bondAt r d (literalEnd r d))) (d .unlocated)) literal-light
       (flexible-light (markOf (bondAt r d (literalEnd r d))) (d .unlocated))
 
   pub floats-short : All Short (floats d)
@@ -263,31 +344,36 @@ module _ (r : Role) (d : Chain) where
 
   -- its bytes, and its atoms, at most
   abbrev pub most : ℕ
-  most = textMost (drawnMost (d .carbon) (d .unlocated)) g (length (floating d)) (length (d .rings))
-
-  carbons-few : length (carbons r d) * carbonMost g (length (d .rings)) + 14 * length (floating d) ≤ most
-  unfolding textMost
-  carbons-few = omega (arith, mul-le-mul-right (carbonMost g (length (d .rings))) drawn-few)
+  most = textMost (drawnMost (d .carbon) (d .unlocated)) (length (groupsOn r d)) (length (floating d)) (length (d .rings))
 
   length-rings : length (ringPairs (d .rings)) ≡ length (d .rings)
   unfolding ringPairs
   length-rings = length-map (d .rings) (λ x. ring (x .start) (x .end))
 
   pub text-most : (l : ℕ) → length (show (itemPieces l (chain (chainDrawn r d)))) ≤ most
-  unfolding itemPieces chainDrawn
+  unfolding itemPieces chainDrawn textMost
   text-most l =
-      let us = chainPieces (ringPairs (d .rings)) l (firstDrawn r) (carbons r d) in
-      let few : length (show us) ≤ length (carbons r d) * carbonMost g (length (d .rings)) =
-      (rw length-rings at (chain-most g (ringPairs (d .rings)) l (firstDrawn r) (carbons r d) carbons-light)) in
-      omega (arith, shown us (floatPieces (floats d)), few, floats-most (floats d) floats-short, length-floats, carbons-few)
+      let rs = ringPairs (d .rings) in
+      omega (
+        arith,
+        shown (chainPieces rs l (firstDrawn r) (carbons r d)) (floatPieces (floats d)),
+        chain-most rs l (firstDrawn r) (carbons r d) carbons-light,
+        labels-two (firstDrawn r) rs,
+        length-rings,
+        floats-most (floats d) floats-short,
+        length-floats,
+        drawn-few,
+        parts-few r d,
+      )
 
   pub atoms-most : (n : ℕ) → atomsEnd r d n ≤ n + most
-  unfolding atomsEnd
+  unfolding atomsEnd textMost
   atoms-most n =
       omega (
         arith,
         float-end (chainEnd n (carbons r d)) (floats d) floats-short,
         length-floats,
-        chain-end g (length (d .rings)) n (carbons r d) carbons-light,
-        carbons-few,
+        chain-end n (carbons r d) carbons-light,
+        drawn-few,
+        parts-few r d,
       )

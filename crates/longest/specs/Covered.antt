@@ -17,17 +17,10 @@ use Rattle.templates.specs.Templates.{TailOf}
 use Rattle.templates.specs.Classes.{StoodIn}
 use Rattle.longest.specs.Longest.{numbersMost, chainMostOf}
 
--- the numbers of a chain, a count past the room of its list counting as the room
+-- a chain by some of its numbers: as many groups and rings as there is room for, and no more floating groups than that
 unfoldable pub shapeMost : Shape → ℕ
 unfolding numbersMost
-shapeMost x = numbersMost (x .carbon) (x .unlocated) (min (x .«group_count») 18) (min (x .«float_count») 18) (min (x .«ring_count») 8)
-
--- the numbers of a chain where its counts are within their rooms
-pub record Few (n g f q : ℕ) : Type 0 where
-  pub carbons : n ≤ 196607
-  pub groups : g ≤ 18
-  pub floats : f ≤ 18
-  pub rings : q ≤ 8
+shapeMost x = numbersMost (x .carbon) (x .unlocated) 18 (min (x .«float_count») 18) 8
 
 -- r is n, and at most m
 pub record Bounded (m n r : ℕ) : Type 0 where
@@ -36,7 +29,7 @@ pub record Bounded (m n r : ℕ) : Type 0 where
 
 -- r is no less than what the chain at a place adds to the line of any chains that have these numbers; its sn is one more than its place
 pub record ChainCovered (count : ℕ) (ns : List ℕ) (i r : ℕ) : Type 0 where
-  pub few : r ≤ 400000000
+  pub few : r ≤ 30000000
   pub covers : (ρ : ℕ → Role) (ds : List Chain) (l : List ℕ) → Stood ρ ds (chainsKept count ns l) → chainMostOf (ρ (suc i)) (nonempty (suc i) ds) ≤ r
 
 -- r is no less than the length of the line of any such chains, with a tail t of k atoms

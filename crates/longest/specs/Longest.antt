@@ -11,29 +11,25 @@ use Rattle.template.specs.declared.Class.{Class}
 use Rattle.template.specs.Template.{roleOf}
 use Rattle.template.specs.Request.{nonempty}
 
--- a carbon in the text: its mark, itself, its bridge and a carbonyl O, three bytes for each label, and each group in brackets. It has no more
--- atoms than bytes.
-unfoldable pub carbonMost : ℕ → ℕ → ℕ
-carbonMost groups rings = 17 + 3 * rings + 14 * groups
-
--- the carbons of a chain, and its floating groups
+-- a chain in the text: the mark, the C and the bridge of each carbon; fourteen bytes for the carbonyl O, for each group in brackets and for each
+-- that floats; and both labels of each ring. No chain has more atoms than these are bytes.
 unfoldable pub textMost : ℕ → ℕ → ℕ → ℕ → ℕ
-unfolding carbonMost
-textMost carbons groups floats rings = carbons * carbonMost groups rings + 14 * floats
+textMost carbons groups floats rings = 3 * carbons + 14 * (groups + floats + 1) + 6 * rings
 
 -- the drawn carbons: those written, and the flexible tail
 unfoldable pub drawnMost : ℕ → ℕ → ℕ
 drawnMost carbon unlocated = carbon + 2 * unlocated + 2
 
--- a site list for each floating group
+-- a site list for each floating group: an atom of at most ten digits with what stands around it, and six bytes for each site
 unfoldable pub sitesMost : ℕ → ℕ → ℕ
 sitesMost carbons floats = floats * (14 + 6 * carbons)
 
--- a chain in the line: its text, four bytes in the label block for each of its atoms, its site lists, and its marks with their sum
+-- a chain in the line: its text, a byte in the label block for each of its atoms, its site lists, and its marks with their sum. A mark has 22
+-- bytes and a variable of a sum three, and there is one more of both than there are double bonds; 50 is for that one and the rest of the sum.
 unfoldable pub numbersMost : ℕ → ℕ → ℕ → ℕ → ℕ → ℕ
 unfolding textMost sitesMost drawnMost
 numbersMost carbon unlocated groups floats rings =
-    5 * textMost (drawnMost carbon unlocated) groups floats rings + sitesMost (drawnMost carbon unlocated) floats + 25 * unlocated + 50
+    2 * textMost (drawnMost carbon unlocated) groups floats rings + sitesMost (drawnMost carbon unlocated) floats + 25 * unlocated + 50
 
 unfoldable pub chainMost : Role → Chain → ℕ
 unfolding numbersMost
@@ -48,7 +44,7 @@ unfoldable pub mostAt : Class → List Chain → ℕ → ℕ
 unfolding chainMost nonempty
 mostAt c ds sn = chainMostOf (roleOf c sn) (nonempty sn ds)
 
--- the tail's text, four bytes in the label block for each of its atoms, what the templates have of their own, and the chains
+-- the tail's text, a byte in the label block for each of its atoms, what the templates have of their own, and the chains
 unfoldable pub lineMost : Class → List ℕ → ℕ → List Chain → ℕ
 unfolding mostAt
-lineMost c t k ds = 200 + length t + 4 * k + (mostAt c ds 1 + mostAt c ds 2 + mostAt c ds 3 + mostAt c ds 4)
+lineMost c t k ds = 120 + length t + k + (mostAt c ds 1 + mostAt c ds 2 + mostAt c ds 3 + mostAt c ds 4)

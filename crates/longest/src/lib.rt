@@ -5,7 +5,7 @@ use shapes::SHAPE_ROOM;
 ghost use mathlib.Core.Path.{_≡_};
 ghost use Prim.Native.Nat.{_≤_, min};
 ghost use Rattle.longest.specs.Longest.{drawnMost, textMost, sitesMost};
-ghost use Rattle.longest.specs.Covered.{shapeMost, Few, Bounded, ChainCovered, Covered};
+ghost use Rattle.longest.specs.Covered.{shapeMost, Bounded, ChainCovered, Covered};
 
 // The most groups with a position that a chain has room for, and the most without one.
 const GROUP_ROOM: usize = 18;
@@ -13,14 +13,14 @@ const GROUP_ROOM: usize = 18;
 // The most rings.
 const RING_ROOM: usize = 8;
 
-// A count, or the room where it is past it.
-fn in_room(n: usize, room: usize) -> usize
-    ensures { λ r. ⌜ Bounded room (min n room) r ⌝ }
+// Floating groups, as far as there is room for them.
+fn floats_most(count: usize) -> usize
+    ensures { λ r. ⌜ Bounded 18 (min count 18) r ⌝ }
 {
-    if n < room {
-        return n;
+    if count < GROUP_ROOM {
+        return count;
     }
-    room
+    GROUP_ROOM
 }
 
 // The drawn carbons: those written, and the flexible tail.
@@ -31,12 +31,11 @@ fn drawn_most(carbon: u16, unlocated: u16) -> usize
 }
 
 // The text of a chain, and its atoms.
-fn text_most(carbons: usize, groups: usize, floats: usize, rings: usize) -> usize
-    requires { ⌜ Few carbons groups floats rings ⌝ }
-    ensures { λ r. ⌜ Bounded 60000000 (textMost carbons groups floats rings) r ⌝ }
+fn text_most(carbons: usize, floats: usize) -> usize
+    requires { ⌜ (carbons ≤ 196607) × (floats ≤ 18) ⌝ }
+    ensures { λ r. ⌜ Bounded 600000 (textMost carbons 18 floats 8) r ⌝ }
 {
-    let each = 17 + 3 * rings + 14 * groups;
-    carbons * each + 14 * floats
+    3 * carbons + 14 * (GROUP_ROOM + floats + 1) + 6 * RING_ROOM
 }
 
 // A site list for each floating group.
@@ -47,17 +46,16 @@ fn sites_most(carbons: usize, floats: usize) -> usize
     floats * (14 + 6 * carbons)
 }
 
-// A chain in the line: its text, four bytes in the label block for each of its atoms, its site lists, and its marks with their sum.
+// A chain in the line: its text, a byte in the label block for each of its atoms, its site lists, and its marks with their sum. Its groups and
+// rings add so little that they are not looked at.
 fn shape_most(x: Shape) -> usize
-    ensures { λ r. ⌜ Bounded 400000000 (shapeMost x) r ⌝ }
+    ensures { λ r. ⌜ Bounded 30000000 (shapeMost x) r ⌝ }
 {
     let carbons = drawn_most(x.carbon, x.unlocated);
-    let groups = in_room(x.group_count, GROUP_ROOM);
-    let floats = in_room(x.float_count, GROUP_ROOM);
-    let rings = in_room(x.ring_count, RING_ROOM);
-    let text = text_most(carbons, groups, floats, rings);
+    let floats = floats_most(x.float_count);
+    let text = text_most(carbons, floats);
     let sites = sites_most(carbons, floats);
-    5 * text + sites + 25 * (x.unlocated as usize) + 50
+    2 * text + sites + 25 * (x.unlocated as usize) + 50
 }
 
 // The chain at a place; one past those that count adds nothing.
@@ -78,5 +76,5 @@ pub fn line_most(tail: &[u8], tail_atoms: u16, count: usize, shapes: &[u64; SHAP
     let b = chain_most(count, 1, shapes);
     let c = chain_most(count, 2, shapes);
     let d = chain_most(count, 3, shapes);
-    200 + tail.len() + 4 * (tail_atoms as usize) + (a + b + c + d)
+    120 + tail.len() + tail_atoms as usize + (a + b + c + d)
 }

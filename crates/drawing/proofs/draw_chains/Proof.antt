@@ -1,17 +1,13 @@
-use native.Mathlib.Omega.{arith}
-use Rattle.drawing.proofs.Draw.{line-fits}
+use Rattle.drawing.proofs.Draw.{short-drawn, long-slices}
 use borrow.Author.Needs.{needs}
 use Rattle.drawing.proofs.draw_chains.Statement.{statement}
 use Rattle.drawing.proofs.draw_chains.Tie as tie
 
-mul-if2 : tie.Need-mul-if2
-mul-if2 c = search needs
+is-short-requires : tie.Need-is-short-requires
+is-short-requires c κs = search needs
 
-line-most-requires : tie.Need-line-most-requires
-line-most-requires c κs = search needs
-
-draw-at-once-requires : tie.Need-draw-at-once-requires
-draw-at-once-requires c κs = (omega arith, (line-fits _ (c .before .before .before .line-most .ensures) (c .before .before .if3 .taken), omega arith))
+refused-requires : tie.Need-refused-requires
+refused-requires c κs = search needs
 
 same-length : tie.Need-same-length
 same-length c = search needs
@@ -20,10 +16,10 @@ same-length-2 : tie.Need-same-length-2
 same-length-2 c = search needs
 
 returns : tie.Need-returns
-returns c = search needs
+returns c = short-drawn (c .before .before .is-short .ensures) (c .before .if1 .taken) (c .refused .ensures)
 
-draw-aside-requires : tie.Need-draw-aside-requires
-draw-aside-requires c κs = search needs
+draw-one-requires : tie.Need-draw-one-requires
+draw-one-requires c κs = (c .before .before .if2 .taken, long-slices (c .before .before .before .before .is-short .ensures) (c .before .before .before .if1 .left))
 
 same-length-3 : tie.Need-same-length-3
 same-length-3 c = search needs
@@ -34,17 +30,48 @@ same-length-4 c = search needs
 returns-2 : tie.Need-returns-2
 returns-2 c = search needs
 
+draw-pair-requires : tie.Need-draw-pair-requires
+draw-pair-requires c κs = (c .before .before .if3 .taken, long-slices (c .before .before .before .before .before .is-short .ensures) (c .before .before .before .before .if1 .left))
+
+same-length-5 : tie.Need-same-length-5
+same-length-5 c = search needs
+
+same-length-6 : tie.Need-same-length-6
+same-length-6 c = search needs
+
+returns-3 : tie.Need-returns-3
+returns-3 c = search needs
+
+draw-four-requires : tie.Need-draw-four-requires
+draw-four-requires c κs = long-slices (c .before .before .before .before .before .is-short .ensures) (c .before .before .before .before .if1 .left)
+
+same-length-7 : tie.Need-same-length-7
+same-length-7 c = search needs
+
+same-length-8 : tie.Need-same-length-8
+same-length-8 c = search needs
+
+returns-4 : tie.Need-returns-4
+returns-4 c = search needs
+
 pub draw-chains-spec : {M : Type 1} → statement M
 draw-chains-spec =
     tie.close
     (tie.spec
-    mul-if2
-    line-most-requires
-    draw-at-once-requires
+    is-short-requires
+    refused-requires
     same-length
     same-length-2
     returns
-    draw-aside-requires
+    draw-one-requires
     same-length-3
     same-length-4
-    returns-2)
+    returns-2
+    draw-pair-requires
+    same-length-5
+    same-length-6
+    returns-3
+    draw-four-requires
+    same-length-7
+    same-length-8
+    returns-4)

@@ -1,5 +1,6 @@
-use Rattle.drawing.proofs.Draw.{drawn-alone}
+use Rattle.drawing.proofs.Draw.{drawn-one}
 use native.Mathlib.Omega.{arith}
+use mathlib.Core.Path.{refl}
 use borrow.Author.Needs.{needs}
 use Rattle.drawing.proofs.draw_one.Statement.{statement}
 use Rattle.drawing.proofs.draw_one.Tie as tie
@@ -23,7 +24,7 @@ returns : tie.Need-returns
 returns c =
     let built = c .before .before .before .before .before .before .before .before .before .before in
     let start = built .before .before .before .before .before .before .before .before .before in
-    drawn-alone _ (start .pre .0) (built .build-line .ensures) (start .pre .1 .1) (omega arith) (omega (arith, start .good .0 .1)) (start .pre .1 .0) (c .lists-by-sn .ensures)
+    drawn-one _ (start .pre .0) (built .build-line .ensures) refl (omega (arith, start .good .0 .1)) (start .pre .1) (c .lists-by-sn .ensures)
 
 pub draw-one-spec : {M : Type 1} → statement M
 draw-one-spec =

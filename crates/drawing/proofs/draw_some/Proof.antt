@@ -1,5 +1,6 @@
-use Rattle.drawing.proofs.Draw.{drawn-at-once}
+use Rattle.drawing.proofs.Draw.{drawn-some}
 use native.Mathlib.Omega.{arith}
+use mathlib.Core.Path.{refl}
 use borrow.Author.Needs.{needs}
 use Rattle.drawing.proofs.draw_some.Statement.{statement}
 use Rattle.drawing.proofs.draw_some.Tie as tie
@@ -31,7 +32,7 @@ returns c =
     let listed = written .before .before .before .before in
     let built = listed .before .before .before .before .before .before .before .before .before .before in
     let start = built .before .before .before .before .before .before .before .before .before .before in
-    drawn-at-once _ (built .build-line .ensures) (start .pre .1 .1 .0) (omega (arith, start .pre .0)) (omega (arith, start .good .0 .1)) (start .pre .1 .0) (start .pre .1 .1 .1) (listed .lists-by-sn .ensures) (written .write-indices .ensures)
+    drawn-some _ (built .build-line .ensures) (start .pre .0) refl (omega (arith, start .good .0 .1)) (start .pre .1) (listed .lists-by-sn .ensures) (written .write-indices .ensures)
 
 pub draw-some-spec : {M : Type 1} → statement M
 draw-some-spec =

@@ -18,9 +18,6 @@ chain-most-requires-4 c κs = search needs
 add-result : tie.Need-add-result
 add-result c = search needs
 
-mul-result : tie.Need-mul-result
-mul-result c = search needs
-
 add-result-2 : tie.Need-add-result-2
 add-result-2 c = search needs
 
@@ -48,7 +45,6 @@ line-most-spec =
     chain-most-requires-3
     chain-most-requires-4
     add-result
-    mul-result
     add-result-2
     add-result-3
     add-result-4

@@ -6,14 +6,8 @@ use Rattle.longest.proofs.shape_most.Tie as tie
 drawn-most-requires : tie.Need-drawn-most-requires
 drawn-most-requires c κs = search needs
 
-in-room-requires : tie.Need-in-room-requires
-in-room-requires c κs = search needs
-
-in-room-requires-2 : tie.Need-in-room-requires-2
-in-room-requires-2 c κs = search needs
-
-in-room-requires-3 : tie.Need-in-room-requires-3
-in-room-requires-3 c κs = search needs
+floats-most-requires : tie.Need-floats-most-requires
+floats-most-requires c κs = search needs
 
 text-most-requires : tie.Need-text-most-requires
 text-most-requires c κs = search needs
@@ -47,9 +41,7 @@ shape-most-spec =
     tie.close
     (tie.spec
     drawn-most-requires
-    in-room-requires
-    in-room-requires-2
-    in-room-requires-3
+    floats-most-requires
     text-most-requires
     sites-most-requires
     mul-result

@@ -1,28 +1,28 @@
-use Rattle.longest.proofs.Numbers.{text-fits, text-sum, text-bounded}
+use Rattle.longest.proofs.Numbers.{text-bounded}
 use borrow.Author.Needs.{needs}
 use Rattle.longest.proofs.text_most.Statement.{statement}
 use Rattle.longest.proofs.text_most.Tie as tie
 
-mul-each : tie.Need-mul-each
-mul-each c = search needs
-
-add-each : tie.Need-add-each
-add-each c = search needs
-
-mul-each-2 : tie.Need-mul-each-2
-mul-each-2 c = search needs
-
-add-each-2 : tie.Need-add-each-2
-add-each-2 c = search needs
-
 mul-result : tie.Need-mul-result
-mul-result c = search text-fits
+mul-result c = search needs
+
+add-result : tie.Need-add-result
+add-result c = search needs
+
+add-result-2 : tie.Need-add-result-2
+add-result-2 c = search needs
 
 mul-result-2 : tie.Need-mul-result-2
 mul-result-2 c = search needs
 
-add-result : tie.Need-add-result
-add-result c = search text-sum
+add-result-3 : tie.Need-add-result-3
+add-result-3 c = search needs
+
+mul-result-3 : tie.Need-mul-result-3
+mul-result-3 c = search needs
+
+add-result-4 : tie.Need-add-result-4
+add-result-4 c = search needs
 
 returns : tie.Need-returns
 returns c = search text-bounded
@@ -30,4 +30,12 @@ returns c = search text-bounded
 pub text-most-spec : {M : Type 1} → statement M
 text-most-spec =
     tie.close
-    (tie.spec mul-each add-each mul-each-2 add-each-2 mul-result mul-result-2 add-result returns)
+    (tie.spec
+    mul-result
+    add-result
+    add-result-2
+    mul-result-2
+    add-result-3
+    mul-result-3
+    add-result-4
+    returns)

@@ -1,9 +1,9 @@
 use mathlib.Core.Path.{refl}
 use Rattle.listing.specs.Four.{four}
-use Rattle.drawing.proofs.no_lists.Statement.{statement}
-use Rattle.drawing.proofs.no_lists.Tie as tie
-use Rattle.drawing.proofs.no_lists.Reads as reads
-use Rattle.drawing.proofs.no_lists.Lts as lts
+use Rattle.answer.proofs.no_lists.Statement.{statement}
+use Rattle.answer.proofs.no_lists.Tie as tie
+use Rattle.answer.proofs.no_lists.Reads as reads
+use Rattle.answer.proofs.no_lists.Lts as lts
 
 -- src/lib.rt:41:1
 returns : tie.Need-returns

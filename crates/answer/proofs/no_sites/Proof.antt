@@ -1,9 +1,9 @@
 use mathlib.Core.Path.{refl}
 use Rattle.listing.specs.Four.{four}
-use Rattle.drawing.proofs.no_sites.Statement.{statement}
-use Rattle.drawing.proofs.no_sites.Tie as tie
-use Rattle.drawing.proofs.no_sites.Reads as reads
-use Rattle.drawing.proofs.no_sites.Lts as lts
+use Rattle.answer.proofs.no_sites.Statement.{statement}
+use Rattle.answer.proofs.no_sites.Tie as tie
+use Rattle.answer.proofs.no_sites.Reads as reads
+use Rattle.answer.proofs.no_sites.Lts as lts
 
 -- src/lib.rt:49:1
 returns : tie.Need-returns

@@ -19,7 +19,7 @@ use Rattle.rising.specs.Four.{four}
 use Rattle.listing.specs.Sites.{noSite}
 use Rattle.listing.specs.Lists.{noList, listOf}
 use Rattle.judge.specs.Verdict.{Verdict, Refused, Drawable}
-use Rattle.drawing.specs.declared.Answer.{Answer}
+use Rattle.answer.specs.declared.Answer.{Answer}
 
 -- four places, the unused ones zero
 abbrev pub listsOf : List Listed → Lists

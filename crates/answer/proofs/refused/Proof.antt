@@ -1,11 +1,11 @@
-use Rattle.drawing.proofs.Answered.{refused-is}
+use Rattle.answer.proofs.Laws.{refused-is}
 use borrow.Author.Needs.{needs}
-use Rattle.drawing.proofs.refused.Statement.{statement}
-use Rattle.drawing.proofs.refused.Tie as tie
-use Rattle.drawing.proofs.refused.Reads as reads
-use Rattle.drawing.proofs.refused.Lts as lts
-use Rattle.drawing.proofs.no_lists.Reads as no-lists-reads
-use Rattle.drawing.proofs.no_sites.Reads as no-sites-reads
+use Rattle.answer.proofs.refused.Statement.{statement}
+use Rattle.answer.proofs.refused.Tie as tie
+use Rattle.answer.proofs.refused.Reads as reads
+use Rattle.answer.proofs.refused.Lts as lts
+use Rattle.answer.proofs.no_lists.Reads as no-lists-reads
+use Rattle.answer.proofs.no_sites.Reads as no-sites-reads
 
 -- src/lib.rt:60:9
 no-lists-requires : tie.Need-no-lists-requires

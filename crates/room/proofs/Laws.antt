@@ -1,0 +1,92 @@
+-- A slice is too short, or both are long enough.
+-- Assumes nothing.
+use Prim.Native.Nat.{ℕ, _*_, _≤_, _<_, _^_}
+use native.Mathlib.Omega.{arith}
+use mathlib.Core.Path.{_≡_, refl, sym, ap, _∙_}
+use mathlib.Core.Bool.{Bool, true, false, true≢false, _||_}
+use mathlib.Core.List.{List}
+use lib.ListN.{length}
+use lib.Dec.{ltb}
+use borrow.Author.Tests.{ltb-false, lt-ltb, le-ltb}
+use Rattle.emit.specs.Text.{after}
+use Rattle.record.specs.Chain.{Chain}
+use Rattle.drawable.specs.Chains.{Chains}
+use Rattle.shapes.specs.Shapes.{chainsKept}
+use Rattle.template.specs.declared.Class.{Class}
+use Rattle.template.specs.Request.{placed, indicesOf, lineOf, indexOf}
+use Rattle.placed.specs.Fragment.{gathered}
+use Rattle.builder.specs.Build.{rooms}
+use Rattle.lines.specs.declared.Line.{Line}
+use Rattle.lines.specs.Line.{LineIs, LineBuilt}
+use Rattle.longest.specs.Covered.{Covered}
+use Rattle.answer.specs.Answer.{short}
+use Rattle.room.specs.Ready.{Ready, ShortIs, Ample}
+use Rattle.room.proofs.Index.{index-length}
+
+-- a measured length is no more than the text has
+least : (n : ℕ) → after 0 n ≤ n
+least n = omega arith
+
+neither-left : (a b : Bool) → (a || b) ≡ false → a ≡ false
+neither-left true b h = h
+neither-left false b h = refl
+
+neither-right : (a b : Bool) → (a || b) ≡ false → b ≡ false
+neither-right true b h = absurd (true≢false h)
+neither-right false b h = h
+
+module _ (c : Class) (swap : Bool) (t : List ℕ) (ds : List Chain) where
+  short-by-line : (n m : ℕ) → n < length (lineOf c swap t ds) → short c swap t ds n m ≡ true
+  unfolding short
+  short-by-line n m h = rw (lt-ltb n (length (lineOf c swap t ds)) h)
+
+  -- the line has room: then the indices tell
+  by-index : (n m : ℕ) → length (lineOf c swap t ds) ≤ n → short c swap t ds n m ≡ ltb m (length (indexOf c t ds))
+  unfolding short
+  by-index n m h = rw (le-ltb n (length (lineOf c swap t ds)) h)
+
+  pub long-enough : (n m : ℕ) → length (lineOf c swap t ds) ≤ n → length (indexOf c t ds) ≤ m → short c swap t ds n m ≡ false
+  long-enough n m h k = by-index n m h ∙ le-ltb m (length (indexOf c t ds)) k
+
+  -- and back
+  pub line-room : (n m : ℕ) → short c swap t ds n m ≡ false → length (lineOf c swap t ds) ≤ n
+  unfolding short
+  line-room n m h = ltb-false n (length (lineOf c swap t ds)) (neither-left _ (ltb m (length (indexOf c t ds))) h)
+
+  pub index-room : (n m : ℕ) → short c swap t ds n m ≡ false → length (indexOf c t ds) ≤ m
+  unfolding short
+  index-room n m h = ltb-false m (length (indexOf c t ds)) (neither-right (ltb n (length (lineOf c swap t ds))) _ h)
+
+-- ---- a line that is measured
+
+module _ {c : Class} {swap : Bool} {t : List ℕ} {k : ℕ} {x : Chains} {vs zs ns js rs ss os ps : List ℕ} {r : Line} where
+  measured : LineBuilt c swap t k x (rooms vs ns rs os) (rooms zs js ss ps) r → length ns ≡ 1020 → length rs ≡ 64 → (ds : List Chain) → Ready c t k x ds
+      → LineIs c swap t ds (rooms vs ns rs os) (rooms zs js ss ps) (r .builder)
+  measured h n m ds w =
+      h .line ds (w .tail) (w .stood) (w .fits) (w .told) (record { index = omega (arith, n, w .index, w .tokens); rows = omega (arith, m, w .rows, w .tokens) })
+
+  pub short-line : {n m : ℕ} → LineBuilt c swap t k x (rooms vs ns rs os) (rooms zs js ss ps) r → length ns ≡ 1020 → length rs ≡ 64 → n < r .builder .at
+      → ShortIs c swap t k x n m true
+  short-line {n} {m} h e f l =
+      record { is = λ ds w. sym (short-by-line c swap t ds n m (omega (arith, l, measured h e f ds w .text .next, least (length (lineOf c swap t ds))))) }
+
+  pub short-index : {n m : ℕ} → LineBuilt c swap t k x (rooms vs ns rs os) (rooms zs js ss ps) r → length ns ≡ 1020 → length rs ≡ 64 → n < 2 ^ 63
+      → r .builder .at ≤ n → ShortIs c swap t k x n m (ltb m (r .builder .used))
+  short-index {n} {m} h e f u l =
+      record {
+        is = λ ds w.
+            let i = measured h e f ds w in
+            ap (λ (z : ℕ). ltb m z) (i .used ∙ sym (index-length c t ds)) ∙ sym (by-index c swap t ds n m (omega (arith, u, l, i .text .next)));
+      }
+
+-- ---- slices that are long enough for any line with such chains
+
+pub ample : {t : List ℕ} {k count : ℕ} {ns : List ℕ} {r n m : ℕ} → Covered t k count ns r → 1020 ≤ m → r ≤ n → Ample t k count ns n m
+ample {t} {n = n} {m} h e f =
+    record {
+      long = λ c swap l ds w.
+          long-enough c swap t ds n m (omega (arith, f, h .covers c swap ds l (w .tail) (w .stood) (w .told))) (omega (arith, e, index-length c t ds, w .index, w .tokens));
+    }
+
+pub not-short : {c : Class} {swap : Bool} {t : List ℕ} {k count : ℕ} {ns : List ℕ} {n m : ℕ} (l : List ℕ) → Ample t k count ns n m → ShortIs c swap t k (chainsKept count ns l) n m false
+not-short {c} {swap} l h = record { is = λ ds w. sym (h .long c swap l ds w) }

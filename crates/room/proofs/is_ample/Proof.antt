@@ -1,0 +1,19 @@
+use mathlib.Core.Path.{sym}
+use mathlib.Core.Bool.{true≢false}
+use Rattle.room.proofs.Laws.{ample}
+use borrow.Author.Tests.{leb-true}
+use borrow.Author.Needs.{needs}
+use Rattle.room.proofs.is_ample.Statement.{statement}
+use Rattle.room.proofs.is_ample.Tie as tie
+
+returns : tie.Need-returns
+returns c = λ h. absurd (true≢false (sym h))
+
+line-most-requires : tie.Need-line-most-requires
+line-most-requires c κs = search needs
+
+returns-2 : tie.Need-returns-2
+returns-2 c = λ h. ample (c .line-most .ensures) (c .before .if1 .left) (leb-true _ _ h)
+
+pub is-ample-spec : {M : Type 1} → statement M
+is-ample-spec = tie.close (tie.spec returns line-most-requires returns-2)

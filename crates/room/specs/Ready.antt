@@ -1,0 +1,40 @@
+-- A request that is ready to be drawn, and whether its slices have room. Assumes nothing.
+use Prim.Native.Nat.{ℕ, _*_, _≤_}
+use mathlib.Core.Path.{_≡_}
+use mathlib.Core.Bool.{Bool, true, false}
+use mathlib.Core.List.{List}
+use lib.ListN.{length}
+use Rattle.record.specs.Chain.{Chain}
+use Rattle.drawable.specs.Chains.{Chains}
+use Rattle.shapes.specs.Shapes.{chainsKept}
+use Rattle.template.specs.declared.Class.{Class}
+use Rattle.template.specs.Template.{elements, hasTail}
+use Rattle.template.specs.Request.{placed, indicesOf}
+use Rattle.template.specs.Promise.{Each}
+use Rattle.placed.specs.Fragment.{rowsOf, gathered, Told}
+use Rattle.templates.specs.Templates.{FitsAll, TailOf}
+use Rattle.templates.specs.Classes.{StoodIn}
+use Rattle.answer.specs.Answer.{short}
+
+-- the chains ds of a class are x, with their tail of k atoms; there are no more of them than tokens, with at most so many indices and floating
+-- groups
+pub record Ready (c : Class) (t : List ℕ) (k : ℕ) (x : Chains) (ds : List Chain) : Type 0 where
+  pub tail : hasTail c ≡ true → TailOf t k
+  pub stood : StoodIn c ds x
+  pub fits : FitsAll t ds (elements c)
+  pub told : Each Told (placed c t ds)
+  pub tokens : x .count ≤ 4
+  pub few : length (placed c t ds) ≤ x .count
+  pub index : length (gathered indicesOf (placed c t ds)) ≤ 255 * x .count
+  pub rows : length (gathered rowsOf (placed c t ds)) ≤ 16 * x .count
+
+-- whether a slice is too short, for every such request and slices of these lengths
+pub record ShortIs (c : Class) (swap : Bool) (t : List ℕ) (k : ℕ) (x : Chains) (line index : ℕ) (r : Bool) : Type 0 where
+  pub is : (ds : List Chain) → Ready c t k x ds → r ≡ short c swap t ds line index
+
+-- no slice is too short for any chains that have these numbers, in any class
+pub record Ample (t : List ℕ) (k count : ℕ) (ns : List ℕ) (line index : ℕ) : Type 0 where
+  pub long : (c : Class) (swap : Bool) (l : List ℕ) (ds : List Chain) → Ready c t k (chainsKept count ns l) ds → short c swap t ds line index ≡ false
+
+abbrev pub AmpleIf : Bool → List ℕ → ℕ → ℕ → List ℕ → ℕ → ℕ → Type 0
+AmpleIf b t k count ns line index = b ≡ true → Ample t k count ns line index

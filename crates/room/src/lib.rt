@@ -1,0 +1,101 @@
+// Whether the slices of a request have room for its line and its indices, before anything is written to them. Most callers lend more than the
+// longest line with such chains takes; where they do not, the line is measured. Whether a slice is too short is said by specs/Answer.antt of
+// `answer`.
+use lines::Line;
+use placed::NOTE_ROOM;
+use shapes::SHAPE_ROOM;
+use template::Class;
+ghost use lib.ListN.{length};
+ghost use Rattle.shapes.specs.Shapes.{chainsKept};
+ghost use Rattle.room.specs.Ready.{ShortIs, AmpleIf};
+
+// Room for the indices of four chains.
+pub const INDEX_ROOM: usize = 1020;
+
+// Room for the rows of their floating groups.
+pub const ROW_ROOM: usize = 64;
+
+// Whether both slices are longer than any line and lists with such chains.
+fn is_ample(
+    line: &[u8],
+    index: &[u16],
+    tail: &[u8],
+    tail_atoms: u16,
+    count: usize,
+    shapes: &[u64; SHAPE_ROOM],
+) -> bool
+    ensures { λ r. ⌜ AmpleIf r (now (tail .entry)) «tail_atoms» count (now (shapes .entry)) (length (now (line .entry))) (length (now (index .entry))) ⌝ }
+{
+    if index.len() < INDEX_ROOM {
+        return false;
+    }
+    longest::line_most(tail, tail_atoms, count, shapes) <= line.len()
+}
+
+// Whether a slice is too short, by building the line without room for its text.
+fn is_measured_short(
+    line: &[u8],
+    index: &[u16],
+    class: Class,
+    swap: bool,
+    tail: &[u8],
+    tail_atoms: u16,
+    count: usize,
+    shapes: &[u64; SHAPE_ROOM],
+    lists: &[u64],
+) -> bool
+    ensures { λ r. ⌜ ShortIs class swap (now (tail .entry)) «tail_atoms» (chainsKept count (now (shapes .entry)) (now (lists .entry))) (length (now (line .entry))) (length (now (index .entry))) r ⌝ }
+{
+    let mut text = [0u8; 1];
+    let mut numbers = [0u16; INDEX_ROOM];
+    let mut rows = [0u8; ROW_ROOM];
+    let mut notes = [0u32; NOTE_ROOM];
+    let built = lines::build_line(
+        &mut text,
+        &mut numbers,
+        &mut rows,
+        &mut notes,
+        class,
+        swap,
+        tail,
+        tail_atoms,
+        count,
+        shapes,
+        lists,
+    );
+    let b = built.builder;
+    if line.len() < b.at {
+        return true;
+    }
+    index.len() < b.used
+}
+
+// Whether a slice is too short for a request. Of both only the lengths are looked at.
+pub fn is_short(
+    line: &[u8],
+    index: &[u16],
+    class: Class,
+    swap: bool,
+    tail: &[u8],
+    tail_atoms: u16,
+    count: usize,
+    shapes: &[u64; SHAPE_ROOM],
+    lists: &[u64],
+) -> bool
+    ensures { λ r. ⌜ ShortIs class swap (now (tail .entry)) «tail_atoms» (chainsKept count (now (shapes .entry)) (now (lists .entry))) (length (now (line .entry))) (length (now (index .entry))) r ⌝ }
+{
+    if is_ample(line, index, tail, tail_atoms, count, shapes) {
+        return false;
+    }
+    is_measured_short(
+        line,
+        index,
+        class,
+        swap,
+        tail,
+        tail_atoms,
+        count,
+        shapes,
+        lists,
+    )
+}
