@@ -7,8 +7,8 @@ use mathlib.Core.Path.{_≡_, refl, sym, ap, _∙_}
 use mathlib.Core.Bool.{Bool, true, false, cond, not}
 use mathlib.Core.List.{List, [], _∷_, _++_, map, map-append, append-assoc, append-nil}
 use lib.Dec.{eqb}
-use lib.ListN.{length, take, drop, set, getD, length-append, length-take, length-map, List·getD-map}
-use lib.Seq.{take-suc, take-suc-set, take-set-le, take-all, take-append-le, getD-take}
+use lib.ListN.{length, take, drop, set, getD, length-append, length-take, length-map, length-set, List·getD-map}
+use lib.Seq.{take-suc, take-suc-set, take-set-le, take-all, take-append-le, take-append-add, take-take, getD-take}
 use borrow.Author.Tests.{eq-eqb, ne-eqb}
 use Rattle.record.specs.declared.ChainPrefix.{ChainPrefix}
 use Rattle.record.specs.declared.ChainPrefix.the-variants as prefix
@@ -19,7 +19,7 @@ use Rattle.parsed.specs.declared.ParsedChain.{ParsedChain}
 use Rattle.parsed.specs.Parsed.{Keeps, Holds}
 use Rattle.chain.specs.declared.Role.{Role}
 use Rattle.chain.specs.declared.Role.the-variants.{Slot, Acyl, Base}
-use Rattle.chain.specs.Lists.{anyOf}
+use Rattle.chain.specs.Lists.{anyOf, only}
 use Rattle.chain.specs.Features.{alkenylBond, doubles, located, unlocated, oxygenAt, triolOxygen, baseOxygens, groupsOn, floating}
 use Rattle.groups.specs.Groups.{hydroxy}
 use Rattle.codes.specs.Codes.{bondCode, bondIn, groupCode, groupIn, ringIn}
@@ -27,7 +27,7 @@ use Rattle.codes.proofs.Laws.{bond-back, group-back}
 use Rattle.drawable.specs.Drawn.{bondsIn, groupsIn, ringsIn, noGroup, Length, groupAt, chainOf}
 use Rattle.drawable.proofs.Through.{only-skip, only-keep, only-all}
 use Rattle.drawable.proofs.Lists.{length-only, take-front}
-use Rattle.fitted.specs.Fitted.{alkenyl, More}
+use Rattle.fitted.specs.Fitted.{alkenyl, Parts, More}
 
 -- ---- a chain that a record holds, within its limits, is the one that its arrays say
 
@@ -63,25 +63,6 @@ adds-diol = refl
 pub adds-triol : 0 ≡ length (alkenylBond Slot prefix.SphingoidT)
 unfolding alkenylBond
 adds-triol = refl
-
--- an acyl place is as a slot
-alkenyl-as-slot : (p : ChainPrefix) → alkenylBond Slot p ≡ alkenylBond Acyl p
-unfolding alkenylBond
-alkenyl-as-slot prefix.Acyl = refl
-alkenyl-as-slot prefix.EtherAlkyl = refl
-alkenyl-as-slot prefix.EtherAlkenyl = refl
-alkenyl-as-slot prefix.SphingoidD = refl
-alkenyl-as-slot prefix.SphingoidT = refl
-
-pub adds-in-slot : (r : Role) (p : ChainPrefix) (n : ℕ) → r ≡ Slot → n ≡ length (alkenylBond Slot p) → n ≡ length (alkenylBond r p)
-adds-in-slot r p n h e = rw h e
-
-pub adds-in-acyl : (r : Role) (p : ChainPrefix) (n : ℕ) → r ≡ Acyl → n ≡ length (alkenylBond Slot p) → n ≡ length (alkenylBond r p)
-adds-in-acyl r p n h e = e ∙ rw h (ap length (alkenyl-as-slot p))
-
-pub adds-in-base : (r : Role) (p : ChainPrefix) → r ≡ Base → 0 ≡ length (alkenylBond r p)
-unfolding alkenylBond
-adds-in-base r p h = rw h
 
 -- ---- numbers that stand for a list
 
@@ -136,7 +117,7 @@ bonds-none (suc zero) v xs ys l h e = rw (take-suc-set ys 0 v (omega arith), e)
 bonds-none (suc (suc k)) v xs ys l h e = absurd (omega arith)
 
 -- one bond more of those in the lent array, behind a
-pub bonds-next : (a : List DbPos) (xs ys : List ℕ) (k i n : ℕ) → n ≤ length xs → length ys ≡ 33 → k ≤ 1 → n ≤ 32 → bondsIn (k + i) ys ≡ a ++ bondsIn i xs → i < n
+pub bonds-next : (a : List DbPos) (xs ys : List ℕ) (k i n : ℕ) → 32 ≤ length xs → length ys ≡ 33 → k ≤ 1 → n ≤ 32 → bondsIn (k + i) ys ≡ a ++ bondsIn i xs → i < n
     → bondsIn (k + (i + 1)) (set ys (k + i) (getD xs i 0)) ≡ a ++ bondsIn (i + 1) xs
 unfolding bondsIn
 bonds-next a xs ys k i n s t j m v h =
@@ -144,8 +125,34 @@ bonds-next a xs ys k i n s t j m v h =
     let w : bondsIn (i + 1) xs ≡ bondsIn i xs ++ (bondIn (getD xs i 0) ∷ []) = rw (add-one i, take-suc xs i 0 (omega arith)) (map-append bondIn (take i xs) (getD xs i 0 ∷ [])) in
     rw (e, more bondIn ys (k + i) (getD xs i 0) (omega arith), v, w, append-assoc)
 
-pub bonds-all : (a : List DbPos) (xs ys : List ℕ) (k i n : ℕ) → bondsIn (k + i) ys ≡ a ++ bondsIn i xs → i ≤ n → n ≤ i → bondsIn (k + n) ys ≡ a ++ bondsIn n xs
-bonds-all a xs ys k i n v h g = let z : i ≡ n = omega arith in rw z at v
+-- the first two, which are written in any case
+pub bonds-two : (k v : ℕ) (xs ys : List ℕ) → 32 ≤ length xs → length ys ≡ 33 → k ≤ 1 → bondIn v ≡ alkenyl
+    → bondsIn (k + 2) (set (set (set ys 0 v) k (getD xs 0 0)) (k + 1) (getD xs 1 0)) ≡ take k (alkenyl ∷ []) ++ bondsIn 2 xs
+bonds-two k v xs ys s t h e =
+    let z : k + 0 ≡ k = omega arith in
+    let a = take k (alkenyl ∷ []) in
+    let none : bondsIn (k + 0) (set ys 0 v) ≡ a ++ bondsIn 0 xs = bonds-none k v xs ys t h e in
+    let one : bondsIn (k + 1) (set (set ys 0 v) k (getD xs 0 0)) ≡ a ++ bondsIn 1 xs =
+    rw z at (bonds-next a xs (set ys 0 v) k 0 32 s (simp length-set t) h (omega arith) none (omega arith)) in
+    bonds-next a xs (set (set ys 0 v) k (getD xs 0 0)) k 1 32 s (simp length-set t) h (omega arith) one (omega arith)
+
+take-map : {A : Type 0} (f : ℕ → A) (n : ℕ) (l : List ℕ) → take n (map f l) ≡ map f (take n l)
+take-map f zero l = refl
+take-map f (suc n) [] = refl
+take-map {A} f (suc n) (a ∷ l) = ap {B = List A} (λ r. f a ∷ r) (take-map f n l)
+
+front-long : (k : ℕ) → k ≤ 1 → length (take k (alkenyl ∷ [])) ≡ k
+front-long k h = omega (arith, length-take k (alkenyl ∷ []))
+
+-- of more than count, those that count
+pub bonds-all : (xs ys : List ℕ) (k i n : ℕ) → k ≤ 1 → bondsIn (k + i) ys ≡ take k (alkenyl ∷ []) ++ bondsIn i xs → n ≤ i → bondsIn (k + n) ys ≡ take k (alkenyl ∷ []) ++ bondsIn n xs
+unfolding bondsIn
+bonds-all xs ys k i n h v g =
+    let a = take k (alkenyl ∷ []) in
+    let cut : take (k + n) (bondsIn (k + i) ys) ≡ bondsIn (k + n) ys = take-map bondIn (k + n) (take (k + i) ys) ∙ ap (map bondIn) (take-take (k + n) (k + i) ys (omega arith)) in
+    let short : take n (bondsIn i xs) ≡ bondsIn n xs = take-map bondIn n (take i xs) ∙ ap (map bondIn) (take-take n i xs g) in
+    let seam : take (k + n) (a ++ bondsIn i xs) ≡ a ++ take n (bondsIn i xs) = ap (λ (j : ℕ). take (j + n) (a ++ bondsIn i xs)) (sym (front-long k h)) ∙ take-append-add a (bondsIn i xs) n in
+    sym cut ∙ (ap (take (k + n)) v ∙ (seam ∙ ap (λ (l : List DbPos). a ++ l) short))
 
 -- ---- groups with a position, and those without: the loop over the first n numbers of xs, of which so many are kept in ys
 
@@ -185,9 +192,11 @@ module _ (xs : List ℕ) (n i : ℕ) (f : n ≤ length xs) where
         only-keep (λ g. eqb (g .pos) 0) n (groupsIn n xs) n i noGroup g (groupsIn j ys) whole v h (here h g e) (groupsIn (j + 1) (set ys j (getD xs i 0))) (eq-eqb (g .pos) 0 z) put
 
   module _ (ys : List ℕ) (j : ℕ) (h : n ≤ i) where
-    pub located-end : groupsIn j ys ++ located (drop i (groupsIn n xs)) ≡ located (groupsIn n xs) → groupsIn j ys ≡ located (groupsIn n xs)
-    unfolding located
-    located-end v = only-all (λ g. not (eqb (g .pos) 0)) n (groupsIn n xs) n i (groupsIn j ys) whole v h
+    pub located-end : j ≤ i → i ≤ n → n ≤ 16 → length ys ≡ 18 → groupsIn j ys ++ located (drop i (groupsIn n xs)) ≡ located (groupsIn n xs) → Parts (located (groupsIn n xs)) j ys
+    unfolding located groupsIn
+    located-end b t k s v =
+        let e : groupsIn j ys ≡ located (groupsIn n xs) = only-all (λ g. not (eqb (g .pos) 0)) n (groupsIn n xs) n i (groupsIn j ys) whole v h in
+        record { groups = e; many = omega (arith, ap length e, length-map (take j ys) groupIn, length-take j ys) }
 
     pub floating-end : groupsIn j ys ++ unlocated (drop i (groupsIn n xs)) ≡ unlocated (groupsIn n xs) → groupsIn j ys ≡ unlocated (groupsIn n xs)
     unfolding unlocated
@@ -200,6 +209,21 @@ located-first ys l = refl
 pub floating-first : (ys : List ℕ) (l : List Mod) → groupsIn 0 ys ++ unlocated (drop 0 l) ≡ unlocated l
 unfolding groupsIn
 floating-first ys l = refl
+
+-- where all have a position none is without
+located-all : (l : List Mod) → length (located l) ≡ length l → unlocated l ≡ []
+unfolding located unlocated only
+located-all [] e = refl
+located-all (g ∷ l) e = go (eqb (g .pos) 0) e (located-all l)
+  where
+    go : (b : Bool) → length (cond {A = List Mod} (not b) (g ∷ located l) (located l)) ≡ suc (length l) → (length (located l) ≡ length l → unlocated l ≡ [])
+        → cond {A = List Mod} b (g ∷ unlocated l) (unlocated l) ≡ []
+    go true f k = absurd (omega (arith, length-only (λ g. not (eqb (g .pos) 0)) l))
+    go false f k = k (omega arith)
+
+pub none-left : (xs ys : List ℕ) (n k : ℕ) → n ≤ length xs → k ≡ length (located (groupsIn n xs)) → k ≡ n → groupsIn 0 ys ≡ unlocated (groupsIn n xs)
+unfolding groupsIn
+none-left xs ys n k f e h = sym (located-all (groupsIn n xs) (omega (arith, length-map (take n xs) groupIn, length-take n xs)))
 
 -- ---- one group more in a list
 
@@ -270,21 +294,13 @@ unfolding triolOxygen
 no-triol-diol gs = refl
 
 -- a chain that is no base has no O's of its own
-pub plain-groups : (q r : Role) (p : ChainPrefix) (n : ℕ) (xs zs : List ℕ) (w : List Mod) → ((gs : List Mod) → baseOxygens q p gs ≡ []) → r ≡ q → length xs ≡ length zs
-    → length zs ≡ 18 → groupsIn n xs ≡ w → groupsIn n xs ≡ take 18 (w ++ baseOxygens r p w)
-plain-groups q r p n xs zs w z h k l e = rw (← e, h, z (groupsIn n xs), append-nil (groupsIn n xs)) (sym (take-all 18 (groupsIn n xs) (groups-fit xs n (k ∙ l))))
-
-pub no-base-slot : (p : ChainPrefix) (gs : List Mod) → baseOxygens Slot p gs ≡ []
+pub plain-groups : (p : ChainPrefix) (n : ℕ) (xs : List ℕ) (w : List Mod) → length xs ≡ 18 → groupsIn n xs ≡ w → groupsIn n xs ≡ take 18 (w ++ baseOxygens Slot p w)
 unfolding baseOxygens
-no-base-slot p gs = refl
+plain-groups p n xs w l e = rw (← e, append-nil (groupsIn n xs)) (sym (take-all 18 (groupsIn n xs) (groups-fit xs n l)))
 
-pub no-base-acyl : (p : ChainPrefix) (gs : List Mod) → baseOxygens Acyl p gs ≡ []
-unfolding baseOxygens
-no-base-acyl p gs = refl
-
-pub base-drawn : (r : Role) (p : ChainPrefix) (n m : ℕ) (xs ys : List ℕ) (w : List Mod) → r ≡ Base → groupsIn n xs ≡ w
-    → groupsIn m ys ≡ take 18 (groupsIn n xs ++ baseOxygens Base p (groupsIn n xs)) → groupsIn m ys ≡ take 18 (w ++ baseOxygens r p w)
-base-drawn r p n m xs ys w h e f = rw (h, ← e) f
+pub base-drawn : (p : ChainPrefix) (n m : ℕ) (xs ys : List ℕ) (w : List Mod) → Parts w n xs → groupsIn m ys ≡ take 18 (groupsIn n xs ++ baseOxygens Base p (groupsIn n xs))
+    → groupsIn m ys ≡ take 18 (w ++ baseOxygens Base p w)
+base-drawn p n m xs ys w e f = rw (← e .groups) f
 
 -- ---- the lists of the whole
 

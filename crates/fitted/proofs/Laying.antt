@@ -3,18 +3,22 @@
 use Prim.Native.Nat.{ℕ, _+_, _-_, _≤_, min}
 use native.Mathlib.Omega.{arith}
 use mathlib.Core.Path.{_≡_, refl, sym, ap, _∙_}
-use mathlib.Core.Bool.{Bool}
+use mathlib.Core.Bool.{Bool, false}
 use mathlib.Core.List.{List, [], _∷_, _++_}
 use lib.ListN.{length, take, drop, length-take, length-drop, take-append-drop}
 use lib.Seq.{take-append-le, drop-append-le, take-at, drop-at, drop-drop}
 use borrow.Rule.Slice.PartMut.{midOf, postOf, putMid, same-len-mid, mid-len, drop-put}
 use Rattle.record.specs.declared.ChainPrefix.{ChainPrefix}
+use Rattle.record.specs.declared.ChainPrefix.the-variants as prefix
+use Rattle.record.specs.declared.DbPos.{DbPos}
+use Rattle.record.specs.Chain.{Chain}
 use Rattle.chain.specs.declared.Role.{Role}
-use Rattle.chain.specs.Features.{firstDrawn, isAcyl, alkenylBond, located, unlocated, baseOxygens}
+use Rattle.chain.specs.declared.Role.the-variants.{Slot, Acyl, Base}
+use Rattle.chain.specs.Features.{firstDrawn, isAcyl, alkenylBond, doubles, located, unlocated, baseOxygens, groupsOn}
 use Rattle.chain.specs.Refusals.{etherBase}
-use Rattle.drawable.specs.Drawn.{bondsIn, groupsIn, ringsIn, bondsPart, groupsPart, floatsPart, ringsPart, chainOf, drawnOf}
-use Rattle.fitted.specs.Fitted.{alkenyl, pieces, piecesAs, Fits}
-use Rattle.fitted.proofs.Drawing.{bonds-drawn, groups-drawn, floats-drawn, rings-drawn}
+use Rattle.drawable.specs.Drawn.{Drawn, bondsIn, groupsIn, ringsIn, bondsPart, groupsPart, floatsPart, ringsPart, chainOf, drawnOf, Draws}
+use Rattle.fitted.specs.Fitted.{alkenyl, Parts, Pieces, pieces, piecesAs, Fits}
+use Rattle.fitted.proofs.Drawing.{bonds-drawn, plain-groups, groups-drawn, floats-drawn, rings-drawn}
 
 -- ---- k numbers laid from a on
 
@@ -92,7 +96,7 @@ module _ (xs bs gs fs : List ℕ) (s : length xs ≡ 77) (e₁ : length bs ≡ l
       ∙ (laid-behind 33 18 one gs (omega (arith, one-long)) gs-long 69 8 (omega arith) ∙ laid-behind 0 33 xs bs (omega arith) bs-long 69 8 (omega arith))
 
   -- the chain whose lists are laid so
-  pub fits : (r : Role) (p : ChainPrefix) (carbon unlocated′ nb ng nr : ℕ) (ws vs : List ℕ) (n m k added g f first : ℕ) (acyl ether : Bool) → n ≡ min nb 32 → m ≡ min ng 16
+  fits : (r : Role) (p : ChainPrefix) (carbon unlocated′ nb ng nr : ℕ) (ws vs : List ℕ) (n m k added g f first : ℕ) (acyl ether : Bool) → n ≡ min nb 32 → m ≡ min ng 16
       → k ≡ min nr 8 → added ≡ length (alkenylBond r p) → bondsIn (added + n) bs ≡ take added (alkenyl ∷ []) ++ bondsIn n ws
       → groupsIn g gs ≡ take 18 (located (groupsIn m vs) ++ baseOxygens r p (located (groupsIn m vs))) → groupsIn f fs ≡ unlocated (groupsIn m vs) → first ≡ firstDrawn r
       → acyl ≡ isAcyl r p → ether ≡ etherBase r p
@@ -114,3 +118,64 @@ module _ (xs bs gs fs : List ℕ) (s : length xs ≡ 77) (e₁ : length bs ≡ l
               rings = ap (ringsIn k) rings-laid ∙ rings-drawn x k h₃;
             };
       }
+
+  -- one that is no base, and a base
+  pub chain-fits : (p : ChainPrefix) (carbon unlocated′ nb ng nr : ℕ) (ws vs : List ℕ) (n m k added g f first : ℕ) (acyl : Bool) → n ≡ min nb 32 → m ≡ min ng 16 → k ≡ min nr 8
+      → added ≡ length (alkenylBond Slot p) → bondsIn (added + n) bs ≡ take added (alkenyl ∷ []) ++ bondsIn n ws → Parts (located (groupsIn m vs)) g gs
+      → groupsIn f fs ≡ unlocated (groupsIn m vs) → first ≡ firstDrawn Slot → acyl ≡ isAcyl Slot p
+      → Fits Slot (pieces p carbon unlocated′ nb ws ng vs nr (ringsPart xs)) (drawnOf (record { first = first; carbon = carbon; acyl = acyl; «ether_base» = false; unlocated = unlocated′; «bond_count» = added + n; «group_count» = g; «float_count» = f; «ring_count» = k }) (putMid 51 18 two fs))
+  chain-fits p carbon unlocated′ nb ng nr ws vs n m k added g f first acyl h₁ h₂ h₃ h₄ h₅ h₆ h₇ h₈ h₉ =
+      fits Slot p carbon unlocated′ nb ng nr ws vs n m k added g f first acyl false h₁ h₂ h₃ h₄ h₅ (plain-groups p g gs (located (groupsIn m vs)) gs-long (h₆ .groups)) h₇ h₈ h₉ refl
+
+  pub base-fits : (p : ChainPrefix) (carbon unlocated′ nb ng nr : ℕ) (ws vs : List ℕ) (n m k g f first : ℕ) (ether : Bool) → n ≡ min nb 32 → m ≡ min ng 16 → k ≡ min nr 8
+      → bondsIn (0 + n) bs ≡ take 0 (alkenyl ∷ []) ++ bondsIn n ws → groupsIn g gs ≡ take 18 (located (groupsIn m vs) ++ baseOxygens Base p (located (groupsIn m vs)))
+      → groupsIn f fs ≡ unlocated (groupsIn m vs) → first ≡ firstDrawn Base → ether ≡ etherBase Base p
+      → Fits Base (pieces p carbon unlocated′ nb ws ng vs nr (ringsPart xs)) (drawnOf (record { first = first; carbon = carbon; acyl = false; «ether_base» = ether; unlocated = unlocated′; «bond_count» = n; «group_count» = g; «float_count» = f; «ring_count» = k }) (putMid 51 18 two fs))
+  unfolding isAcyl alkenylBond
+  base-fits p carbon unlocated′ nb ng nr ws vs n m k g f first ether h₁ h₂ h₃ h₅ h₆ h₇ h₈ h₀ =
+      let z : 0 + n ≡ n = omega arith in
+      rw z at (fits Base p carbon unlocated′ nb ng nr ws vs n m k 0 g f first false ether h₁ h₂ h₃ refl h₅ h₆ h₇ h₈ refl h₀)
+
+-- ---- in each place
+
+-- an acyl place is as a slot
+alkenyl-as-slot : (p : ChainPrefix) → alkenylBond Slot p ≡ alkenylBond Acyl p
+unfolding alkenylBond
+alkenyl-as-slot prefix.Acyl = refl
+alkenyl-as-slot prefix.EtherAlkyl = refl
+alkenyl-as-slot prefix.EtherAlkenyl = refl
+alkenyl-as-slot prefix.SphingoidD = refl
+alkenyl-as-slot prefix.SphingoidT = refl
+
+acyl-as-slot : (p : ChainPrefix) → isAcyl Slot p ≡ isAcyl Acyl p
+unfolding isAcyl
+acyl-as-slot prefix.Acyl = refl
+acyl-as-slot prefix.EtherAlkyl = refl
+acyl-as-slot prefix.EtherAlkenyl = refl
+acyl-as-slot prefix.SphingoidD = refl
+acyl-as-slot prefix.SphingoidT = refl
+
+draws-acyl : (d : Chain) (x : Drawn) → Draws Slot d x → Draws Acyl d x
+unfolding doubles groupsOn baseOxygens
+draws-acyl d x w =
+    record {
+      first = w .first;
+      carbon = w .carbon;
+      acyl = w .acyl ∙ acyl-as-slot (d .prefix);
+      ether = w .ether;
+      unlocated = w .unlocated;
+      bonds = w .bonds ∙ ap (λ (l : List DbPos). l ++ d .bonds) (alkenyl-as-slot (d .prefix));
+      groups = w .groups;
+      floats = w .floats;
+      rings = w .rings;
+    }
+
+module _ (r : Role) (p : Pieces) (x : Drawn) where
+  pub fits-slot : r ≡ Slot → Fits Slot p x → Fits r p x
+  fits-slot h e = rw h e
+
+  pub fits-acyl : r ≡ Acyl → Fits Slot p x → Fits r p x
+  fits-acyl h e = rw h (record { draws = λ c. draws-acyl (chainOf (piecesAs c p)) x (e .draws c) })
+
+  pub fits-base : r ≡ Base → Fits Base p x → Fits r p x
+  fits-base h e = rw h e

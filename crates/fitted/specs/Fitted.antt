@@ -2,7 +2,7 @@
 use Prim.Native.Nat.{ℕ}
 use mathlib.Core.Path.{_≡_}
 use mathlib.Core.List.{List, _++_}
-use lib.ListN.{take}
+use lib.ListN.{length, take}
 use Rattle.record.specs.declared.ChainPrefix.{ChainPrefix}
 use Rattle.record.specs.declared.Geometry.the-variants.{Unstated}
 use Rattle.record.specs.declared.DbPos.{DbPos}
@@ -18,6 +18,11 @@ groupRoom = 18
 -- the double bond that `P-` adds
 abbrev pub alkenyl : DbPos
 alkenyl = record { pos = 1; geom = Unstated }
+
+-- the array ys holds the groups of l, and m is how many they are
+pub record Parts (l : List Mod) (m : ℕ) (ys : List ℕ) : Type 0 where
+  pub groups : groupsIn m ys ≡ l
+  pub many : m ≡ length l
 
 -- the array ys holds m groups: the n of xs and then those of l, as far as there is room; those of xs stand where they stood
 pub record More (l : List Mod) (n : ℕ) (xs : List ℕ) (m : ℕ) (ys : List ℕ) : Type 0 where

@@ -19,7 +19,7 @@ ghost use Rattle.codes.specs.Codes.{bondIn, groupIn};
 ghost use Rattle.chain.specs.declared.Role.the-variants.{Slot, Base};
 ghost use Rattle.chain.specs.Features.{alkenylBond, located, unlocated as floats, oxygenAt, baseOxygens};
 ghost use Rattle.drawable.specs.Drawn.{bondsIn, groupsIn, ringsPart, drawnOf};
-ghost use Rattle.fitted.specs.Fitted.{alkenyl, groupRoom, More, pieces, Fits};
+ghost use Rattle.fitted.specs.Fitted.{alkenyl, groupRoom, Parts, More, pieces, Fits};
 
 // The smaller of two numbers.
 fn at_most(n: usize, most: usize) -> usize
@@ -45,7 +45,7 @@ fn group_number(group: Mod) -> u64
 
 // ---- double bonds
 
-// How many double bonds a prefix adds where no base stands: `P-` adds one.
+// How many double bonds a prefix adds where no base stands: `P-` adds one. On a base none is added.
 fn ether_bonds(prefix: ChainPrefix) -> usize
     ensures { λ r. ⌜ r ≡ length (alkenylBond Slot prefix) ⌝ }
 {
@@ -58,21 +58,11 @@ fn ether_bonds(prefix: ChainPrefix) -> usize
     }
 }
 
-// How many double bonds a prefix adds in a place.
-fn added_bonds(role: Role, prefix: ChainPrefix) -> usize
-    ensures { λ r. ⌜ r ≡ length (alkenylBond role prefix) ⌝ }
-{
-    match role {
-        Role::Slot => ether_bonds(prefix),
-        Role::Acyl => ether_bonds(prefix),
-        Role::Base => 0,
-    }
-}
-
 // The located double bonds: that of `P-` where one is added, then those of the token. That of `P-` is written first in any case: where it is
-// not added, it does not count, and those of the token are written over it.
+// not added, it does not count, and those of the token are written over it. The first two of the token are written in any case too: most
+// chains have no more.
 fn double_bonds(added: usize, written: &[u64], n: usize, bonds: &mut [u64])
-    requires { ⌜ (added ≤ 1) × (n ≤ 32) × (n ≤ length (now written)) ⌝ }
+    requires { ⌜ (added ≤ 1) × (n ≤ 32) × (32 ≤ length (now written)) ⌝ }
     requires { ⌜ length (now bonds) ≡ 33 ⌝ }
     ensures { λ _. ⌜ bondsIn (added + n) (now (bonds .exit)) ≡ take added (alkenyl ∷ []) ++ bondsIn n (now (written .entry)) ⌝ }
 {
@@ -80,7 +70,9 @@ fn double_bonds(added: usize, written: &[u64], n: usize, bonds: &mut [u64])
         pos: 1,
         geom: Geometry::Unstated,
     });
-    let mut i = 0;
+    bonds[added] = written[0];
+    bonds[added + 1] = written[1];
+    let mut i = 2;
     while i < n {
         bonds[added + i] = written[i];
         i += 1;
@@ -93,7 +85,7 @@ fn double_bonds(added: usize, written: &[u64], n: usize, bonds: &mut [u64])
 fn located_groups(written: &[u64], n: usize, groups: &mut [u64]) -> usize
     requires { ⌜ (n ≤ 16) × (n ≤ length (now written)) ⌝ }
     requires { ⌜ length (now groups) ≡ 18 ⌝ }
-    ensures { λ r. ⌜ groupsIn r (now (groups .exit)) ≡ located (groupsIn n (now (written .entry))) ⌝ }
+    ensures { λ r. ⌜ Parts (located (groupsIn n (now (written .entry)))) r (now (groups .exit)) ⌝ }
 {
     let mut count = 0;
     let mut i = 0;
@@ -129,6 +121,19 @@ fn floating_groups(written: &[u64], n: usize, groups: &mut [u64]) -> usize
         count += 1;
     }
     count
+}
+
+// The groups without a position of a chain that is no base. Most chains have none: then as many have a position as there are.
+fn left_groups(written: &[u64], n: usize, placed: usize, groups: &mut [u64]) -> usize
+    requires { ⌜ (n ≤ 16) × (n ≤ length (now written)) ⌝ }
+    requires { ⌜ placed ≡ length (located (groupsIn n (now written))) ⌝ }
+    requires { ⌜ length (now groups) ≡ 18 ⌝ }
+    ensures { λ r. ⌜ groupsIn r (now (groups .exit)) ≡ floats (groupsIn n (now (written .entry))) ⌝ }
+{
+    if placed == n {
+        return 0;
+    }
+    floating_groups(written, n, groups)
 }
 
 // One more, where there is room, and how many there are then.
@@ -176,29 +181,93 @@ fn base_groups(prefix: ChainPrefix, groups: &mut [u64], count: usize) -> usize
     }
 }
 
-// The groups drawn on the chain, and how many there are.
-fn drawn_groups(
-    role: Role,
-    prefix: ChainPrefix,
-    written: &[u64],
-    n: usize,
-    groups: &mut [u64],
-) -> usize
+// The groups drawn on a base, and how many there are.
+fn groups_of_base(prefix: ChainPrefix, written: &[u64], n: usize, groups: &mut [u64]) -> usize
     requires { ⌜ (n ≤ 16) × (n ≤ length (now written)) ⌝ }
     requires { ⌜ length (now groups) ≡ 18 ⌝ }
-    ensures { λ r. ⌜ groupsIn r (now (groups .exit)) ≡ take groupRoom (located (groupsIn n (now (written .entry))) ++ baseOxygens role prefix (located (groupsIn n (now (written .entry))))) ⌝ }
+    ensures { λ r. ⌜ groupsIn r (now (groups .exit)) ≡ take groupRoom (located (groupsIn n (now (written .entry))) ++ baseOxygens Base prefix (located (groupsIn n (now (written .entry))))) ⌝ }
 {
     let count = located_groups(written, n, groups);
-    match role {
-        Role::Slot => count,
-        Role::Acyl => count,
-        Role::Base => base_groups(prefix, groups, count),
-    }
+    base_groups(prefix, groups, count)
 }
 
 // ---- the chain
 
-// The chain as it is drawn where it stands, its lists laid into a part whose room for rings holds the token's rings.
+// A chain that is no base.
+fn chain_as<'a>(
+    prefix: ChainPrefix,
+    carbon: u16,
+    unlocated: u16,
+    written_bonds: &'a [u64],
+    bond_count: usize,
+    written_groups: &'a [u64],
+    group_count: usize,
+    ring_count: usize,
+    part: &mut [u64],
+) -> Shape
+    requires { ⌜ (32 ≤ length (now «written_bonds»)) × (16 ≤ length (now «written_groups»)) × (length (now part) ≡ 77) ⌝ }
+    ensures { λ r. ⌜ Fits Slot (pieces prefix carbon unlocated «bond_count» (now («written_bonds» .entry)) «group_count» (now («written_groups» .entry)) «ring_count» (ringsPart (now (part .entry)))) (drawnOf r (now (part .exit))) ⌝ }
+{
+    let bonds_written = at_most(bond_count, MAX_BONDS);
+    let groups_written = at_most(group_count, MAX_GROUPS);
+    let rings = at_most(ring_count, MAX_RINGS);
+    let added = ether_bonds(prefix);
+    double_bonds(added, written_bonds, bonds_written, &mut part[0..33]);
+    let groups = located_groups(written_groups, groups_written, &mut part[33..51]);
+    let floats = left_groups(written_groups, groups_written, groups, &mut part[51..69]);
+    let first = kind::first_drawn(Role::Slot);
+    let acyl = kind::is_acyl(Role::Slot, prefix);
+    Shape {
+        first,
+        carbon,
+        acyl,
+        ether_base: false,
+        unlocated,
+        bond_count: added + bonds_written,
+        group_count: groups,
+        float_count: floats,
+        ring_count: rings,
+    }
+}
+
+// A base.
+fn base_as<'a>(
+    prefix: ChainPrefix,
+    carbon: u16,
+    unlocated: u16,
+    written_bonds: &'a [u64],
+    bond_count: usize,
+    written_groups: &'a [u64],
+    group_count: usize,
+    ring_count: usize,
+    part: &mut [u64],
+) -> Shape
+    requires { ⌜ (32 ≤ length (now «written_bonds»)) × (16 ≤ length (now «written_groups»)) × (length (now part) ≡ 77) ⌝ }
+    ensures { λ r. ⌜ Fits Base (pieces prefix carbon unlocated «bond_count» (now («written_bonds» .entry)) «group_count» (now («written_groups» .entry)) «ring_count» (ringsPart (now (part .entry)))) (drawnOf r (now (part .exit))) ⌝ }
+{
+    let bonds_written = at_most(bond_count, MAX_BONDS);
+    let groups_written = at_most(group_count, MAX_GROUPS);
+    let rings = at_most(ring_count, MAX_RINGS);
+    double_bonds(0, written_bonds, bonds_written, &mut part[0..33]);
+    let groups = groups_of_base(prefix, written_groups, groups_written, &mut part[33..51]);
+    let floats = floating_groups(written_groups, groups_written, &mut part[51..69]);
+    let first = kind::first_drawn(Role::Base);
+    let ether_base = kind::is_ether_base(Role::Base, prefix);
+    Shape {
+        first,
+        carbon,
+        acyl: false,
+        ether_base,
+        unlocated,
+        bond_count: bonds_written,
+        group_count: groups,
+        float_count: floats,
+        ring_count: rings,
+    }
+}
+
+// The chain as it is drawn where it stands, its lists laid into a part whose room for rings holds the token's rings. An acyl place draws a
+// chain as a slot does.
 pub fn drawn_as<'a>(
     role: Role,
     prefix: ChainPrefix,
@@ -214,31 +283,39 @@ pub fn drawn_as<'a>(
     requires { ⌜ (32 ≤ length (now «written_bonds»)) × (16 ≤ length (now «written_groups»)) × (length (now part) ≡ 77) ⌝ }
     ensures { λ r. ⌜ Fits role (pieces prefix carbon unlocated «bond_count» (now («written_bonds» .entry)) «group_count» (now («written_groups» .entry)) «ring_count» (ringsPart (now (part .entry)))) (drawnOf r (now (part .exit))) ⌝ }
 {
-    let bonds_written = at_most(bond_count, MAX_BONDS);
-    let groups_written = at_most(group_count, MAX_GROUPS);
-    let rings = at_most(ring_count, MAX_RINGS);
-    let added = added_bonds(role, prefix);
-    double_bonds(added, written_bonds, bonds_written, &mut part[0..33]);
-    let groups = drawn_groups(
-        role,
-        prefix,
-        written_groups,
-        groups_written,
-        &mut part[33..51],
-    );
-    let floats = floating_groups(written_groups, groups_written, &mut part[51..69]);
-    let first = kind::first_drawn(role);
-    let acyl = kind::is_acyl(role, prefix);
-    let ether_base = kind::is_ether_base(role, prefix);
-    Shape {
-        first,
-        carbon,
-        acyl,
-        ether_base,
-        unlocated,
-        bond_count: added + bonds_written,
-        group_count: groups,
-        float_count: floats,
-        ring_count: rings,
+    match role {
+        Role::Slot => chain_as(
+            prefix,
+            carbon,
+            unlocated,
+            written_bonds,
+            bond_count,
+            written_groups,
+            group_count,
+            ring_count,
+            part,
+        ),
+        Role::Acyl => chain_as(
+            prefix,
+            carbon,
+            unlocated,
+            written_bonds,
+            bond_count,
+            written_groups,
+            group_count,
+            ring_count,
+            part,
+        ),
+        Role::Base => base_as(
+            prefix,
+            carbon,
+            unlocated,
+            written_bonds,
+            bond_count,
+            written_groups,
+            group_count,
+            ring_count,
+            part,
+        ),
     }
 }

@@ -1,0 +1,20 @@
+use Rattle.fitted.proofs.Drawing.{base-drawn}
+use borrow.Author.Needs.{needs}
+use Rattle.fitted.proofs.groups_of_base.Statement.{statement}
+use Rattle.fitted.proofs.groups_of_base.Tie as tie
+
+located-groups-requires : tie.Need-located-groups-requires
+located-groups-requires c κs = search needs
+
+base-groups-requires : tie.Need-base-groups-requires
+base-groups-requires c κs = search needs
+
+same-length : tie.Need-same-length
+same-length c = search needs
+
+returns : tie.Need-returns
+returns c = search base-drawn
+
+pub groups-of-base-spec : {M : Type 1} → statement M
+groups-of-base-spec =
+    tie.close (tie.spec located-groups-requires base-groups-requires same-length returns)
