@@ -1,2 +1,3 @@
 pub mod Place
+pub mod Rising
 pub mod Draw
