@@ -1,15 +1,12 @@
 -- Laws of the test for 33: one for each way out.
 -- Assumes nothing.
-use Prim.Native.Nat.{ℕ, _+_, _<_, _≤_}
-use native.Mathlib.Numerals.{add-one}
-use native.Mathlib.Omega.{arith}
-use mathlib.Core.Path.{_≡_, refl, sym, _∙_}
-use mathlib.Core.Bool.{Bool, true, false, cond, _||_, false≢true}
-use mathlib.Core.List.{List, [], _∷_}
-use lib.Dec.{eqb, ltb}
-use lib.ListN.{drop, getD, drop-of-length-le}
-use lib.Seq.{drop-cons}
-use borrow.Author.Tests.{eq-eqb, ne-eqb, lt-ltb, le-ltb, ltb-true}
+use Prim.Native.Nat.{ℕ, _+_}
+use mathlib.Core.Path.{_≡_, sym, _∙_}
+use mathlib.Core.Bool.{Bool, true, false, _||_}
+use mathlib.Core.List.{List}
+use lib.Dec.{ltb}
+use lib.ListN.{drop}
+use borrow.Author.Tests.{eq-eqb, ne-eqb}
 use Rattle.record.specs.declared.Bridge.the-variants.{Epoxide, Carbocycle}
 use Rattle.record.specs.declared.DbPos.{DbPos}
 use Rattle.record.specs.declared.Ring.{Ring}
@@ -17,8 +14,8 @@ use Rattle.record.specs.Chain.{Chain}
 use Rattle.chain.specs.declared.Role.{Role}
 use Rattle.chain.specs.Lists.{anyOf, anyTwo}
 use Rattle.chain.specs.Refusals.{sameBond, epoxideOn, smallRing, sameRing, clashes}
-use Rattle.drawable.specs.Drawn.{Drawn, bondsIn, ringsIn, bondsDrawn, ringsDrawn, noBond, Length, Draws, Says}
-use Rattle.clash.specs.Places.{bondAt, rising}
+use Rattle.drawable.specs.Drawn.{Drawn, bondsIn, ringsIn, bondsDrawn, ringsDrawn, Draws, Says}
+use Rattle.clash.specs.Places.{bondAt}
 use Rattle.drawable.proofs.Lists.{any-same, eqb-swap}
 
 -- ---- one feature
@@ -48,49 +45,6 @@ module _ (x y : Ring) where
 pub same-bond-at : (a : DbPos) (l : List DbPos) (t : Bool) → t ≡ anyOf (bondAt (a .pos)) l → t ≡ anyOf (sameBond a) l
 unfolding sameBond
 same-bond-at a l t e = e ∙ any-same (bondAt (a .pos)) (sameBond a) l (λ b. eqb-swap (b .pos) (a .pos))
-
--- ---- double bonds that rise
-
--- those that rise past m have none at k, if k is m or before it
-none-at : (a : DbPos) (m : ℕ) (l : List DbPos) → a .pos ≤ m → rising m l ≡ true → anyOf (sameBond a) l ≡ false
-unfolding rising anyOf sameBond
-none-at a m [] h e = refl
-none-at a m (b ∷ l) h e = go (ltb m (b .pos)) refl e (λ k f. none-at a (b .pos) l k f)
-  where
-    go : (t : Bool) → ltb m (b .pos) ≡ t → cond t (rising (b .pos) l) false ≡ true → (a .pos ≤ b .pos → rising (b .pos) l ≡ true → anyOf (sameBond a) l ≡ false)
-        → eqb (a .pos) (b .pos) || anyOf (sameBond a) l ≡ false
-    go true g f k = let w : m < b .pos = ltb-true m (b .pos) g in rw (ne-eqb (a .pos) (b .pos) (λ z. omega (arith, z, w, h)), k (omega arith) f)
-    go false g f k = absurd (false≢true f)
-
-none-twice : (m : ℕ) (l : List DbPos) → rising m l ≡ true → anyTwo sameBond l ≡ false
-unfolding rising anyTwo
-none-twice m [] e = refl
-none-twice m (b ∷ l) e = go (ltb m (b .pos)) e (λ f. none-twice (b .pos) l f)
-  where
-    go : (t : Bool) → cond t (rising (b .pos) l) false ≡ true → (rising (b .pos) l ≡ true → anyTwo sameBond l ≡ false) → anyOf (sameBond b) l || anyTwo sameBond l ≡ false
-    go true f k = rw (none-at b (b .pos) l (omega arith) f, k f)
-    go false f k = absurd (false≢true f)
-
-pub rising-apart : (l : List DbPos) (t : Bool) → t ≡ rising 0 l → t ≡ true → false ≡ anyTwo sameBond l
-rising-apart l t e f = sym (none-twice 0 l (sym e ∙ f))
-
--- the loop that looks whether they rise; what was asked is v
-module _ (v : Bool) (room : ℕ) (l : List DbPos) (n i m : ℕ) (w : Length room l n) (same : v ≡ rising m (drop i l)) where
-  module _ (b : DbPos) (h : i < n) (e : b ≡ getD l i noBond) where
-    here : drop i l ≡ b ∷ drop (i + 1) l
-    here = rw (add-one i, e) (drop-cons l i noBond (omega (arith, w .is)))
-
-    pub rising-not : b .pos ≤ m → false ≡ v
-    unfolding rising
-    rising-not g = sym (same ∙ rw (here, le-ltb m (b .pos) g))
-
-    pub rising-next : m < b .pos → v ≡ rising (b .pos) (drop (i + 1) l)
-    unfolding rising
-    rising-next g = same ∙ rw (here, lt-ltb m (b .pos) g)
-
-  pub rising-all : n ≤ i → true ≡ v
-  unfolding rising
-  rising-all h = let e : drop i l ≡ [] = drop-of-length-le l {i = i} (omega (arith, w .is)) in sym (same ∙ rw e)
 
 pub on-epoxide : (x : Ring) (l : List DbPos) (t : Bool) → x .bridge ≡ Epoxide → t ≡ anyOf (bondAt (x .start)) (drop 0 l) → t ≡ epoxideOn l x
 unfolding epoxideOn

@@ -10,7 +10,7 @@ ghost use lib.ListN.{drop};
 ghost use Rattle.chain.specs.Lists.{anyOf, anyTwo};
 ghost use Rattle.chain.specs.Refusals.{sameBond, epoxideOn, smallRing, sameRing, clashes};
 ghost use Rattle.drawable.specs.Drawn.{bondsIn, ringsIn, drawnOf, Says};
-ghost use Rattle.clash.specs.Places.{bondAt, rising};
+ghost use Rattle.clash.specs.Places.{bondAt};
 
 // Whether a double bond stands at p.
 fn starts_at(bond: DbPos, p: u32) -> bool
@@ -35,26 +35,8 @@ fn bond_from(bonds: &[u64], count: usize, from: usize, p: u32) -> bool
     false
 }
 
-// Whether the double bonds stand in rising order, none of them at 0.
-fn rising_bonds(bonds: &[u64], count: usize) -> bool
-    ensures { λ r. ⌜ r ≡ rising 0 (bondsIn count (now (bonds .entry))) ⌝ }
-{
-    let n = drawable::bonds_len(bonds, count);
-    let mut last = 0;
-    let mut i = 0;
-    while i < n {
-        let bond = drawable::nth_bond(bonds, count, i);
-        if bond.pos <= last {
-            return false;
-        }
-        last = bond.pos;
-        i += 1;
-    }
-    true
-}
-
 // Whether some two double bonds stand at one carbon, each held against all that follow.
-fn repeated_anywhere(bonds: &[u64], count: usize) -> bool
+fn repeated_bond(bonds: &[u64], count: usize) -> bool
     ensures { λ r. ⌜ r ≡ anyTwo sameBond (bondsIn count (now (bonds .entry))) ⌝ }
 {
     let n = drawable::bonds_len(bonds, count);
@@ -67,16 +49,6 @@ fn repeated_anywhere(bonds: &[u64], count: usize) -> bool
         }
     }
     false
-}
-
-// Whether some two double bonds stand at one carbon. Most lists rise, and then no two do.
-fn repeated_bond(bonds: &[u64], count: usize) -> bool
-    ensures { λ r. ⌜ r ≡ anyTwo sameBond (bondsIn count (now (bonds .entry))) ⌝ }
-{
-    if rising_bonds(bonds, count) {
-        return false;
-    }
-    repeated_anywhere(bonds, count)
 }
 
 // Whether a ring is an epoxide where a double bond stands.

@@ -1,19 +1,60 @@
-use Rattle.clash.proofs.Clashes.{rising-apart}
 use borrow.Author.Needs.{needs}
+use Prim.Native.Nat.{_-_}
+use mathlib.Core.Path.{_≡_, refl}
+use lib.ListN.{drop}
+use Rattle.chain.specs.Lists.{anyTwo}
+use Rattle.chain.specs.Refusals.{sameBond}
+use Rattle.drawable.specs.Drawn.{bondsIn}
+use Rattle.drawable.proofs.Through.{two-here, two-next, two-none}
+use Rattle.clash.proofs.Clashes.{same-bond-at}
 use Rattle.clash.proofs.repeated_bond.Statement.{statement}
 use Rattle.clash.proofs.repeated_bond.Tie as tie
 
-rising-bonds-requires : tie.Need-rising-bonds-requires
-rising-bonds-requires c κs = search needs
+abbrev Inv-loop : tie.InvT-loop
+Inv-loop bonds count n i₀ i = anyTwo sameBond (bondsIn count bonds) ≡ anyTwo sameBond (drop i (bondsIn count bonds))
 
-returns : tie.Need-returns
-returns c = search rising-apart
+abbrev μ-loop : tie.MeasureT-loop
+μ-loop bonds count n i₀ i = n - i
 
-repeated-anywhere-requires : tie.Need-repeated-anywhere-requires
-repeated-anywhere-requires c κs = search needs
+bonds-len-requires : tie.Need-bonds-len-requires Inv-loop μ-loop
+bonds-len-requires c κs = search needs
 
-returns-2 : tie.Need-returns-2
-returns-2 c = search needs
+loop-holds : tie.Need-loop-holds Inv-loop μ-loop
+loop-holds c = refl
+
+nth-bond-requires : tie.Need-nth-bond-requires Inv-loop μ-loop
+nth-bond-requires c κs = search needs
+
+add-i : tie.Need-add-i Inv-loop μ-loop
+add-i c = search needs
+
+bond-from-requires : tie.Need-bond-from-requires Inv-loop μ-loop
+bond-from-requires c κs = search needs
+
+returns : tie.Need-returns Inv-loop μ-loop
+returns c = search (two-here, same-bond-at)
+
+loop-less : tie.Need-loop-less Inv-loop μ-loop
+loop-less c = search needs
+
+loop-again : tie.Need-loop-again Inv-loop μ-loop
+loop-again c = search (two-next, same-bond-at)
+
+returns-2 : tie.Need-returns-2 Inv-loop μ-loop
+returns-2 c = search two-none
 
 pub repeated-bond-spec : {M : Type 1} → statement M
-repeated-bond-spec = tie.close (tie.spec rising-bonds-requires returns repeated-anywhere-requires returns-2)
+repeated-bond-spec =
+    tie.close
+    (tie.spec
+    Inv-loop
+    μ-loop
+    bonds-len-requires
+    loop-holds
+    nth-bond-requires
+    add-i
+    bond-from-requires
+    returns
+    loop-less
+    loop-again
+    returns-2)
