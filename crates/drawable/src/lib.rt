@@ -8,8 +8,7 @@ use record::Ring;
 ghost use mathlib.Core.Path.{_≡_};
 ghost use Prim.Native.Nat.{_-_, _≤_};
 ghost use lib.ListN.{length, take, drop, getD};
-ghost use Rattle.chain.specs.Lists.{anyOf};
-ghost use Rattle.drawable.specs.Drawn.{bondsIn, groupsIn, ringsIn, noBond, noGroup, noRing, Length, groupAt, bondsPart, groupsPart, floatsPart, ringsPart};
+ghost use Rattle.drawable.specs.Drawn.{bondsIn, groupsIn, ringsIn, noBond, noGroup, noRing, Length, bondsPart, groupsPart, floatsPart, ringsPart};
 ghost use Rattle.drawable.specs.Chains.{partOf};
 
 // Room for the double bonds read and for the one that `P-` adds.
@@ -162,27 +161,4 @@ pub fn nth_ring(rings: &[u64], count: usize, i: usize) -> Ring
     ensures { λ r. ⌜ r ≡ getD (ringsIn count (now (rings .entry))) i noRing ⌝ }
 {
     codes::ring_in(number_at(rings, count, i))
-}
-
-// Whether a group sits on the carbon p.
-fn sits_at(group: Mod, p: u32) -> bool
-    ensures { λ r. ⌜ r ≡ groupAt p group ⌝ }
-{
-    group.pos == p
-}
-
-// Whether some group sits at p.
-pub fn group_at(groups: &[u64], count: usize, p: u32) -> bool
-    ensures { λ r. ⌜ r ≡ anyOf (groupAt p) (groupsIn count (now (groups .entry))) ⌝ }
-{
-    let n = groups_len(groups, count);
-    let mut i = 0;
-    while i < n {
-        let group = nth_group(groups, count, i);
-        if sits_at(group, p) {
-            return true;
-        }
-        i += 1;
-    }
-    false
 }

@@ -17,8 +17,9 @@ ghost use Prim.Native.Nat.{_+_, _≤_, min};
 ghost use lib.ListN.{length, take};
 ghost use Rattle.codes.specs.Codes.{bondIn, groupIn};
 ghost use Rattle.chain.specs.declared.Role.the-variants.{Slot, Base};
+ghost use Rattle.chain.specs.Lists.{anyOf};
 ghost use Rattle.chain.specs.Features.{alkenylBond, located, unlocated as floats, oxygenAt, baseOxygens};
-ghost use Rattle.drawable.specs.Drawn.{bondsIn, groupsIn, ringsPart, drawnOf};
+ghost use Rattle.drawable.specs.Drawn.{bondsIn, groupsIn, groupAt, ringsPart, drawnOf};
 ghost use Rattle.fitted.specs.Fitted.{alkenyl, groupRoom, Parts, More, pieces, Fits};
 
 // The smaller of two numbers.
@@ -148,12 +149,35 @@ fn push_group(groups: &mut [u64], count: usize, group: Mod) -> usize
     count
 }
 
+// Whether a group sits on the carbon p.
+fn sits_at(group: Mod, p: u32) -> bool
+    ensures { λ r. ⌜ r ≡ groupAt p group ⌝ }
+{
+    group.pos == p
+}
+
+// Whether some group sits at p.
+fn group_at(groups: &[u64], count: usize, p: u32) -> bool
+    ensures { λ r. ⌜ r ≡ anyOf (groupAt p) (groupsIn count (now (groups .entry))) ⌝ }
+{
+    let n = drawable::groups_len(groups, count);
+    let mut i = 0;
+    while i < n {
+        let group = drawable::nth_group(groups, count, i);
+        if sits_at(group, p) {
+            return true;
+        }
+        i += 1;
+    }
+    false
+}
+
 // An O at p more, unless one of the first groups, those of the token, sits there.
 fn oxygen_at(groups: &mut [u64], count: usize, written: usize, p: u32) -> usize
     requires { ⌜ length (now groups) ≡ 18 ⌝ }
     ensures { λ r. ⌜ More (oxygenAt p (groupsIn written (now (groups .entry)))) count (now (groups .entry)) r (now (groups .exit)) ⌝ }
 {
-    if drawable::group_at(groups, written, p) {
+    if group_at(groups, written, p) {
         return count;
     }
     push_group(

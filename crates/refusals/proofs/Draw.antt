@@ -3,26 +3,30 @@
 use Prim.Native.Nat.{ℕ, _+_, _*_}
 use native.Mathlib.Omega.{arith}
 use mathlib.Core.Path.{_≡_, sym, _∙_}
-use mathlib.Core.Bool.{Bool, true, false, cond}
+use mathlib.Core.Bool.{Bool, true, false, cond, not, and-false}
 use mathlib.Core.List.{List}
 use lib.Dec.{ltb, leb}
 use lib.ListN.{length}
-use borrow.Author.Tests.{eq-eqb, ne-eqb}
+use borrow.Author.Tests.{eq-eqb, ne-eqb, not-true, not-false}
 use Rattle.chain.specs.Lists.{anyOf}
-use Rattle.chain.specs.Features.{remaining, drawnCount, siteSkip}
+use Rattle.chain.specs.Features.{isAcyl, remaining, drawnCount, siteSkip}
 use Rattle.chain.specs.Refusals.{groupOnCarbonyl, pinTooFar, tailTooShort, noSite, drawRefusal}
 use Rattle.drawable.specs.Drawn.{Drawn, groupsIn, floatsDrawn, groupAt, Length, Says}
 use Rattle.drawable.proofs.Lists.{some-empty, none-empty}
 
 -- ---- 12
 
-pub carbonyl-groups : (x : Drawn) (gs : List ℕ) (t : Bool) → gs ≡ x .groups → x .acyl ≡ true → t ≡ anyOf (groupAt 1) (groupsIn (x .«group_count») gs) → Says x t groupOnCarbonyl
+pub carbonyl-groups : (x : Drawn) (gs : List ℕ) (t : Bool) → gs ≡ x .groups → not (x .acyl) ≡ false → t ≡ anyOf (groupAt 1) (groupsIn (x .«group_count») gs) → Says x t groupOnCarbonyl
 unfolding groupOnCarbonyl
-carbonyl-groups x gs t p h e = record { is = λ r d w. rw (← w .acyl, h, ← w .groups, ← p) e }
+carbonyl-groups x gs t p h e = record { is = λ r d w. rw (← w .acyl, not-false (x .acyl) h, ← w .groups, ← p) e }
 
-pub no-carbonyl : (x : Drawn) → x .acyl ≡ false → Says x false groupOnCarbonyl
+pub no-carbonyl : (x : Drawn) → not (x .acyl) ≡ true → Says x false groupOnCarbonyl
 unfolding groupOnCarbonyl
-no-carbonyl x h = record { is = λ r d w. rw (← w .acyl, h) }
+no-carbonyl x h = record { is = λ r d w. rw (← w .acyl, not-true (x .acyl) h) }
+
+pub no-groups : (x : Drawn) → x .«group_count» ≡ 0 → Says x false groupOnCarbonyl
+unfolding groupOnCarbonyl groupsIn anyOf
+no-groups x h = record { is = λ r d w. rw (← w .groups, h) (sym (and-false (isAcyl r (d .prefix)))) }
 
 -- ---- 14
 

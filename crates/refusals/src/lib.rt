@@ -9,6 +9,7 @@ use record::Bridge;
 use record::ChainPrefix;
 use record::GROUP_ROOM;
 use record::MAX_RINGS;
+use record::Mod;
 use record::Ring;
 ghost use mathlib.Core.Path.{_≡_};
 ghost use mathlib.Core.Bool.{cond, not};
@@ -16,7 +17,7 @@ ghost use Prim.Native.Nat.{_-_, _≤_};
 ghost use lib.ListN.{length};
 ghost use Rattle.chain.specs.Lists.{anyOf};
 ghost use Rattle.chain.specs.Refusals.{groupOff, placeRefusal, groupOnCarbonyl, tailTooShort, noSite, drawRefusal};
-ghost use Rattle.drawable.specs.Drawn.{bondsIn, groupsIn, ringsIn, bondsPart, groupsPart, ringsPart, drawnOf, Says};
+ghost use Rattle.drawable.specs.Drawn.{bondsIn, groupsIn, ringsIn, groupAt, bondsPart, groupsPart, ringsPart, drawnOf, Says};
 ghost use Rattle.refusals.specs.Kind.{Kind};
 ghost use Rattle.refusals.specs.Rising.{Only, bondsRise, ringPast, ringsRise};
 
@@ -195,14 +196,40 @@ pub fn place_refusal(x: Shape, part: &[u64]) -> u16
 
 // ---- 12 to 15
 
-// 12: a located group at C1 of an acyl chain.
+// Whether a group sits on C1.
+fn on_first(group: Mod) -> bool
+    ensures { λ r. ⌜ r ≡ groupAt 1 group ⌝ }
+{
+    group.pos == 1
+}
+
+// Whether some group sits on C1.
+fn any_on_first(groups: &[u64], count: usize) -> bool
+    ensures { λ r. ⌜ r ≡ anyOf (groupAt 1) (groupsIn count (now (groups .entry))) ⌝ }
+{
+    let n = drawable::groups_len(groups, count);
+    let mut i = 0;
+    while i < n {
+        let group = drawable::nth_group(groups, count, i);
+        if on_first(group) {
+            return true;
+        }
+        i += 1;
+    }
+    false
+}
+
+// 12: a located group at C1 of an acyl chain. Most chains have no group.
 fn group_on_carbonyl(x: Shape, part: &[u64]) -> bool
     ensures { λ r. ⌜ Says (drawnOf x (now (part .entry))) r groupOnCarbonyl ⌝ }
 {
-    if x.acyl {
-        return drawable::group_at(drawable::groups_part(part), x.group_count, 1);
+    if !x.acyl {
+        return false;
     }
-    false
+    if x.group_count == 0 {
+        return false;
+    }
+    any_on_first(drawable::groups_part(part), x.group_count)
 }
 
 // 14: a flexible tail too short for its double bonds.

@@ -3,16 +3,16 @@ use Prim.Native.Nat.{_-_}
 use mathlib.Core.Path.{_≡_, refl}
 use lib.ListN.{drop}
 use Rattle.chain.specs.Lists.{anyOf}
 use Rattle.drawable.specs.Drawn.{groupsIn, groupAt}
 use Rattle.drawable.proofs.Through.{any-here, any-next, any-none}
-use Rattle.drawable.proofs.group_at.Statement.{statement}
-use Rattle.drawable.proofs.group_at.Tie as tie
+use Rattle.refusals.proofs.any_on_first.Statement.{statement}
+use Rattle.refusals.proofs.any_on_first.Tie as tie
 
 abbrev Inv-loop : tie.InvT-loop
-Inv-loop groups count p n i₀ i = anyOf (groupAt p) (groupsIn count groups) ≡ anyOf (groupAt p) (drop i (groupsIn count groups))
+Inv-loop groups count n i₀ i = anyOf (groupAt 1) (groupsIn count groups) ≡ anyOf (groupAt 1) (drop i (groupsIn count groups))
 
 abbrev μ-loop : tie.MeasureT-loop
-μ-loop groups count p n i₀ i = n - i
+μ-loop groups count n i₀ i = n - i
 
 groups-len-requires : tie.Need-groups-len-requires Inv-loop μ-loop
 groups-len-requires c κs = search needs
@@ -23,8 +23,8 @@ loop-holds c = refl
 nth-group-requires : tie.Need-nth-group-requires Inv-loop μ-loop
 nth-group-requires c κs = search needs
 
-sits-at-requires : tie.Need-sits-at-requires Inv-loop μ-loop
-sits-at-requires c κs = search needs
+on-first-requires : tie.Need-on-first-requires Inv-loop μ-loop
+on-first-requires c κs = search needs
 
 returns : tie.Need-returns Inv-loop μ-loop
 returns c = search any-here
@@ -41,8 +41,8 @@ loop-again c = search any-next
 returns-2 : tie.Need-returns-2 Inv-loop μ-loop
 returns-2 c = search any-none
 
-pub group-at-spec : {M : Type 1} → statement M
-group-at-spec =
+pub any-on-first-spec : {M : Type 1} → statement M
+any-on-first-spec =
     tie.close
     (tie.spec
     Inv-loop
@@ -50,7 +50,7 @@ group-at-spec =
     groups-len-requires
     loop-holds
     nth-group-requires
-    sits-at-requires
+    on-first-requires
     returns
     add-i
     loop-less
