@@ -58,7 +58,7 @@ on-carbocycle x l e = rw e
 
 -- its lists are lent as bs and rs
 module _ (x : Drawn) where
-  clashes-as : (r : Role) (d : Chain) → Draws r d x
+  pub clashes-as : (r : Role) (d : Chain) → Draws r d x
       → clashes r d
       ≡ anyTwo sameBond (bondsDrawn x) || anyOf (epoxideOn (bondsDrawn x)) (ringsDrawn x) || anyOf smallRing (ringsDrawn x)
       || anyTwo sameRing (ringsDrawn x)

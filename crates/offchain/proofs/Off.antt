@@ -92,7 +92,7 @@ some-float (g ∷ gs) h = refl
 
 -- its lists are lent as bs, gs, rs and fs
 module _ (x : Drawn) where
-  off-as : (r : Role) (d : Chain) → Draws r d x
+  pub off-as : (r : Role) (d : Chain) → Draws r d x
       → offChain r d
       ≡ anyOf (doubleOff (x .first) (x .carbon)) (bondsDrawn x) || anyOf (groupOff (x .first) (x .carbon)) (groupsDrawn x)
       || anyOf (ringOff (x .first) (x .acyl)) (ringsDrawn x)

@@ -9,7 +9,7 @@ use mathlib.Core.List.{List, [], _∷_, map}
 use lib.Dec.{eqb, ltb, leb}
 use lib.ListN.{length, take, drop, getD, length-take, length-drop, length-map, drop-of-length-le, List·getD-map}
 use lib.Seq.{drop-cons, getD-take, getD-drop}
-use borrow.Author.Tests.{ltb-true, leb-true, lt-ltb, le-ltb, le-leb, lt-leb, ne-eqb, eq-eqb, not-true, not-false}
+use borrow.Author.Tests.{ltb-true, leb-true, lt-ltb, le-ltb, le-leb, lt-leb, ne-eqb, not-true, not-false}
 use Rattle.record.specs.declared.ChainPrefix.{ChainPrefix}
 use Rattle.record.specs.declared.Bridge.the-variants.{Epoxide, Carbocycle}
 use Rattle.record.specs.declared.DbPos.{DbPos}
@@ -23,6 +23,8 @@ use Rattle.chain.specs.Lists.{anyOf, anyTwo, isEmpty}
 use Rattle.chain.specs.Features.{firstDrawn, isAcyl}
 use Rattle.chain.specs.Refusals.{isEpoxide, doubleOff, groupOff, ringOff, offChain, sameBond, epoxideOn, smallRing, sameRing, clashes, placeRefusal}
 use Rattle.drawable.specs.Drawn.{Drawn, bondsIn, groupsIn, ringsIn, bondsPart, groupsPart, ringsPart, bondsDrawn, groupsDrawn, ringsDrawn, Draws, Says}
+use Rattle.offchain.proofs.Off.{off-as}
+use Rattle.clash.proofs.Clashes.{clashes-as}
 use Rattle.refusals.specs.Rising.{Only, bondsRise, ringPast, ringsRise}
 
 pub only-false : (u : Bool) → Only false u
@@ -217,28 +219,13 @@ rings-apart m (x ∷ l) e =
 -- ---- the whole chain
 
 module _ (x : Drawn) where
-  off-as : (r : Role) (d : Chain) → Draws r d x
-      → offChain r d
-      ≡ anyOf (doubleOff (x .first) (x .carbon)) (bondsDrawn x) || anyOf (groupOff (x .first) (x .carbon)) (groupsDrawn x)
-      || anyOf (ringOff (x .first) (x .acyl)) (ringsDrawn x)
-      || (eqb (x .carbon) 0 && not (isEmpty (d .groups))) || x .«ether_base»
-  unfolding offChain
-  off-as r d w = rw (w .first, w .carbon, w .acyl, w .ether, w .bonds, w .groups, w .rings)
-
-  clashes-as : (r : Role) (d : Chain) → Draws r d x
-      → clashes r d
-      ≡ anyTwo sameBond (bondsDrawn x) || anyOf (epoxideOn (bondsDrawn x)) (ringsDrawn x) || anyOf smallRing (ringsDrawn x)
-      || anyTwo sameRing (ringsDrawn x)
-  unfolding clashes
-  clashes-as r d w = rw (w .bonds, w .rings)
-
   pub place-ether : x .«ether_base» ≡ true → Says x 32 placeRefusal
   unfolding placeRefusal
   place-ether h =
       record {
         is = λ r d w.
             let off : offChain r d ≡ true =
-            off-as r d w
+            off-as x r d w
             ∙ rw h (or-true (anyOf (doubleOff (x .first) (x .carbon)) (bondsDrawn x) || anyOf (groupOff (x .first) (x .carbon)) (groupsDrawn x) || anyOf (ringOff (x .first) (x .acyl)) (ringsDrawn x) || (eqb (x .carbon) 0 && not (isEmpty (d .groups))))) in
             rw off;
       }
@@ -271,10 +258,10 @@ module _ (x : Drawn) where
             let on : anyOf (ringOff (x .first) (x .acyl)) (ringsDrawn x) ≡ false =
             rings-on (x .first) m (x .acyl) (ringsDrawn x) (rw z (bound-fits r d w (x .acyl) refl)) (λ e. rw z (past-carbonyl (x .acyl) e)) rings in
             let off : offChain r d ≡ false =
-            off-as r d w
+            off-as x r d w
             ∙ rw (rise-on (x .first) (x .carbon) (x .first - 1) (bondsDrawn x) (omega arith) bonds, groups, on, ne-eqb (x .carbon) 0 (omega arith), h) in
             let clash : clashes r d ≡ false =
-            clashes-as r d w
+            clashes-as x r d w
             ∙ rw (rise-apart (x .carbon) (x .first - 1) (bondsDrawn x) bonds, rings-plain (bondsDrawn x) m (ringsDrawn x) rings, rings-large m (ringsDrawn x) rings, rings-apart m (ringsDrawn x) rings) in
             rw (off, clash);
       }
