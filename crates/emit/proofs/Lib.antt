@@ -1,2 +1,3 @@
+mod Copied
 pub use Rattle.store.proofs.Laws
 pub mod ReadsBack

@@ -2,6 +2,8 @@
 // same functions measure on an empty part and write on the real one. Texts and lists of numbers are written here; one element as `store`
 // and a number's digits as `figures` has it. Each is defined for every slice, place and text; the place stays at the largest number that it
 // can hold. What a slice holds afterwards is said by `Written` of Text.antt of `store`.
+ghost use Prim.Native.Nat.{_+_, _≤_};
+ghost use lib.ListN.{length};
 ghost use Rattle.store.specs.Text.{Written};
 pub use figures::put_number;
 pub use store::put_byte;
@@ -20,8 +22,8 @@ pub fn put_indices(out: &mut [u16], at: usize, numbers: &[u16]) -> usize
     p
 }
 
-// A text.
-pub fn put_text(out: &mut [u8], at: usize, text: &[u8]) -> usize
+// A text, byte by byte, where some may fall past the end.
+fn put_each(out: &mut [u8], at: usize, text: &[u8]) -> usize
     ensures { λ r. ⌜ Written (now (out .entry)) at (now (text .entry)) (now (out .exit)) r ⌝ }
 {
     let mut p = at;
@@ -31,4 +33,30 @@ pub fn put_text(out: &mut [u8], at: usize, text: &[u8]) -> usize
         i += 1;
     }
     p
+}
+
+// A text for which there is room.
+fn copy_whole(out: &mut [u8], at: usize, text: &[u8]) -> usize
+    requires { ⌜ at + length (now text) ≤ length (now out) ⌝ }
+    ensures { λ r. ⌜ Written (now (out .entry)) at (now (text .entry)) (now (out .exit)) r ⌝ }
+{
+    let mut i = 0;
+    while i < text.len() {
+        out[at + i] = text[i];
+        i += 1;
+    }
+    at + i
+}
+
+// A text: one look at the end where there is room for all of it.
+pub fn put_text(out: &mut [u8], at: usize, text: &[u8]) -> usize
+    ensures { λ r. ⌜ Written (now (out .entry)) at (now (text .entry)) (now (out .exit)) r ⌝ }
+{
+    if out.len() < at {
+        return put_each(out, at, text);
+    }
+    if out.len() - at < text.len() {
+        return put_each(out, at, text);
+    }
+    copy_whole(out, at, text)
 }

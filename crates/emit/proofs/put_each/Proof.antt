@@ -3,8 +3,8 @@ use native.Mathlib.Omega.{arith}
 use lib.ListN.{length, take}
 use Rattle.store.specs.Text.{Written}
 use Rattle.store.proofs.Laws.{written-nil, written-byte, written-whole, written-length}
-use Rattle.emit.proofs.put_text.Statement.{statement}
-use Rattle.emit.proofs.put_text.Tie as tie
+use Rattle.emit.proofs.put_each.Statement.{statement}
+use Rattle.emit.proofs.put_each.Tie as tie
 
 abbrev Inv-loop : tie.InvT-loop
 Inv-loop out₀ at text p₀ i₀ out p i = (i ≤ length text) × Written out₀ at (take i text) out p
@@ -36,8 +36,8 @@ same-length c = search written-length
 returns : tie.Need-returns Inv-loop μ-loop
 returns c = search written-whole
 
-pub put-text-spec : {M : Type 1} → statement M
-put-text-spec =
+pub put-each-spec : {M : Type 1} → statement M
+put-each-spec =
     tie.close
     (tie.spec
     Inv-loop
