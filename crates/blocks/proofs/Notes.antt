@@ -73,7 +73,7 @@ module _ (swap : Bool) (sited n : ℕ) (e : n ≡ labelledOf swap sited) where
       go true false = refl
       go true true = h
 
-  labelled-are : (l : List Site) → sited ≤ 4 → length l ≡ 4 → labelsOf (take n l) ≡ labels swap (labelsOf (take sited l))
+  pub labelled-are : (l : List Site) → sited ≤ 4 → length l ≡ 4 → labelsOf (take n l) ≡ labels swap (labelsOf (take sited l))
   unfolding labels labelsOf
   labelled-are l h k = rw (labels-length l sited h k, e) (go swap (ltb 1 sited))
     where

@@ -1,11 +1,13 @@
 -- What a line has after its text. 01, The line and its reading: "Blocks: sn labels .., all Sg, all m; then `swappable(..)` and
 -- `constrain(..)` joined by `;`. No block: bare text." Assumes nothing.
 use Prim.Native.Nat.{ℕ}
+use mathlib.Core.Path.{_≡_}
 use mathlib.Core.Bool.{Bool, true, not, cond}
-use mathlib.Core.List.{List, _++_}
+use mathlib.Core.List.{List, [], _∷_, _++_}
 use lib.Dec.{ltb}
 use Rattle.reading.specs.Molecule.{At, Sum}
 use Rattle.reading.specs.Show.{blockTexts, trailerTexts}
+use Rattle.placed.specs.declared.Placed.{Placed}
 use Rattle.shown.specs.Chained.{shownBlocks, shownParts, stillFirst, blocksEnd}
 
 -- texts with the bar after them, where there is one
@@ -20,3 +22,12 @@ notesText ls marks sites ss = barred (blockTexts ls marks sites) ++ shownParts t
 -- how many of some sites have a label: all or none
 abbrev pub labelledOf : Bool → ℕ → ℕ
 labelledOf swap sited = cond swap (cond (ltb 1 sited) sited 0) 0
+
+-- no chain has a double bond without a position, or a group that floats
+unfoldable pub Bare : List Placed → Type 0
+Bare [] = Unit {0}
+Bare (p ∷ ps) = (p .unlocated ≡ 0) × (p .«float_count» ≡ 0) × Bare ps
+
+-- these are such chains, where r says so
+pub record Plain (ps : List Placed) (r : Bool) : Type 0 where
+  pub told : r ≡ true → Bare ps

@@ -6,6 +6,7 @@ use shown::MAX_SITES;
 use shown::Site;
 ghost use mathlib.Core.Path.{_≡_};
 ghost use mathlib.Core.Bool.{true};
+ghost use mathlib.Core.List.{[]};
 ghost use Prim.Native.Nat.{_≤_};
 ghost use lib.ListN.{take};
 ghost use Rattle.emit.specs.Text.{Written};
@@ -17,7 +18,7 @@ ghost use Rattle.placed.specs.Notes.{chainsIn};
 ghost use Rattle.chain_marks.specs.Put.{startAt, PutBlocks, PutParts};
 ghost use Rattle.chain_marks.specs.Marks.{marksIn, sumsIn};
 ghost use Rattle.chain_sites.specs.Sites.{siteListsIn};
-ghost use Rattle.blocks.specs.Notes.{barred, notesText, labelledOf};
+ghost use Rattle.blocks.specs.Notes.{barred, notesText, labelledOf, Plain};
 
 // How many sites have a label: all where they may be exchanged and there are two or more, else none.
 fn labelled(swap: bool, sited: usize) -> usize
@@ -56,6 +57,40 @@ fn put_swaps(out: &mut [u8], at: usize, sites: [Site; MAX_SITES], n: usize) -> N
         at: next,
         first: n == 0,
     }
+}
+
+// Whether no chain has marks, site lists or a sum, as in most lines.
+fn plain(notes: &[u32; NOTE_ROOM], count: usize) -> bool
+    ensures { λ r. ⌜ Plain (take count (chainsIn (now (notes .entry)))) r ⌝ }
+{
+    let n = placed::in_places(count);
+    let mut i = 0;
+    while i < n {
+        let p = placed::placed_at(notes, i);
+        if 0 < p.unlocated {
+            return false;
+        }
+        if 0 < p.float_count {
+            return false;
+        }
+        i += 1;
+    }
+    true
+}
+
+// What such a line has after its text: labels, where there are some.
+fn put_plain(out: &mut [u8], at: usize, sites: [Site; MAX_SITES], n: usize) -> usize
+    requires { ⌜ n ≤ 4 ⌝ }
+    requires { ⌜ Digits (take n sites) ⌝ }
+    ensures { λ r. ⌜ Written (now (out .entry)) at (notesText (labelsOf (take n sites)) [] [] []) (now (out .exit)) r ⌝ }
+{
+    if n == 0 {
+        return at;
+    }
+    let a = put_labels(out, at, sites, n);
+    let end = shown::put_blocks_end(out, a.at, !a.first);
+    let b = put_swaps(out, end, sites, n);
+    b.at
 }
 
 // All blocks.
@@ -132,6 +167,9 @@ pub fn put_notes(
     ensures { λ r. ⌜ Written (now (out .entry)) at (notesText (labels swap (labelsOf (take sited sites))) (marksIn (take count (chainsIn (now (notes .entry))))) (siteListsIn (take count (chainsIn (now (notes .entry)))) (now (numbers .entry)) (now (rows .entry))) (sumsIn (take count (chainsIn (now (notes .entry)))))) (now (out .exit)) r ⌝ }
 {
     let n = labelled(swap, sited);
+    if plain(notes, count) {
+        return put_plain(out, at, sites, n);
+    }
     let next = put_blocks(out, at, sites, n, numbers, rows, notes, count);
     put_trailer(out, next, sites, n, notes, count)
 }
