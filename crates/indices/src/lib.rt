@@ -55,7 +55,7 @@ pub fn write_indices(
     let mut q = 0;
     let mut i = 0;
     while i < n {
-        let k = items[i];
+        let k = items[i] as usize;
         if k < MAX_CHAINS {
             let p = placed::placed_at(notes, k);
             let from = start_of(notes, k);

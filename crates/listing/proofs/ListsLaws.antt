@@ -44,6 +44,23 @@ pub lists-first : (ps : List Placed) → Filled noList (listsAt ps []) 0 (replic
 unfolding listsAt picked gathered
 lists-first ps = filled-none noList noList
 
+-- ---- the list of one chain
+
+pub list-here : (ps : List Placed) (k : ℕ) (p d : Placed) → length ps ≡ 4 → k < 4 → p ≡ getD ps k d
+    → Filled noList (listsAt ps (k ∷ [])) 1 (record { sn = p .sn; count = p .count } ∷ noList ∷ noList ∷ noList ∷ [])
+list-here ps k p d m h e = lists-more ps (k ∷ 0 ∷ 0 ∷ 0 ∷ []) 0 1 0 (replicate 4 noList) p d m refl (omega arith) (omega arith) h (omega arith) e (lists-first ps)
+
+pub list-past : (ps : List Placed) (k : ℕ) → length ps ≡ 4 → 4 ≤ k → Filled noList (listsAt ps (k ∷ [])) 0 (replicate 4 noList)
+list-past ps k m h = lists-past ps (k ∷ 0 ∷ 0 ∷ 0 ∷ []) 0 1 0 (replicate 4 noList) m refl (omega arith) (omega arith) h (lists-first ps)
+
+first-alone : (l : List ℕ) → 0 < length l → take 1 l ≡ getD l 0 0 ∷ []
+first-alone [] h = absurd (omega arith)
+first-alone (x ∷ l) h = refl
+
+pub list-alone : (ps : List Placed) (l : List ℕ) (n count q : ℕ) (xs : List Listed) → length l ≡ 4 → n ≡ min count 4 → n ≡ 1 → Filled noList (listsAt ps (getD l 0 0 ∷ [])) q xs
+    → Filled noList (listsAt ps (take count l)) q xs
+list-alone ps l n count q xs k e f h = rw (← take-places l 4 count n k e, f, first-alone l (omega arith)) h
+
 -- ---- their indices together
 
 counts-append : (a b : List Listed) → countsOf (a ++ b) ≡ countsOf a + countsOf b

@@ -8,6 +8,7 @@ pub use rising::by_sn;
 use shown::MAX_SITES;
 use shown::Site;
 ghost use mathlib.Core.Path.{_≡_};
+ghost use mathlib.Core.List.{[], _∷_};
 ghost use lib.ListN.{take};
 ghost use Rattle.placed.specs.Notes.{chainsIn};
 ghost use Rattle.rising.specs.Order.{placesIn};
@@ -44,7 +45,7 @@ pub fn sites_by_sn(notes: &[u32; NOTE_ROOM], order: Rising) -> Sites
     let mut count = 0;
     let mut i = 0;
     while i < n {
-        let k = items[i];
+        let k = items[i] as usize;
         if k < MAX_CHAINS {
             let p = placed::placed_at(notes, k);
             let role = p.role;
@@ -83,18 +84,39 @@ pub struct Lists {
     pub items: [Listed; MAX_CHAINS],
 }
 
-// The lists of the chains at some places.
+// The list of the chain at a place.
+fn one_list(notes: &[u32; NOTE_ROOM], k: usize) -> Lists
+    ensures { λ r. ⌜ ListsHeld (listsAt (chainsIn (now (notes .entry))) (k ∷ [])) r ⌝ }
+{
+    let none = Listed { sn: 0, count: 0 };
+    if k < MAX_CHAINS {
+        let p = placed::placed_at(notes, k);
+        let list = Listed {
+            sn: p.sn,
+            count: p.count,
+        };
+        let items = [list, none, none, none];
+        return Lists { count: 1, items };
+    }
+    let items = [none; MAX_CHAINS];
+    Lists { count: 0, items }
+}
+
+// The lists of the chains at some places. Many a line has one chain, for which nothing is gone through.
 pub fn lists_by_sn(notes: &[u32; NOTE_ROOM], order: Rising) -> Lists
     ensures { λ r. ⌜ ListsHeld (listsAt (chainsIn (now (notes .entry))) (placesIn order)) r ⌝ }
 {
     let n = placed::in_places(order.count);
     let items = order.items;
+    if n == 1 {
+        return one_list(notes, items[0] as usize);
+    }
     let none = Listed { sn: 0, count: 0 };
     let mut lists = [none; MAX_CHAINS];
     let mut count = 0;
     let mut i = 0;
     while i < n {
-        let k = items[i];
+        let k = items[i] as usize;
         if k < MAX_CHAINS {
             let p = placed::placed_at(notes, k);
             let list = Listed {

@@ -10,7 +10,7 @@ use lib.ListN.{length, take, drop, getD, length-take}
 use borrow.Author.Tests.{eq-eqb, ne-eqb}
 use Rattle.placed.specs.declared.Placed.{Placed}
 use Rattle.rising.specs.declared.Rising.{Rising}
-use Rattle.rising.specs.Order.{snsOf, placesOf, placesFrom, Falling, Falls, InOrder}
+use Rattle.rising.specs.Order.{snsOf, placesOf, placesFrom, Falling, Falls, fromLast, InOrder}
 use Rattle.rising.proofs.OrderLaws.{sns-length, take-behind, drop-past, in-places}
 
 -- ---- the places of numbers that fall
@@ -107,20 +107,33 @@ falls-all l n i last h few f =
 
 -- ---- in an array
 
-down-items : (n a b c : ℕ) → n ≤ 4 → a ≡ n - 1 → b ≡ n - 2 → c ≡ n - 3 → take n (a ∷ b ∷ c ∷ 0 ∷ []) ≡ downTo 0 n
-unfolding downTo
-down-items zero a b c h e f g = refl
-down-items (suc zero) a b c h e f g = rw e
-down-items (suc (suc zero)) a b c h e f g = rw (e, f)
-down-items (suc (suc (suc zero))) a b c h e f g = rw (e, f, g)
-down-items (suc (suc (suc (suc zero)))) a b c h e f g = rw (e, f, g)
-down-items (suc (suc (suc (suc (suc n))))) a b c h e f g = absurd (omega arith)
+pub last-two : (n : ℕ) → n ≡ 2 → record { count = n; items = 1 ∷ 0 ∷ 0 ∷ 0 ∷ [] } ≡ fromLast n
+last-two n e = rw e
 
-pub falling-held : (l : List Placed) (count n a b c : ℕ) (t : Bool) → length l ≡ 4 → n ≡ min count 4 → t ≡ true → Falls (take n l) t → a ≡ n - 1 → b ≡ n - 2 → c ≡ n - 3
-    → InOrder (take count l) (record { count = n; items = a ∷ b ∷ c ∷ 0 ∷ [] })
-falling-held l count n a b c t k e y f ea eb ec =
+pub last-three : (n : ℕ) → n ≡ 3 → record { count = n; items = 2 ∷ 1 ∷ 0 ∷ 0 ∷ [] } ≡ fromLast n
+last-three n e = rw e
+
+pub last-four : (n : ℕ) → n ≡ 4 → record { count = n; items = 3 ∷ 2 ∷ 1 ∷ 0 ∷ [] } ≡ fromLast n
+last-four n e = rw e
+
+pub last-few : (n : ℕ) → n ≤ 4 → (n ≡ 2 → ⊥) → (n ≡ 3 → ⊥) → (n ≡ 4 → ⊥) → record { count = n; items = 0 ∷ 0 ∷ 0 ∷ 0 ∷ [] } ≡ fromLast n
+last-few zero h a b c = refl
+last-few (suc zero) h a b c = refl
+last-few (suc (suc n)) h a b c = absurd (omega arith)
+
+down-items : (n : ℕ) → n ≤ 4 → take n (fromLast n .items) ≡ downTo 0 n
+unfolding downTo
+down-items zero h = refl
+down-items (suc zero) h = refl
+down-items (suc (suc zero)) h = refl
+down-items (suc (suc (suc zero))) h = refl
+down-items (suc (suc (suc (suc zero)))) h = refl
+down-items (suc (suc (suc (suc (suc n))))) h = absurd (omega arith)
+
+pub falling-held : (l : List Placed) (count n : ℕ) (t : Bool) (r : Rising) → length l ≡ 4 → n ≡ min count 4 → t ≡ true → Falls (take n l) t → r ≡ fromLast n
+    → InOrder (take count l) r
+falling-held l count n t r k e y f er =
     let ns : List ℕ = snsOf (take n l) in
     let many : length ns ≡ n = omega (arith, sns-length (take n l), length-take n l) in
     let is : placesFrom 1 4 ns ≡ downTo 0 n = from-at 1 4 ns ∙ (falling-at 4 0 ns (f .told y) ∙ ap (downTo 0) many) in
-    in-places l count n (record { count = n; items = a ∷ b ∷ c ∷ 0 ∷ [] }) k e
-    (record { room = omega arith; held = down-items n a b c (omega arith) ea eb ec ∙ sym is })
+    rw er (in-places l count n (fromLast n) k e (record { room = omega arith; held = down-items n (omega arith) ∙ sym is }))

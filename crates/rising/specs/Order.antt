@@ -1,5 +1,5 @@
 -- The chains of a line by rising sn, as their places in it. Assumes nothing.
-use Prim.Native.Nat.{ℕ, zero, suc, _≤_, _<_}
+use Prim.Native.Nat.{ℕ, zero, suc, _-_, _≤_, _<_}
 use mathlib.Core.Path.{_≡_}
 use mathlib.Core.Bool.{Bool, true, cond}
 use mathlib.Core.List.{List, [], _∷_, _++_, map}
@@ -48,3 +48,7 @@ Falling m (n ∷ ns) = (n < m) × (1 ≤ n) × Falling n ns
 -- the sns of these chains fall, from 4 at most, where r says so
 pub record Falls (ps : List Placed) (r : Bool) : Type 0 where
   pub told : r ≡ true → Falling 5 (snsOf ps)
+
+-- n places from the last on; zero stands past them
+abbrev pub fromLast : ℕ → Rising
+fromLast n = record { count = n; items = (n - 1) ∷ (n - 2) ∷ (n - 3) ∷ 0 ∷ [] }

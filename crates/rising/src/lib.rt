@@ -5,16 +5,16 @@ use placed::MAX_CHAINS;
 use placed::NOTE_ROOM;
 ghost use mathlib.Core.Path.{_≡_};
 ghost use mathlib.Core.List.{[], _∷_};
-ghost use Prim.Native.Nat.{_-_, _≤_};
+ghost use Prim.Native.Nat.{_≤_};
 ghost use lib.ListN.{take};
 ghost use Rattle.placed.specs.Notes.{chainsIn};
 ghost use Rattle.rising.specs.Four.{Added};
-ghost use Rattle.rising.specs.Order.{snsOf, placesOf, Falls, InOrder};
+ghost use Rattle.rising.specs.Order.{snsOf, placesOf, Falls, fromLast, InOrder};
 
-// Places of chains with their count.
+// Places of chains with their count; small numbers, since they are handed on with each line.
 pub struct Rising {
     pub count: usize,
-    pub items: [usize; MAX_CHAINS],
+    pub items: [u8; MAX_CHAINS],
 }
 
 // ---- where the sns fall
@@ -41,14 +41,25 @@ fn falling(notes: &[u32; NOTE_ROOM], n: usize) -> bool
     true
 }
 
-// A place counted from behind.
-fn behind(n: usize, k: usize) -> usize
-    ensures { λ r. ⌜ r ≡ n - k ⌝ }
+// The places of n chains from the last on.
+fn backwards(n: usize) -> Rising
+    requires { ⌜ n ≤ 4 ⌝ }
+    ensures { λ r. ⌜ r ≡ fromLast n ⌝ }
 {
-    if k <= n {
-        return n - k;
+    if n == 2 {
+        let items = [1u8, 0, 0, 0];
+        return Rising { count: n, items };
     }
-    0
+    if n == 3 {
+        let items = [2u8, 1, 0, 0];
+        return Rising { count: n, items };
+    }
+    if n == 4 {
+        let items = [3u8, 2, 1, 0];
+        return Rising { count: n, items };
+    }
+    let items = [0u8; MAX_CHAINS];
+    Rising { count: n, items }
 }
 
 // ---- where they do not
@@ -69,7 +80,7 @@ fn sns_of(notes: &[u32; NOTE_ROOM], n: usize) -> [u8; MAX_CHAINS]
 }
 
 // One place more, while there is room.
-fn put(places: &mut [usize; MAX_CHAINS], at: usize, place: usize) -> usize
+fn put(places: &mut [u8; MAX_CHAINS], at: usize, place: u8) -> usize
     ensures { λ r. ⌜ Added 0 (place ∷ []) at (now (places .entry)) r (now (places .exit)) ⌝ }
 {
     if at < MAX_CHAINS {
@@ -81,7 +92,7 @@ fn put(places: &mut [usize; MAX_CHAINS], at: usize, place: usize) -> usize
 
 // The places of an sn among the first n sns.
 fn add_sn(
-    places: &mut [usize; MAX_CHAINS],
+    places: &mut [u8; MAX_CHAINS],
     at: usize,
     sns: [u8; MAX_CHAINS],
     n: usize,
@@ -94,7 +105,7 @@ fn add_sn(
     let mut i = 0;
     while i < n {
         if sns[i] == sn {
-            q = put(places, q, i);
+            q = put(places, q, i as u8);
             i += 1;
             continue;
         }
@@ -109,7 +120,7 @@ fn in_turn(notes: &[u32; NOTE_ROOM], n: usize) -> Rising
     ensures { λ r. ⌜ InOrder (take n (chainsIn (now (notes .entry)))) r ⌝ }
 {
     let sns = sns_of(notes, n);
-    let mut items = [0usize; MAX_CHAINS];
+    let mut items = [0u8; MAX_CHAINS];
     let a = add_sn(&mut items, 0, sns, n, 1);
     let b = add_sn(&mut items, a, sns, n, 2);
     let c = add_sn(&mut items, b, sns, n, 3);
@@ -125,11 +136,7 @@ pub fn by_sn(notes: &[u32; NOTE_ROOM], count: usize) -> Rising
 {
     let n = placed::in_places(count);
     if falling(notes, n) {
-        let a = behind(n, 1);
-        let b = behind(n, 2);
-        let c = behind(n, 3);
-        let items = [a, b, c, 0];
-        return Rising { count: n, items };
+        return backwards(n);
     }
     in_turn(notes, n)
 }

@@ -6,7 +6,7 @@ use Rattle.placed.specs.Notes.{chainsIn}
 use Rattle.placed.proofs.Notes.{length-chains}
 use Rattle.rising.specs.Four.{Filled}
 use Rattle.listing.specs.Lists.{noList, listsAt}
-use Rattle.listing.proofs.ListsLaws.{lists-first, lists-more, lists-past, lists-all}
+use Rattle.listing.proofs.ListsLaws.{lists-first, lists-more, lists-past, lists-all, list-alone}
 use borrow.Author.Needs.{needs}
 use Rattle.listing.proofs.lists_by_sn.Statement.{statement}
 use Rattle.listing.proofs.lists_by_sn.Tie as tie
@@ -20,14 +20,26 @@ abbrev μ-loop : tie.MeasureT-loop
 in-places-requires : tie.Need-in-places-requires Inv-loop μ-loop
 in-places-requires c κs = search needs
 
+array-read-one-list : tie.Need-array-read-one-list Inv-loop μ-loop
+array-read-one-list c = search needs
+
+cast-one-list : tie.Need-cast-one-list Inv-loop μ-loop
+cast-one-list c = search needs
+
+one-list-requires : tie.Need-one-list-requires Inv-loop μ-loop
+one-list-requires c κs = search needs
+
+returns : tie.Need-returns Inv-loop μ-loop
+returns c = list-alone _ _ _ _ _ _ (search needs) (c .before .before .before .in-places .ensures) (c .before .if1 .taken) (c .one-list .ensures)
+
 loop-holds : tie.Need-loop-holds Inv-loop μ-loop
 loop-holds c = (omega arith, omega arith, omega arith, search needs, search needs, lists-first _)
 
-mul-k : tie.Need-mul-k Inv-loop μ-loop
-mul-k c = search needs
-
 array-read-k : tie.Need-array-read-k Inv-loop μ-loop
 array-read-k c = search needs
+
+cast-k : tie.Need-cast-k Inv-loop μ-loop
+cast-k c = search needs
 
 placed-at-requires : tie.Need-placed-at-requires Inv-loop μ-loop
 placed-at-requires c κs = search needs
@@ -48,7 +60,7 @@ loop-less : tie.Need-loop-less Inv-loop μ-loop
 loop-less c = search needs
 
 loop-again : tie.Need-loop-again Inv-loop μ-loop
-loop-again c = let v = c .before .before .before .loop in (omega arith, omega arith, omega arith, search needs, search needs, lists-more _ _ _ _ _ _ _ _ (length-chains _) (v .inv .3) (v .inv .1) (c .before .before .loop-test .taken) (c .before .if1 .taken) (v .inv .2) (c .placed-at .ensures) (v .inv .5))
+loop-again c = let v = c .before .before .before .loop in (omega arith, omega arith, omega arith, search needs, search needs, lists-more _ _ _ _ _ _ _ _ (length-chains _) (v .inv .3) (v .inv .1) (c .before .before .loop-test .taken) (c .before .if2 .taken) (v .inv .2) (c .placed-at .ensures) (v .inv .5))
 
 add-i-2 : tie.Need-add-i-2 Inv-loop μ-loop
 add-i-2 c = search needs
@@ -59,8 +71,8 @@ loop-less-2 c = search needs
 loop-again-2 : tie.Need-loop-again-2 Inv-loop μ-loop
 loop-again-2 c = (omega arith, omega arith, omega arith, search needs, search needs, search (lists-past, length-chains))
 
-returns : tie.Need-returns Inv-loop μ-loop
-returns c = search lists-all
+returns-2 : tie.Need-returns-2 Inv-loop μ-loop
+returns-2 c = search lists-all
 
 pub lists-by-sn-spec : {M : Type 1} → statement M
 lists-by-sn-spec =
@@ -69,9 +81,13 @@ lists-by-sn-spec =
     Inv-loop
     μ-loop
     in-places-requires
+    array-read-one-list
+    cast-one-list
+    one-list-requires
+    returns
     loop-holds
-    mul-k
     array-read-k
+    cast-k
     placed-at-requires
     mul-lists
     array-set-from-lists
@@ -82,4 +98,4 @@ lists-by-sn-spec =
     add-i-2
     loop-less-2
     loop-again-2
-    returns)
+    returns-2)

@@ -21,6 +21,9 @@ loop-holds c = (omega arith, omega arith, search needs, sn-none _ _ _)
 array-read-if1 : tie.Need-array-read-if1 Inv-loop μ-loop
 array-read-if1 c = search needs
 
+cast-put : tie.Need-cast-put Inv-loop μ-loop
+cast-put c = search needs
+
 put-requires : tie.Need-put-requires Inv-loop μ-loop
 put-requires c κs = search needs
 
@@ -53,6 +56,7 @@ add-sn-spec =
     μ-loop
     loop-holds
     array-read-if1
+    cast-put
     put-requires
     add-i
     loop-less

@@ -11,14 +11,8 @@ in-places-requires c κs = search needs
 falling-requires : tie.Need-falling-requires
 falling-requires c κs = search needs
 
-behind-requires : tie.Need-behind-requires
-behind-requires c κs = search needs
-
-behind-requires-2 : tie.Need-behind-requires-2
-behind-requires-2 c κs = search needs
-
-behind-requires-3 : tie.Need-behind-requires-3
-behind-requires-3 c κs = search needs
+backwards-requires : tie.Need-backwards-requires
+backwards-requires c κs = search needs
 
 returns : tie.Need-returns
 returns c = search (falling-held, length-chains)
@@ -35,9 +29,7 @@ by-sn-spec =
     (tie.spec
     in-places-requires
     falling-requires
-    behind-requires
-    behind-requires-2
-    behind-requires-3
+    backwards-requires
     returns
     in-turn-requires
     returns-2)

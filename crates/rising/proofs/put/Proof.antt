@@ -3,9 +3,6 @@ use borrow.Author.Needs.{needs}
 use Rattle.rising.proofs.put.Statement.{statement}
 use Rattle.rising.proofs.put.Tie as tie
 
-mul-places : tie.Need-mul-places
-mul-places c = search needs
-
 element-write-places : tie.Need-element-write-places
 element-write-places c = search needs
 
@@ -19,4 +16,4 @@ returns-2 : tie.Need-returns-2
 returns-2 c = search added-full
 
 pub put-spec : {M : Type 1} → statement M
-put-spec = tie.close (tie.spec mul-places element-write-places add-result returns returns-2)
+put-spec = tie.close (tie.spec element-write-places add-result returns returns-2)

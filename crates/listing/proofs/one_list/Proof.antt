@@ -1,0 +1,17 @@
+use Rattle.placed.proofs.Notes.{length-chains}
+use Rattle.listing.proofs.ListsLaws.{list-here, list-past}
+use borrow.Author.Needs.{needs}
+use Rattle.listing.proofs.one_list.Statement.{statement}
+use Rattle.listing.proofs.one_list.Tie as tie
+
+placed-at-requires : tie.Need-placed-at-requires
+placed-at-requires c κs = search needs
+
+returns : tie.Need-returns
+returns c = search (list-here, length-chains)
+
+returns-2 : tie.Need-returns-2
+returns-2 c = search (list-past, length-chains)
+
+pub one-list-spec : {M : Type 1} → statement M
+one-list-spec = tie.close (tie.spec placed-at-requires returns returns-2)
