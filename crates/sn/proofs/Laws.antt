@@ -26,10 +26,9 @@ use Rattle.shown.proofs.Chained.{one-shown, none-shown}
 use Rattle.sn.specs.Gaps.{Gap, nearest}
 use Rattle.sn.proofs.Sites.{labels-snoc, take-counted, counted-none, counted-some}
 
-pub label-text : {xs ys zs : List ℕ} {a p q : ℕ} (sn : ℕ) → length xs < 2 ^ 64 → Written xs a (ascii "sn") ys p → Written ys p ((48 + sn) ∷ []) zs q
-    → Written xs a (showLabel sn) zs q
-unfolding showLabel
-label-text sn g w u = written-append g w u
+pub label-text : {xs ys : List ℕ} {a p : ℕ} (sn : ℕ) → Written xs a (115 ∷ 110 ∷ (48 + sn) ∷ []) ys p → Written xs a (showLabel sn) ys p
+unfolding showLabel ascii
+label-text sn w = w
 
 -- what the code has past an array's end
 abbrev noSite : Site
@@ -53,11 +52,11 @@ module _ (l : List Site) (k : length l ≡ 4) (count i : ℕ) (b : count ≤ 4) 
 
 -- ---- the label of an atom
 
-look-cons : (a : ℕ) (s : Site) (l : List Site) → look a (labelsOf (s ∷ l)) ≡ cond (eqb a (s .atom)) (some (s .sn)) (look a (labelsOf l))
+pub look-cons : (a : ℕ) (s : Site) (l : List Site) → look a (labelsOf (s ∷ l)) ≡ cond (eqb a (s .atom)) (some (s .sn)) (look a (labelsOf l))
 unfolding look labelsOf
 look-cons a s l = refl
 
-look-nil : (a : ℕ) → look a (labelsOf []) ≡ none
+pub look-nil : (a : ℕ) → look a (labelsOf []) ≡ none
 unfolding look labelsOf
 look-nil a = refl
 
@@ -109,7 +108,7 @@ first-entry : (ls : List (At ℕ)) → joined 59 (map showEntry (entries 1 0 ls)
 unfolding joined led entries
 first-entry ls = rw append-nil
 
-entries-closed : (n : ℕ) (ls : List (At ℕ)) → joined 59 (map showEntry (entries (suc n) 0 ls)) ≡ closed n ls ++ showEntry (look n ls)
+pub entries-closed : (n : ℕ) (ls : List (At ℕ)) → joined 59 (map showEntry (entries (suc n) 0 ls)) ≡ closed n ls ++ showEntry (look n ls)
 unfolding closed
 entries-closed zero ls = first-entry ls
 entries-closed (suc n) ls =
@@ -137,7 +136,7 @@ entries-some n ls h w = let e : n - 1 + 1 ≡ n = omega arith in rw e at w
 
 -- ---- atoms without a label: a `;` each
 
-shift : (n x : ℕ) → replicate n x ++ (x ∷ []) ≡ x ∷ replicate n x
+pub shift : (n x : ℕ) → replicate n x ++ (x ∷ []) ≡ x ∷ replicate n x
 shift zero x = refl
 shift (suc n) x = ap (λ (l : List ℕ). x ∷ l) (shift n x)
 
@@ -169,7 +168,7 @@ fill-all {a = a} p end n h k m e w =
     let y : p ≡ end = omega arith in
     rw (z, y) at w
 
-closed-gap : (a d : ℕ) (ls : List (At ℕ)) → ((j : ℕ) → a < j → j < suc (a + d) → look j ls ≡ none)
+pub closed-gap : (a d : ℕ) (ls : List (At ℕ)) → ((j : ℕ) → a < j → j < suc (a + d) → look j ls ≡ none)
     → closed (suc (a + d)) ls ≡ closed a ls ++ (showEntry (look a ls) ++ (59 ∷ replicate d 59))
 unfolding closed showEntry
 closed-gap a zero ls h = rw add-zero
@@ -248,10 +247,14 @@ module _ (l : List Site) (k : length l ≡ 4) (count i a last : ℕ) (b : count 
   pub next-all : (n : ℕ) → i ≤ count → count ≤ i → Gap a last (labelsOf (take i l)) n → Gap a last (labelsOf (take count l)) n
   next-all n h j g = let z : i ≡ count = omega arith in rw z at g
 
-pub block-text : {xs ys zs ws : List ℕ} {a p q r : ℕ} (ls : List (At ℕ)) (n : ℕ) → n ≡ upToLast ls → length xs < 2 ^ 64 → Written xs a (ascii "$") ys p
-    → Written ys p (joined 59 (map showEntry (entries n 0 ls))) zs q → Written zs q (ascii "$") ws r → Written xs a (labelBlock ls) ws r
+pub list-entries : {xs ys : List ℕ} {a p : ℕ} (ls : List (At ℕ)) (n : ℕ) → n ≡ upToLast ls → Written xs a (joined 59 (map showEntry (entries n 0 ls))) ys p
+    → Written xs a (joined 59 (map showEntry (entries (upToLast ls) 0 ls))) ys p
+list-entries ls n e w = rw e at w
+
+pub block-text : {xs ys zs ws : List ℕ} {a p q r : ℕ} (ls : List (At ℕ)) → length xs < 2 ^ 64 → Written xs a (ascii "$") ys p
+    → Written ys p (joined 59 (map showEntry (entries (upToLast ls) 0 ls))) zs q → Written zs q (ascii "$") ws r → Written xs a (labelBlock ls) ws r
 unfolding labelBlock
-block-text ls n e g w u v = rw append-assoc at (written-append g (written-append g w (rw e at u)) v)
+block-text ls g w u v = rw append-assoc at (written-append g (written-append g w u) v)
 
 -- ---- the sites that count
 

@@ -1,2 +1,3 @@
 pub mod Sites
 pub mod Laws
+pub mod FallingLaws

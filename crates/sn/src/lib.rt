@@ -10,6 +10,7 @@ ghost use Rattle.reading.specs.Show.{showLabel, showEntry, entries, upToLast, l
 ghost use Rattle.shown.specs.Chained.{shownBlocks};
 ghost use Rattle.shown.specs.Notes.{maxSites, labelsOf, Digits};
 ghost use Rattle.sn.specs.Gaps.{Gap, nearest};
+ghost use Rattle.sn.specs.Falling.{Falling, FallTold};
 use emit::put_byte;
 use emit::put_text;
 use shown::MAX_SITES;
@@ -21,8 +22,7 @@ pub fn put_label(out: &mut [u8], at: usize, sn: u8) -> usize
     requires { ⌜ sn < 10 ⌝ }
     ensures { λ r. ⌜ Written (now (out .entry)) at (showLabel sn) (now (out .exit)) r ⌝ }
 {
-    let p = put_text(out, at, b"sn");
-    put_byte(out, p, 48 + sn)
+    put_text(out, at, &[b's', b'n', 48 + sn])
 }
 
 // How many of the sites count: a larger number stands for all of them.
@@ -187,14 +187,65 @@ fn put_entries(out: &mut [u8], at: usize, sites: [Site; MAX_SITES], count: usize
     put_through(out, at, sites, count, n - 1)
 }
 
+// Whether the atoms of the first n sites fall, as they do in nearly every class: the site of the last sn stands first in the line.
+fn falls(sites: [Site; MAX_SITES], n: usize) -> bool
+    requires { ⌜ n ≤ maxSites ⌝ }
+    ensures { λ r. ⌜ FallTold (take n sites) r ⌝ }
+{
+    let mut last = 0;
+    let mut i = n;
+    while 0 < i {
+        i -= 1;
+        let site = sites[i];
+        let next = past(site.atom);
+        if next <= last {
+            return false;
+        }
+        last = next;
+    }
+    true
+}
+
+// The entries of sites whose atoms fall, from the last site on: the `;`s up to its atom, and its label.
+fn put_falling(out: &mut [u8], at: usize, sites: [Site; MAX_SITES], count: usize) -> usize
+    requires { ⌜ count ≤ maxSites ⌝ }
+    requires { ⌜ Digits (take count sites) ⌝ }
+    requires { ⌜ Falling (take count sites) ⌝ }
+    ensures { λ r. ⌜ Written (now (out .entry)) at (joined 59 (map showEntry (entries (upToLast (labelsOf (take count sites))) 0 (labelsOf (take count sites))))) (now (out .exit)) r ⌝ }
+{
+    let mut p = at;
+    let mut from = 0;
+    let mut i = count;
+    while 0 < i {
+        i -= 1;
+        let site = sites[i];
+        let q = put_gap(out, p, (site.atom - from) as usize);
+        p = put_label(out, q, site.sn);
+        from = site.atom;
+    }
+    p
+}
+
+// All entries up to the last atom with a label.
+fn put_list(out: &mut [u8], at: usize, sites: [Site; MAX_SITES], count: usize) -> usize
+    requires { ⌜ count ≤ maxSites ⌝ }
+    requires { ⌜ Digits (take count sites) ⌝ }
+    ensures { λ r. ⌜ Written (now (out .entry)) at (joined 59 (map showEntry (entries (upToLast (labelsOf (take count sites))) 0 (labelsOf (take count sites))))) (now (out .exit)) r ⌝ }
+{
+    if falls(sites, count) {
+        return put_falling(out, at, sites, count);
+    }
+    let n = label_end(sites, count);
+    put_entries(out, at, sites, count, n)
+}
+
 fn put_label_text(out: &mut [u8], at: usize, sites: [Site; MAX_SITES], count: usize) -> usize
     requires { ⌜ count ≤ maxSites ⌝ }
     requires { ⌜ Digits (take count sites) ⌝ }
     ensures { λ r. ⌜ Written (now (out .entry)) at (labelBlock (labelsOf (take count sites))) (now (out .exit)) r ⌝ }
 {
-    let n = label_end(sites, count);
     let p = put_byte(out, at, b'$');
-    let q = put_entries(out, p, sites, count, n);
+    let q = put_list(out, p, sites, count);
     put_byte(out, q, b'$')
 }
 

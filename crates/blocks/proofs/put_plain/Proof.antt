@@ -1,4 +1,3 @@
-use native.Mathlib.Omega.{arith}
 use Rattle.blocks.proofs.Bare.{plain-none, plain-put}
 use borrow.Author.Needs.{needs}
 use Rattle.blocks.proofs.put_plain.Statement.{statement}

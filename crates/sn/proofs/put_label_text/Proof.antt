@@ -5,14 +5,11 @@ use borrow.Author.Needs.{needs}
 use Rattle.sn.proofs.put_label_text.Statement.{statement}
 use Rattle.sn.proofs.put_label_text.Tie as tie
 
-label-end-requires : tie.Need-label-end-requires
-label-end-requires c κs = search needs
-
 put-byte-requires : tie.Need-put-byte-requires
 put-byte-requires c κs = search needs
 
-put-entries-requires : tie.Need-put-entries-requires
-put-entries-requires c κs = search needs
+put-list-requires : tie.Need-put-list-requires
+put-list-requires c κs = search needs
 
 put-byte-requires-2 : tie.Need-put-byte-requires-2
 put-byte-requires-2 c κs = search needs
@@ -27,10 +24,4 @@ returns c = search (block-text, arith)
 pub put-label-text-spec : {M : Type 1} → statement M
 put-label-text-spec =
     tie.close
-    (tie.spec
-    label-end-requires
-    put-byte-requires
-    put-entries-requires
-    put-byte-requires-2
-    same-length
-    returns)
+    (tie.spec put-byte-requires put-list-requires put-byte-requires-2 same-length returns)
