@@ -1,33 +1,14 @@
-// A text, or indices, that were made elsewhere, copied to a place of a lent slice. What `emit` does one by one with a look at the end, without
-// that look where there is room for all of it.
+// A text, or indices, that were made elsewhere, copied to a place of a lent slice. A text goes as `emit` writes it; indices go without the
+// look at the end that `emit` has for each, where there is room for all of them.
 ghost use Prim.Native.Nat.{_+_, _≤_};
 ghost use lib.ListN.{length};
 ghost use Rattle.emit.specs.Text.{Written};
-
-// A text for which there is room.
-fn copy_whole(out: &mut [u8], at: usize, text: &[u8]) -> usize
-    requires { ⌜ at + length (now text) ≤ length (now out) ⌝ }
-    ensures { λ r. ⌜ Written (now (out .entry)) at (now (text .entry)) (now (out .exit)) r ⌝ }
-{
-    let mut i = 0;
-    while i < text.len() {
-        out[at + i] = text[i];
-        i += 1;
-    }
-    at + i
-}
 
 // A text at a place, as far as there is room.
 pub fn copy_at(out: &mut [u8], at: usize, text: &[u8]) -> usize
     ensures { λ r. ⌜ Written (now (out .entry)) at (now (text .entry)) (now (out .exit)) r ⌝ }
 {
-    if out.len() < at {
-        return emit::put_text(out, at, text);
-    }
-    if out.len() - at < text.len() {
-        return emit::put_text(out, at, text);
-    }
-    copy_whole(out, at, text)
+    emit::put_text(out, at, text)
 }
 
 // A text at the start, as far as there is room.

@@ -1,9 +1,9 @@
--- Nothing of a text, and a byte more of it, copied.
+-- Nothing of a text or of numbers, and an element more of them, copied.
 -- Assumes nothing.
 use Prim.Native.Nat.{ℕ, _+_, _^_, _≤_, _<_}
 use native.Mathlib.Nat.{add-zero}
 use native.Mathlib.Omega.{arith}
-use mathlib.Core.Path.{_≡_, refl}
+use mathlib.Core.Path.{refl}
 use mathlib.Core.List.{List, []}
 use lib.ListN.{length, take, getD, set}
 use Rattle.store.specs.Text.{Written}

@@ -1,3 +1,3 @@
-mod Copied
+pub mod Copied
 pub use Rattle.store.proofs.Laws
 pub mod ReadsBack

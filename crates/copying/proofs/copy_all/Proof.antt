@@ -5,7 +5,7 @@ use mathlib.Core.Path.{_≡_, refl}
 use lib.ListN.{length, take, length-set}
 use Rattle.emit.specs.Text.{Written}
 use Rattle.emit.proofs.Laws.{written-whole, written-length}
-use Rattle.copying.proofs.Laws.{copied-none, copied-byte}
+use Rattle.emit.proofs.Copied.{copied-none, copied-byte}
 use Rattle.copying.proofs.copy_all.Statement.{statement}
 use Rattle.copying.proofs.copy_all.Tie as tie
 
