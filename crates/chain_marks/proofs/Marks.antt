@@ -6,7 +6,7 @@ use mathlib.Core.Bool.{Bool, false, cond}
 use mathlib.Core.List.{List, _++_, map, map-append}
 use lib.Dec.{eqb}
 use lib.ListN.{length, take, getD}
-use borrow.Author.Tests.{eq-eqb, ne-eqb}
+use borrow.Author.Tests.{ne-eqb}
 use Rattle.emit.specs.Text.{Written}
 use Rattle.reading.specs.Ascii.{ascii}
 use Rattle.reading.specs.Show.{showMark, showSum}
@@ -23,30 +23,35 @@ use Rattle.placed.proofs.Laws.{gathered-more}
 use Rattle.chain_marks.specs.declared.Next.{Next}
 use Rattle.chain_marks.specs.Put.{PutBlocks, PutParts}
 use Rattle.chain_marks.specs.Marks.{marksOf, sumsOf, marksIn, sumsIn}
-use Rattle.chain_marks.proofs.Put.{put-then}
-
--- whether the next is still the first
-pub first-none : (n : ℕ) (first : Bool) → n ≡ 0 → first ≡ cond (eqb n 0) first false
-first-none n first e = rw (eq-eqb n 0 e)
-
-pub first-some : (n : ℕ) (first : Bool) → (n ≡ 0 → ⊥) → false ≡ cond (eqb n 0) first false
-first-some n first h = rw (ne-eqb n 0 h)
+use Rattle.chain_marks.proofs.Put.{put-none, put-then}
 
 -- ---- a chain
 
-pub marks-put : (p : Placed) (a : Next) {xs ys : List ℕ} {f v q : ℕ} {later : Bool} → f ≡ inRoom (p .first) → v ≡ inRoom (p .variable)
-    → Written xs (a .at) (shown (ascii " |") (ascii ",") (a .first) (map showMark (markList (f + p .flexible) v (p .unlocated)))) ys q
-    → later ≡ cond (eqb (p .unlocated) 0) (a .first) false → PutBlocks (map showMark (marksOf p)) xs a ys (record { at = q; first = later })
-unfolding marksOf
-marks-put p a {f = f} {v} ef ev w e =
-    record { text = rw (← ef, ← ev) w; first = e ∙ sym (still-marks (a .first) (inRoom (p .first) + p .flexible) (inRoom (p .variable)) (p .unlocated)) }
+-- after some text the next is not the first
+not-first : (n : ℕ) (first : Bool) → (n ≡ 0 → ⊥) → false ≡ cond (eqb n 0) first false
+not-first n first h = rw (ne-eqb n 0 h)
 
-pub sum-put : (p : Placed) (a : Next) {xs ys : List ℕ} {v q : ℕ} {later : Bool} → v ≡ inRoom (p .variable)
+pub marks-none : (p : Placed) (a : Next) (xs : List ℕ) → p .unlocated ≡ 0 → a .at < 2 ^ 64 → PutBlocks (map showMark (marksOf p)) xs a xs a
+unfolding marksOf markList
+marks-none p a xs e h = rw e (put-none _ _ xs a h)
+
+pub marks-put : (p : Placed) (a : Next) {xs ys : List ℕ} {f v q : ℕ} → (p .unlocated ≡ 0 → ⊥) → f ≡ inRoom (p .first) → v ≡ inRoom (p .variable)
+    → Written xs (a .at) (shown (ascii " |") (ascii ",") (a .first) (map showMark (markList (f + p .flexible) v (p .unlocated)))) ys q
+    → PutBlocks (map showMark (marksOf p)) xs a ys (record { at = q; first = false })
+unfolding marksOf
+marks-put p a {f = f} {v} h ef ev w =
+    record { text = rw (← ef, ← ev) w; first = not-first (p .unlocated) (a .first) h ∙ sym (still-marks (a .first) (inRoom (p .first) + p .flexible) (inRoom (p .variable)) (p .unlocated)) }
+
+pub sum-none : (p : Placed) (a : Next) (xs : List ℕ) → p .unlocated ≡ 0 → a .at < 2 ^ 64 → PutParts (map showSum (sumsOf p)) xs a xs a
+unfolding sumsOf sumList
+sum-none p a xs e h = rw e (put-none _ _ xs a h)
+
+pub sum-put : (p : Placed) (a : Next) {xs ys : List ℕ} {v q : ℕ} → (p .unlocated ≡ 0 → ⊥) → v ≡ inRoom (p .variable)
     → Written xs (a .at) (shown (ascii " ") (ascii ";") (a .first) (map showSum (sumList v (p .unlocated) (p .total)))) ys q
-    → later ≡ cond (eqb (p .unlocated) 0) (a .first) false → PutParts (map showSum (sumsOf p)) xs a ys (record { at = q; first = later })
+    → PutParts (map showSum (sumsOf p)) xs a ys (record { at = q; first = false })
 unfolding sumsOf
-sum-put p a {v = v} ev w e =
-    record { text = rw (← ev) w; first = e ∙ sym (still-sums (a .first) (inRoom (p .variable)) (p .unlocated) (p .total)) }
+sum-put p a {v = v} h ev w =
+    record { text = rw (← ev) w; first = not-first (p .unlocated) (a .first) h ∙ sym (still-sums (a .first) (inRoom (p .variable)) (p .unlocated) (p .total)) }
 
 -- ---- all chains
 

@@ -4,10 +4,7 @@ use placed::NOTE_ROOM;
 use placed::Placed;
 use placed::in_places;
 use placed::in_room;
-ghost use mathlib.Core.Path.{_≡_};
-ghost use mathlib.Core.Bool.{cond, false};
 ghost use mathlib.Core.List.{map};
-ghost use lib.Dec.{eqb};
 ghost use lib.ListN.{take};
 ghost use Rattle.reading.specs.Show.{showMark, showSum};
 ghost use Rattle.placed.specs.Notes.{chainsIn};
@@ -20,29 +17,19 @@ pub struct Next {
     pub first: bool,
 }
 
-// Whether the next is still the first after the marks or the sum of n double bonds without a position.
-fn still_first(first: bool, n: u16) -> bool
-    ensures { λ r. ⌜ r ≡ cond (eqb n 0) first false ⌝ }
-{
-    if n == 0 {
-        return first;
-    }
-    false
-}
-
-// The marks of a chain.
+// The marks of a chain, where it has double bonds without a position.
 fn put_chain_marks(out: &mut [u8], next: Next, p: Placed) -> Next
     ensures { λ r. ⌜ PutBlocks (map showMark (marksOf p)) (now (out .entry)) next (now (out .exit)) r ⌝ }
 {
     let n = p.unlocated;
+    if n == 0 {
+        return next;
+    }
     let first = next.first;
     let atom = in_room(p.first) + p.flexible as u32;
     let v = in_room(p.variable);
     let at = marks::put_marks(out, next.at, first, atom, v, n as u32);
-    Next {
-        at,
-        first: still_first(first, n),
-    }
+    Next { at, first: false }
 }
 
 // The marks of all chains.
@@ -60,18 +47,18 @@ pub fn put_all_marks(out: &mut [u8], next: Next, notes: &[u32; NOTE_ROOM], count
     b
 }
 
-// The sum of a chain.
+// The sum of a chain, where it has such bonds.
 fn put_chain_sum(out: &mut [u8], next: Next, p: Placed) -> Next
     ensures { λ r. ⌜ PutParts (map showSum (sumsOf p)) (now (out .entry)) next (now (out .exit)) r ⌝ }
 {
     let n = p.unlocated;
+    if n == 0 {
+        return next;
+    }
     let first = next.first;
     let v = in_room(p.variable);
     let at = sums::put_sum(out, next.at, first, v, n as u32, p.total as u32);
-    Next {
-        at,
-        first: still_first(first, n),
-    }
+    Next { at, first: false }
 }
 
 // The sums of all chains.

@@ -1,7 +1,11 @@
-use Rattle.chain_marks.proofs.Marks.{marks-put}
+use native.Mathlib.Omega.{arith}
+use Rattle.chain_marks.proofs.Marks.{marks-none, marks-put}
 use borrow.Author.Needs.{needs}
 use Rattle.chain_marks.proofs.put_chain_marks.Statement.{statement}
 use Rattle.chain_marks.proofs.put_chain_marks.Tie as tie
+
+returns : tie.Need-returns
+returns c = search (marks-none, arith)
 
 in-room-requires : tie.Need-in-room-requires
 in-room-requires c κs = search needs
@@ -21,25 +25,22 @@ cast-put-marks c = search needs
 put-marks-requires : tie.Need-put-marks-requires
 put-marks-requires c κs = search needs
 
-still-first-requires : tie.Need-still-first-requires
-still-first-requires c κs = search needs
-
 same-length : tie.Need-same-length
 same-length c = search needs
 
-returns : tie.Need-returns
-returns c = search marks-put
+returns-2 : tie.Need-returns-2
+returns-2 c = search marks-put
 
 pub put-chain-marks-spec : {M : Type 1} → statement M
 put-chain-marks-spec =
     tie.close
     (tie.spec
+    returns
     in-room-requires
     cast-atom
     add-atom
     in-room-requires-2
     cast-put-marks
     put-marks-requires
-    still-first-requires
     same-length
-    returns)
+    returns-2)

@@ -1,7 +1,11 @@
-use Rattle.chain_marks.proofs.Marks.{sum-put}
+use native.Mathlib.Omega.{arith}
+use Rattle.chain_marks.proofs.Marks.{sum-none, sum-put}
 use borrow.Author.Needs.{needs}
 use Rattle.chain_marks.proofs.put_chain_sum.Statement.{statement}
 use Rattle.chain_marks.proofs.put_chain_sum.Tie as tie
+
+returns : tie.Need-returns
+returns c = search (sum-none, arith)
 
 in-room-requires : tie.Need-in-room-requires
 in-room-requires c κs = search needs
@@ -15,23 +19,20 @@ cast-put-sum-2 c = search needs
 put-sum-requires : tie.Need-put-sum-requires
 put-sum-requires c κs = search needs
 
-still-first-requires : tie.Need-still-first-requires
-still-first-requires c κs = search needs
-
 same-length : tie.Need-same-length
 same-length c = search needs
 
-returns : tie.Need-returns
-returns c = search sum-put
+returns-2 : tie.Need-returns-2
+returns-2 c = search sum-put
 
 pub put-chain-sum-spec : {M : Type 1} → statement M
 put-chain-sum-spec =
     tie.close
     (tie.spec
+    returns
     in-room-requires
     cast-put-sum
     cast-put-sum-2
     put-sum-requires
-    still-first-requires
     same-length
-    returns)
+    returns-2)
