@@ -1,4 +1,4 @@
-use Rattle.tail.proofs.Scan.{tail-empty, tail-long, room-first, tail-wrong, tail-closes, tail-open, tail-ends}
+use Rattle.tail.proofs.Scan.{tail-empty, tail-long, tail-letter, room-first, tail-closes, tail-early, tail-open, tail-ends}
 use borrow.Author.Needs.{needs}
 use Rattle.tail.proofs.tail_atoms.Statement.{statement}
 use Rattle.tail.proofs.tail_atoms.Tie as tie
@@ -9,26 +9,32 @@ returns c = search tail-empty
 returns-2 : tie.Need-returns-2
 returns-2 c = search tail-long
 
-read-run-requires : tie.Need-read-run-requires
-read-run-requires c κs = search room-first
+is-one-letter-requires : tie.Need-is-one-letter-requires
+is-one-letter-requires c κs = search needs
 
 returns-3 : tie.Need-returns-3
-returns-3 c = search tail-wrong
+returns-3 c = search tail-letter
+
+read-run-requires : tie.Need-read-run-requires
+read-run-requires c κs = search room-first
 
 returns-4 : tie.Need-returns-4
 returns-4 c = search tail-closes
 
+returns-5 : tie.Need-returns-5
+returns-5 c = search tail-early
+
 none-open-requires : tie.Need-none-open-requires
 none-open-requires c κs = search needs
 
-returns-5 : tie.Need-returns-5
-returns-5 c = search tail-open
+returns-6 : tie.Need-returns-6
+returns-6 c = search tail-open
 
 cast-result : tie.Need-cast-result
 cast-result c = search needs
 
-returns-6 : tie.Need-returns-6
-returns-6 c = search tail-ends
+returns-7 : tie.Need-returns-7
+returns-7 c = search tail-ends
 
 pub tail-atoms-spec : {M : Type 1} → statement M
 tail-atoms-spec =
@@ -36,10 +42,12 @@ tail-atoms-spec =
     (tie.spec
     returns
     returns-2
-    read-run-requires
+    is-one-letter-requires
     returns-3
+    read-run-requires
     returns-4
-    none-open-requires
     returns-5
+    none-open-requires
+    returns-6
     cast-result
-    returns-6)
+    returns-7)
