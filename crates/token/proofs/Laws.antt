@@ -126,7 +126,7 @@ module _ (c : Counts) where
 
 -- ---- after the segments
 
-rest-empty : (m : Missing) (d : Chain) → restOf m [] d ≡ finished m d
+pub rest-empty : (m : Missing) (d : Chain) → restOf m [] d ≡ finished m d
 unfolding restOf
 rest-empty m d = rw (segments-none d)
 

@@ -1,3 +1,4 @@
 pub mod Token
 pub mod Request
 pub mod Lent
+pub mod Short

@@ -7,20 +7,24 @@ use parsed::Counts;
 use parsed::Parsed;
 use parsed::ParsedChain;
 use record::ChainPrefix;
+use record::DbPos;
 use record::GROUP_ROOM;
+use record::Geometry;
 use record::MAX_BONDS;
 use record::MAX_GROUPS;
 use record::MAX_RINGS;
 use scan::Number;
 ghost use mathlib.Core.Path.{_≡_};
-ghost use mathlib.Core.Bool.{cond, false};
+ghost use mathlib.Core.Bool.{cond, true, false};
 ghost use mathlib.Core.List.{[]};
-ghost use Prim.Native.Nat.{_≤_};
+ghost use Prim.Native.Nat.{_≤_, _-_};
 ghost use lib.ListN.{length};
-ghost use Rattle.record.specs.Chain.{maxBonds, maxGroups, maxRings};
+ghost use Rattle.record.specs.Chain.{maxCarbons, maxBonds, maxGroups, maxRings};
 ghost use Rattle.parsed.specs.Parsed.{Stands, Collects, gather};
-ghost use Rattle.token.specs.Token.{printable, allPrintable, finished, restOf, countedList, listedOf, afterCount, bondsOf, namedChain, trimmedOf, tokenOf};
+ghost use Rattle.scan.specs.Number.{isDigit};
+ghost use Rattle.token.specs.Token.{printable, allPrintable, maxBytes, missingOf, finished, restOf, countedList, listedOf, afterCount, bondsOf, namedChain, trimmedOf, tokenOf};
 ghost use Rattle.token.specs.Lent.{MissingIs, Bare, Finishes, listedAs, Ends, EndsBegun, Tells, noToken, tokenIn};
+ghost use Rattle.token.specs.Short.{HeadAt, Headed, bonded, bondsIn, SpotOf, Spotted, Listing, Lists, Follows, Starts, Plain, PlainIn};
 
 // The longest token.
 const MAX_BYTES: usize = 255;
@@ -343,7 +347,357 @@ fn parse_trimmed(t: &[u8], bonds: &mut [u64], groups: &mut [u64], rings: &mut [u
     parse_named(prefix, branch, &t[n..], bonds, groups, rings)
 }
 
-// A token, into arrays with room for all that it may say.
+// A token of at most 255 bytes, into arrays with room for all that it may say.
+fn read_any(s: &[u8], bonds: &mut [u64], groups: &mut [u64], rings: &mut [u64]) -> ReadToken
+    requires { ⌜ length (now s) ≤ maxBytes ⌝ }
+    requires { ⌜ maxBonds ≤ length (now bonds) ⌝ }
+    requires { ⌜ maxGroups ≤ length (now groups) ⌝ }
+    requires { ⌜ maxRings ≤ length (now rings) ⌝ }
+    ensures { λ r. ⌜ Tells r (now (bonds .exit)) (now (groups .exit)) (now (rings .exit)) (tokenOf (now (s .entry))) ⌝ }
+{
+    if !all_printable(s) {
+        return ReadToken::empty(record::OVER_LIMIT);
+    }
+    parse_trimmed(scan::trim(s), bonds, groups, rings)
+}
+
+// What a token says that starts as nearly all do: its prefix, carbons and bond count, and where the rest starts (0: it starts otherwise).
+pub struct Head {
+    pub prefix: ChainPrefix,
+    pub carbon: u16,
+    pub declared: u64,
+    pub rest: usize,
+}
+
+fn no_head() -> Head
+    ensures { λ r. ⌜ r .rest ≡ 0 ⌝ }
+{
+    Head {
+        prefix: ChainPrefix::Acyl,
+        carbon: 0,
+        declared: 0,
+        rest: 0,
+    }
+}
+
+// What a digit says.
+fn figure(b: u8) -> u32
+    requires { ⌜ isDigit b ≡ true ⌝ }
+    ensures { λ r. ⌜ (r ≡ b - 48) × (r ≤ 9) ⌝ }
+{
+    (b - 48) as u32
+}
+
+// Two digits, a colon and a digit, after a prefix of so many bytes.
+fn head_at(t: &[u8], prefix: ChainPrefix, at: usize) -> Head
+    requires { ⌜ at ≤ 1 ⌝ }
+    ensures { λ r. ⌜ ((r .rest ≡ 0 → ⊥) → HeadAt (now (t .entry)) prefix at r) ⌝ }
+{
+    if t.len() < 4 {
+        return no_head();
+    }
+    if !scan::is_digit(t[0]) {
+        return no_head();
+    }
+    if !scan::is_digit(t[1]) {
+        return no_head();
+    }
+    if t[2] != b':' {
+        return no_head();
+    }
+    if !scan::is_digit(t[3]) {
+        return no_head();
+    }
+    let ten = figure(t[0]);
+    let one = figure(t[1]);
+    let declared = figure(t[3]);
+    Head {
+        prefix,
+        carbon: (ten * 10 + one) as u16,
+        declared: declared as u64,
+        rest: at + 4,
+    }
+}
+
+// The head of a token without prefix, or with a letter as prefix.
+fn read_head(s: &[u8]) -> Head
+    ensures { λ r. ⌜ ((r .rest ≡ 0 → ⊥) → Headed (now (s .entry)) r) ⌝ }
+{
+    if s.len() < 2 {
+        return no_head();
+    }
+    if scan::is_digit(s[0]) {
+        return head_at(s, ChainPrefix::Acyl, 0);
+    }
+    if !scan::is_digit(s[1]) {
+        return no_head();
+    }
+    let opening = opening::read_opening(s);
+    let prefix = opening.prefix;
+    if opening.carbons != 1 {
+        return no_head();
+    }
+    head_at(&s[1..], prefix, 1)
+}
+
+// A double bond of a list, as a number of the crate `codes`, and how many bytes it has (0: there is none, or it is written otherwise).
+pub struct Spot {
+    pub code: u64,
+    pub next: usize,
+}
+
+fn no_spot() -> Spot
+    ensures { λ r. ⌜ r .next ≡ 0 ⌝ }
+{
+    Spot { code: 0, next: 0 }
+}
+
+// A position with the large letter after it.
+fn lettered(pos: u32, b: u8, next: usize) -> Spot
+    ensures { λ r. ⌜ ((r .next ≡ 0 → ⊥) → SpotOf pos b next r) ⌝ }
+{
+    if b == b'Z' {
+        let code = codes::bond_code(DbPos {
+            pos,
+            geom: Geometry::Cis,
+        });
+        return Spot { code, next };
+    }
+    if b == b'E' {
+        let code = codes::bond_code(DbPos {
+            pos,
+            geom: Geometry::Trans,
+        });
+        return Spot { code, next };
+    }
+    no_spot()
+}
+
+// One or two digits and a letter, with a byte behind them.
+fn read_spot(t: &[u8]) -> Spot
+    ensures { λ r. ⌜ ((r .next ≡ 0 → ⊥) → Spotted (now (t .entry)) r) ⌝ }
+{
+    if t.len() < 3 {
+        return no_spot();
+    }
+    if !scan::is_digit(t[0]) {
+        return no_spot();
+    }
+    let first = figure(t[0]);
+    if !scan::is_digit(t[1]) {
+        return lettered(first, t[1], 2);
+    }
+    if t.len() < 4 {
+        return no_spot();
+    }
+    let one = figure(t[1]);
+    lettered(first * 10 + one, t[2], 3)
+}
+
+// How many double bonds a list gave, and where the rest starts.
+pub struct Listed {
+    pub count: usize,
+    pub rest: usize,
+}
+
+fn not_listed() -> Listed
+    ensures { λ r. ⌜ r ≡ record { count = 0; rest = 0 } ⌝ }
+{
+    Listed { count: 0, rest: 0 }
+}
+
+// The list that follows a `(`, where each position is written as nearly all are (0: one is written otherwise).
+fn read_list(s: &[u8], bonds: &mut [u64]) -> Listed
+    requires { ⌜ maxBonds ≤ length (now bonds) ⌝ }
+    ensures { λ r. ⌜ ((r .rest ≡ 0 → ⊥) → Listing (now (s .entry)) (now (bonds .exit)) r) ⌝ }
+{
+    let mut t = s;
+    let mut count = 0;
+    while count < MAX_BONDS {
+        let spot = read_spot(t);
+        let n = spot.next;
+        if n == 0 {
+            return not_listed();
+        }
+        bonds[count] = spot.code;
+        count += 1;
+        if t[n] == b')' {
+            return Listed {
+                count,
+                rest: s.len() - t.len() + n + 1,
+            };
+        }
+        if t[n] != b',' {
+            return not_listed();
+        }
+        t = &t[n + 1..];
+    }
+    not_listed()
+}
+
+// The list straight after the bond count, or none.
+fn usual_list(u: &[u8], bonds: &mut [u64]) -> Listed
+    requires { ⌜ maxBonds ≤ length (now bonds) ⌝ }
+    ensures { λ r. ⌜ Lists (now (u .entry)) (now (bonds .exit)) r ⌝ }
+{
+    if u.len() == 0 {
+        return not_listed();
+    }
+    if u[0] != b'(' {
+        return not_listed();
+    }
+    let read = read_list(&u[1..], bonds);
+    if read.rest == 0 {
+        return not_listed();
+    }
+    Listed {
+        count: read.count,
+        rest: read.rest + 1,
+    }
+}
+
+// Whether nothing or segments follow, without a space at their end.
+fn may_follow(v: &[u8]) -> bool
+    ensures { λ r. ⌜ (r ≡ true → Follows (now (v .entry))) ⌝ }
+{
+    if v.len() == 0 {
+        return true;
+    }
+    if v[0] != b';' {
+        return false;
+    }
+    if v[v.len() - 1] == b' ' {
+        return false;
+    }
+    all_printable(v)
+}
+
+// A token that is written as nearly all are, up to its segments; where those start (0: it is written otherwise).
+pub struct Usual {
+    pub prefix: ChainPrefix,
+    pub carbon: u16,
+    pub declared: u64,
+    pub count: usize,
+    pub rest: usize,
+}
+
+fn not_usual() -> Usual
+    ensures { λ r. ⌜ r .rest ≡ 0 ⌝ }
+{
+    Usual {
+        prefix: ChainPrefix::Acyl,
+        carbon: 0,
+        declared: 0,
+        count: 0,
+        rest: 0,
+    }
+}
+
+// The head and the list. What was looked at here needs no look at its bytes and spaces before.
+fn read_usual(s: &[u8], bonds: &mut [u64]) -> Usual
+    requires { ⌜ length (now s) ≤ maxBytes ⌝ }
+    requires { ⌜ maxBonds ≤ length (now bonds) ⌝ }
+    ensures { λ r. ⌜ ((r .rest ≡ 0 → ⊥) → Starts (now (s .entry)) (now (bonds .exit)) r) ⌝ }
+{
+    let head = read_head(s);
+    let from = head.rest;
+    if from == 0 {
+        return not_usual();
+    }
+    let u = &s[from..];
+    let listed = usual_list(u, bonds);
+    let n = listed.rest;
+    if !may_follow(&u[n..]) {
+        return not_usual();
+    }
+    let prefix = head.prefix;
+    Usual {
+        prefix,
+        carbon: head.carbon,
+        declared: head.declared,
+        count: listed.count,
+        rest: from + n,
+    }
+}
+
+// A chain without segments.
+fn plain_chain(prefix: ChainPrefix, carbon: u16, missing: Missing, count: usize) -> ReadToken
+    ensures { λ r. ⌜ Plain prefix carbon missing count r ⌝ }
+{
+    let Missing::Seated(n) = missing else {
+        return ReadToken::empty(record::UNREADABLE);
+    };
+    ReadToken {
+        refusal: 0,
+        prefix,
+        written: carbon,
+        carbon,
+        branched: false,
+        unlocated: n,
+        counts: Counts {
+            bonds: count,
+            groups: 0,
+            rings: 0,
+            oxygens: 0,
+        },
+    }
+}
+
+// The same, where the bonds are yet to be seated: none are missing where all have a position.
+fn end_plain(
+    prefix: ChainPrefix,
+    carbon: u16,
+    declared: u64,
+    bonds: &[u64],
+    count: usize,
+) -> ReadToken
+    ensures { λ r. ⌜ PlainIn prefix carbon declared count (now (bonds .entry)) r ⌝ }
+{
+    if declared == count as u64 {
+        return plain_chain(prefix, carbon, Missing::Seated(0), count);
+    }
+    let missing = missing_bonds(carbon, bonds, count, declared);
+    plain_chain(prefix, carbon, missing, count)
+}
+
+// A chain with segments.
+fn end_segments(
+    usual: Usual,
+    s: &[u8],
+    bonds: &mut [u64],
+    groups: &mut [u64],
+    rings: &mut [u64],
+) -> ReadToken
+    requires { ⌜ usual .carbon ≤ maxCarbons ⌝ }
+    requires { ⌜ usual .count ≤ maxBonds ⌝ }
+    requires { ⌜ maxBonds ≤ length (now bonds) ⌝ }
+    requires { ⌜ maxGroups ≤ length (now groups) ⌝ }
+    requires { ⌜ maxRings ≤ length (now rings) ⌝ }
+    ensures { λ r. ⌜ Tells r (now (bonds .exit)) (now (groups .exit)) (now (rings .exit)) (restOf (missingOf (usual .carbon) (bondsIn (usual .count) (now (bonds .entry))) (usual .declared)) (now (s .entry)) (bonded (usual .prefix) (usual .carbon) (bondsIn (usual .count) (now (bonds .entry))))) ⌝ }
+{
+    let prefix = usual.prefix;
+    let carbon = usual.carbon;
+    let missing = missing_bonds(carbon, bonds, usual.count, usual.declared);
+    let counts = Counts {
+        bonds: usual.count,
+        groups: 0,
+        rings: 0,
+        oxygens: 0,
+    };
+    let ended = parse_rest(missing, s, carbon, bonds, groups, rings, counts);
+    let more = ended.counts;
+    ReadToken {
+        refusal: ended.refusal,
+        prefix,
+        written: carbon,
+        carbon,
+        branched: false,
+        unlocated: ended.unlocated,
+        counts: more,
+    }
+}
+
+// A token, into arrays with room for all that it may say. Nearly every token starts in one way, and has no segments.
 fn read_token(s: &[u8], bonds: &mut [u64], groups: &mut [u64], rings: &mut [u64]) -> ReadToken
     requires { ⌜ maxBonds ≤ length (now bonds) ⌝ }
     requires { ⌜ maxGroups ≤ length (now groups) ⌝ }
@@ -353,10 +707,16 @@ fn read_token(s: &[u8], bonds: &mut [u64], groups: &mut [u64], rings: &mut [u64]
     if MAX_BYTES < s.len() {
         return ReadToken::empty(record::OVER_LIMIT);
     }
-    if !all_printable(s) {
-        return ReadToken::empty(record::OVER_LIMIT);
+    let usual = read_usual(s, bonds);
+    let from = usual.rest;
+    if from == 0 {
+        return read_any(s, bonds, groups, rings);
     }
-    parse_trimmed(scan::trim(s), bonds, groups, rings)
+    if from == s.len() {
+        let prefix = usual.prefix;
+        return end_plain(prefix, usual.carbon, usual.declared, bonds, usual.count);
+    }
+    end_segments(usual, &s[from..], bonds, groups, rings)
 }
 
 // The chain that a token says, its double bonds, groups and rings in lent arrays. Arrays with less room than the limits ask are refused by 31.

@@ -1,0 +1,140 @@
+-- What the short way reads of a token that starts as nearly all do, `18:1(9Z)`: what the contracts of its functions cite. Each says what is left
+-- of the definitions of specs/Token.antt once so many bytes are read. Assumes nothing.
+use Prim.Native.Nat.{ℕ, _+_, _*_, _-_, _≤_, _<_}
+use mathlib.Core.Path.{_≡_}
+use mathlib.Core.List.{List, [], _∷_, map}
+use mathlib.Core.Bool.{Bool, true, false, cond}
+use lib.ListN.{length, take, drop, getD}
+use lib.Dec.{eqb}
+use Rattle.scan.specs.Part.{indexOf, ending}
+use Rattle.scan.specs.Number.{isDigit, digitRun}
+use Rattle.record.specs.declared.ChainPrefix.{ChainPrefix}
+use Rattle.record.specs.declared.Geometry.the-variants.{Unstated}
+use Rattle.record.specs.declared.DbPos.{DbPos}
+use Rattle.record.specs.Chain.{Chain, Outcome, Refused, andThen, unreadable, noFeatures, withBond, countsOf, maxCarbons, maxBonds}
+use Rattle.codes.specs.Codes.{bondCode, bondIn}
+use Rattle.form.specs.Parts.{partsAt}
+use Rattle.positions.specs.Each.{each}
+use Rattle.positions.specs.Positions.{geometryOf, bondAt}
+use Rattle.token.specs.declared.Missing.{Missing}
+use Rattle.token.specs.declared.Head.{Head}
+use Rattle.token.specs.declared.Spot.{Spot}
+use Rattle.token.specs.declared.Listed.{Listed}
+use Rattle.token.specs.declared.Usual.{Usual}
+use Rattle.token.specs.declared.ReadToken.{ReadToken}
+use Rattle.token.specs.Token.{missingOf, finished, restOf, listedOf, afterCount, trimmedOf, allPrintable, tokenOf}
+use Rattle.token.specs.Lent.{Tells}
+
+-- the bytes of s before v are printable, and no space
+pub record Passed (s v : List ℕ) : Type 0 where
+  pub bytes : allPrintable s ≡ allPrintable v
+  pub solid : ending v ≡ length v → ending s ≡ length s
+
+-- ---- the head
+
+-- `18:1`: two digits, a colon and a digit
+pub record Counted (t : List ℕ) : Type 0 where
+  pub room : 4 ≤ length t
+  pub ten : isDigit (getD t 0 0) ≡ true
+  pub one : isDigit (getD t 1 0) ≡ true
+  pub colon : getD t 2 0 ≡ 58
+  pub bonds : isDigit (getD t 3 0) ≡ true
+
+-- the head that those say, after a prefix of so many bytes
+pub record HeadAt (t : List ℕ) (p : ChainPrefix) (at : ℕ) (r : Head) : Type 0 where
+  pub counted : Counted t
+  pub is : r ≡ record { prefix = p; carbon = (getD t 0 0 - 48) * 10 + (getD t 1 0 - 48); declared = getD t 3 0 - 48; rest = at + 4 }
+
+-- the head of a whole token, which no space leads; and what is left of it
+pub record Headed (s : List ℕ) (r : Head) : Type 0 where
+  pub room : r .rest ≤ length s
+  pub few : r .carbon ≤ maxCarbons
+  pub first : getD s 0 0 ≡ 32 → ⊥
+  pub some : length s ≡ 0 → ⊥
+  pub passed : Passed s (drop (r .rest) s)
+  pub says : digitRun (drop (r .rest) s) ≡ 0 → trimmedOf s ≡ afterCount (r .declared) (drop (r .rest) s) (noFeatures (r .prefix) (r .carbon) (r .carbon) false)
+
+-- ---- the position list
+
+-- a chain with these double bonds and nothing else
+abbrev pub bonded : ChainPrefix → ℕ → List DbPos → Chain
+bonded p w l = record { prefix = p; written = w; carbon = w; branched = false; unlocated = 0; oxygens = 0; bonds = l; groups = []; rings = [] }
+
+-- the double bonds of an array
+abbrev pub bondsIn : ℕ → List ℕ → List DbPos
+bondsIn n xs = map bondIn (take n xs)
+
+-- what is left of a list after a comma
+unfoldable pub listLeft : ℕ → List ℕ → Chain → Outcome
+listLeft declared t d =
+    let n = indexOf 41 t in
+    cond (eqb n (length t)) (Refused unreadable)
+    (andThen (andThen (each bondAt (partsAt 44 (take n t)) d) countsOf) (λ e. restOf (missingOf (d .carbon) (e .bonds) declared) (drop (n + 1) t) e))
+
+-- r is the double bond at pos with the geometry of the byte b, which is a large letter
+pub record SpotOf (pos b next : ℕ) (r : Spot) : Type 0 where
+  pub is : r ≡ record { code = bondCode (record { pos = pos; geom = geometryOf b }); next = next }
+  pub low : 69 ≤ b
+  pub high : b ≤ 90
+  pub stated : geometryOf b ≡ Unstated → ⊥
+
+-- r is the double bond that t starts with: with a comma behind it, and with the list's end
+pub record Spotted (t : List ℕ) (r : Spot) : Type 0 where
+  pub room : r .next < length t
+  pub some : 0 < indexOf 41 t
+  pub passed : Passed t (drop (r .next) t)
+  pub more : (declared : ℕ) (d : Chain) → getD t (r .next) 0 ≡ 44 → listLeft declared t d ≡ listLeft declared (drop (r .next + 1) t) (withBond (bondIn (r .code)) d)
+  pub last : (declared : ℕ) (d : Chain) → getD t (r .next) 0 ≡ 41
+      → listLeft declared t d ≡ andThen (countsOf (withBond (bondIn (r .code)) d)) (λ e. restOf (missingOf (d .carbon) (e .bonds) declared) (drop (r .next + 1) t) e)
+
+-- the list that follows a `(`, read into the array ys
+pub record Listing (s ys : List ℕ) (r : Listed) : Type 0 where
+  pub room : r .rest ≤ length s
+  pub few : r .count ≤ maxBonds
+  pub stored : r .count ≤ length ys
+  pub passed : Passed s (drop (r .rest) s)
+  pub says : (declared : ℕ) (p : ChainPrefix) (w : ℕ)
+      → listedOf declared s (noFeatures p w w false) ≡ restOf (missingOf w (bondsIn (r .count) ys) declared) (drop (r .rest) s) (bonded p w (bondsIn (r .count) ys))
+
+-- ---- the end
+
+-- nothing, or segments
+abbrev pub mayFollow : List ℕ → Bool
+mayFollow [] = true
+mayFollow (x ∷ xs) = eqb x 59
+
+-- what may follow the head and the list
+pub record Follows (v : List ℕ) : Type 0 where
+  pub bytes : allPrintable v ≡ true
+  pub solid : ending v ≡ length v
+  pub start : mayFollow v ≡ true
+
+-- a list or none after the bond count, and what is left where segments or nothing may follow
+pub record Lists (u ys : List ℕ) (r : Listed) : Type 0 where
+  pub room : r .rest ≤ length u
+  pub few : r .count ≤ maxBonds
+  pub stored : r .count ≤ length ys
+  pub passed : Passed u (drop (r .rest) u)
+  pub start : mayFollow (drop (r .rest) u) ≡ true → digitRun u ≡ 0
+  pub says : mayFollow (drop (r .rest) u) ≡ true → (declared : ℕ) (p : ChainPrefix) (w : ℕ)
+      → afterCount declared u (noFeatures p w w false) ≡ restOf (missingOf w (bondsIn (r .count) ys) declared) (drop (r .rest) u) (bonded p w (bondsIn (r .count) ys))
+
+-- what is left of a token of at most 255 bytes
+abbrev pub leftOf : Usual → List ℕ → List ℕ → Outcome
+leftOf r s ys = restOf (missingOf (r .carbon) (bondsIn (r .count) ys) (r .declared)) (drop (r .rest) s) (bonded (r .prefix) (r .carbon) (bondsIn (r .count) ys))
+
+pub record Starts (s ys : List ℕ) (r : Usual) : Type 0 where
+  pub room : r .rest ≤ length s
+  pub few : r .carbon ≤ maxCarbons
+  pub listed : r .count ≤ maxBonds
+  pub stored : r .count ≤ length ys
+  pub says : tokenOf s ≡ leftOf r s ys
+
+-- ---- the token
+
+-- r is what is judged of a chain without segments
+pub record Plain (p : ChainPrefix) (w : ℕ) (m : Missing) (n : ℕ) (r : ReadToken) : Type 0 where
+  pub tells : (bs gs rs : List ℕ) → n ≤ maxBonds → n ≤ length bs → Tells r bs gs rs (finished m (bonded p w (bondsIn n bs)))
+
+pub record PlainIn (p : ChainPrefix) (w declared n : ℕ) (bs : List ℕ) (r : ReadToken) : Type 0 where
+  pub tells : (gs rs : List ℕ) → w ≤ maxCarbons → n ≤ maxBonds → n ≤ length bs → Tells r bs gs rs (finished (missingOf w (bondsIn n bs) declared) (bonded p w (bondsIn n bs)))
