@@ -3,7 +3,6 @@ use Prim.Native.Nat.{ℕ, _-_, _*_}
 use mathlib.Core.List.{List, [], _∷_}
 use lib.ListN.{take, drop}
 use Rattle.drawable.specs.declared.Shape.{Shape}
-use Rattle.drawable.specs.declared.Shapes.{Shapes}
 use Rattle.drawable.specs.Drawn.{Drawn, drawnOf}
 
 -- drawn chains, and how many of them count
@@ -23,7 +22,3 @@ partOf sn l = take 77 (drop (77 * (sn - 1)) l)
 unfoldable pub itemsOf : List Shape → List ℕ → List Drawn
 itemsOf [] l = []
 itemsOf (x ∷ xs) l = drawnOf x (take 77 l) ∷ itemsOf xs (drop 77 l)
-
--- the chains that the numbers of the code and an array say
-abbrev pub chainsOf : Shapes → List ℕ → Chains
-chainsOf x l = record { count = x .count; items = itemsOf (x .items) l }

@@ -39,12 +39,6 @@ pub struct Shape {
     pub ring_count: usize,
 }
 
-// The chains of a request as they are drawn, but for their lists, in the order of its tokens.
-pub struct Shapes {
-    pub count: usize,
-    pub items: [Shape; MAX_CHAINS],
-}
-
 // The numbers from a place up to another, as far as there are any.
 fn between(xs: &[u64], from: usize, to: usize) -> &[u64]
     requires { ⌜ from ≤ to ⌝ }

@@ -191,7 +191,7 @@ pub fn draw_chains(
 ) -> Answer
     ensures { λ r. ⌜ ChainsDrawn class swap (now (tail .entry)) «tail_atoms» (chainsKept count (now (shapes .entry)) (now (lists .entry))) (now (line .entry)) (now (index .entry)) (now (line .exit)) (now (index .exit)) r ⌝ }
 {
-    if room::is_short(
+    let short = room::is_short(
         line,
         index,
         class,
@@ -201,7 +201,8 @@ pub fn draw_chains(
         count,
         shapes,
         lists,
-    ) {
+    );
+    if short {
         return refused(SHORT_SLICE, 0);
     }
     if count == 1 {

@@ -20,7 +20,7 @@ use Rattle.rising.proofs.OrderLaws.{take-places}
 use Rattle.rising.proofs.Picked.{picked-here, picked-past}
 use Rattle.rising.proofs.Sorted.{in-order}
 use Rattle.listing.specs.declared.Listed.{Listed}
-use Rattle.listing.specs.Lists.{noList, listOf, listIn, listsAt, countsOf, Counted}
+use Rattle.listing.specs.Lists.{noList, listOf, listIn, listsAt}
 
 -- ---- the lists of all chains
 
@@ -61,35 +61,6 @@ pub list-alone : (ps : List Placed) (l : List ℕ) (n count q : ℕ) (xs : List 
     → Filled noList (listsAt ps (take count l)) q xs
 list-alone ps l n count q xs k e f h = rw (← take-places l 4 count n k e, f, first-alone l (omega arith)) h
 
--- ---- their indices together
-
-counts-append : (a b : List Listed) → countsOf (a ++ b) ≡ countsOf a + countsOf b
-unfolding countsOf
-counts-append [] b = omega arith
-counts-append (l ∷ a) b = omega (arith, counts-append a b)
-
--- those of the first i
-pub record SumTo (l : List Listed) (i sum : ℕ) : Type 0 where
-  pub is : sum ≡ countsOf (take i l)
-  pub few : sum ≤ 65535 * i
-
-pub sum-none : (l : List Listed) → SumTo l 0 0
-unfolding countsOf
-sum-none l = record { is = refl; few = omega arith }
-
-pub sum-more : (l : List Listed) (i n sum : ℕ) (d : Listed) → length l ≡ 4 → n ≤ 4 → i < n → getD l i d .count < 65536 → SumTo l i sum → SumTo l (i + 1) (sum + getD l i d .count)
-unfolding countsOf
-sum-more l i n sum d k m h f s =
-    record {
-      is = rw (add-one i, take-suc l i d (omega arith), counts-append (take i l) (getD l i d ∷ [])) (omega (arith, s .is));
-      few = omega (arith, s .few);
-    }
-
-pub sum-all : (l : List Listed) (i n sum count : ℕ) → length l ≡ 4 → n ≡ min count 4 → i ≤ n → n ≤ i → SumTo l i sum → Counted (take count l) sum
-sum-all l i n sum count k e h g s =
-    let q : i ≡ n = omega arith in
-    record { is = s .is ∙ rw (q, take-places l 4 count n k e); few = omega (arith, s .few) }
-
 -- ---- the listed chains are those of the request
 
 lists-same : (ps : List request.Placed) → map listIn (map noted ps) ≡ map listOf ps
@@ -102,9 +73,3 @@ pub lists-told : (l : List Placed) (count : ℕ) (o : Rising) (ps : List request
     → InOrder (take count l) o → listsAt l (placesIn o) ≡ map listOf (bySn ps)
 unfolding listsAt
 lists-told l count o ps h e i = ap (map listIn) (in-order l count o ps h e i) ∙ lists-same (bySn ps)
-
--- their numbers are those of the indices
-pub counts-told : (ps : List request.Placed) → countsOf (map listOf ps) ≡ length (allIndices ps)
-unfolding countsOf listOf allIndices
-counts-told [] = refl
-counts-told (p ∷ ps) = omega (arith, counts-told ps, length-append (indicesOf p) (allIndices ps))

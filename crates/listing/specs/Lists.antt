@@ -29,16 +29,6 @@ unfoldable pub listsAt : List Placed → List ℕ → List Listed
 unfolding picked
 listsAt ps ks = map listIn (picked ps ks)
 
--- the indices of some lists together
-unfoldable pub countsOf : List Listed → ℕ
-countsOf [] = 0
-countsOf (l ∷ ls) = l .count + countsOf ls
-
--- n is their number; it is small
-pub record Counted (ls : List Listed) (n : ℕ) : Type 0 where
-  pub is : n ≡ countsOf ls
-  pub few : n ≤ 262140
-
 -- r holds the first four of some listed chains; its other places are zero
 abbrev pub ListsHeld : List Listed → Lists → Type 0
 ListsHeld l r = Filled noList l (r .count) (r .items)

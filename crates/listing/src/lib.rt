@@ -9,11 +9,10 @@ use shown::MAX_SITES;
 use shown::Site;
 ghost use mathlib.Core.Path.{_≡_};
 ghost use mathlib.Core.List.{[], _∷_};
-ghost use lib.ListN.{take};
 ghost use Rattle.placed.specs.Notes.{chainsIn};
 ghost use Rattle.rising.specs.Order.{placesIn};
 ghost use Rattle.listing.specs.Sites.{hasSite, sitesAt, SitesHeld};
-ghost use Rattle.listing.specs.Lists.{listsAt, ListsHeld, Counted};
+ghost use Rattle.listing.specs.Lists.{listsAt, ListsHeld};
 
 // ---- the sn sites
 
@@ -134,20 +133,4 @@ pub fn lists_by_sn(notes: &[u32; NOTE_ROOM], order: Rising) -> Lists
         count,
         items: lists,
     }
-}
-
-// How many indices they have together.
-pub fn index_count(lists: Lists) -> usize
-    ensures { λ r. ⌜ Counted (take (lists .count) (lists .items)) r ⌝ }
-{
-    let n = placed::in_places(lists.count);
-    let items = lists.items;
-    let mut sum = 0;
-    let mut i = 0;
-    while i < n {
-        let list = items[i];
-        sum += list.count as usize;
-        i += 1;
-    }
-    sum
 }

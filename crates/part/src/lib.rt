@@ -38,22 +38,6 @@ pub fn starts_with(s: &[u8], p: &[u8]) -> bool
     true
 }
 
-// The first place where p starts in s, or the length.
-pub fn find_text(s: &[u8], p: &[u8]) -> usize
-    ensures { λ r. ⌜ Place (now (s .entry)) (indexOfText (now (p .entry)) (now (s .entry))) r ⌝ }
-{
-    let mut t = s;
-    let mut i = 0;
-    while t.len() > 0 {
-        if starts_with(t, p) {
-            return i;
-        }
-        t = &t[1..];
-        i += 1;
-    }
-    i
-}
-
 // Whether two parts hold the same bytes.
 pub fn same(s: &[u8], t: &[u8]) -> bool
     ensures { λ r. ⌜ r ≡ sameBytes (now (s .entry)) (now (t .entry)) ⌝ }

@@ -163,7 +163,7 @@ fn put_chains(out: &mut [u8], at: usize, lists: Lists, index: &[u16]) -> usize
 fn put_text_cell(out: &mut [u8], at: usize, text: &[u8]) -> usize
     ensures { λ r. ⌜ Written (now (out .entry)) at (ended (now (text .entry)) 9) (now (out .exit)) r ⌝ }
 {
-    let p = copying::copy_at(out, at, text);
+    let p = emit::put_text(out, at, text);
     put_byte(out, p, b'\t')
 }
 

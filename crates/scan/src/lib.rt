@@ -7,7 +7,6 @@ ghost use lib.ListN.{length};
 ghost use Rattle.part.specs.Part.{Place};
 ghost use Rattle.scan.specs.Number.{isDigit, digitRun, afterPlus, digitsUpTo, numberUpTo};
 pub use part::find;
-pub use part::find_text;
 pub use part::same;
 pub use part::starts_with;
 pub use spaces::trim;

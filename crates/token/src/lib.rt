@@ -764,6 +764,3 @@ pub fn parse_chain_token(s: &[u8]) -> Parsed
         chain,
     }
 }
-
-// The most tokens of a request.
-pub const MAX_TOKENS: usize = 4;
