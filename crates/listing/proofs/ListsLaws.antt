@@ -61,6 +61,26 @@ pub list-alone : (ps : List Placed) (l : List ℕ) (n count q : ℕ) (xs : List 
     → Filled noList (listsAt ps (take count l)) q xs
 list-alone ps l n count q xs k e f h = rw (← take-places l 4 count n k e, f, first-alone l (omega arith)) h
 
+-- ---- the lists of two chains
+
+pub list-told : (p q : Placed) → p ≡ q → record { sn = p .sn; count = p .count } ≡ listIn q
+list-told p q e = rw e
+
+pub lists-here : (ps : List Placed) (a b : ℕ) (x y : Listed) (d : Placed) → length ps ≡ 4 → a < 4 → b < 4 → x ≡ listIn (getD ps a d) → y ≡ listIn (getD ps b d)
+    → Filled noList (listsAt ps (a ∷ b ∷ [])) 2 (x ∷ y ∷ noList ∷ noList ∷ [])
+lists-here ps a b x y d m h g e f =
+    let one : Filled noList (listsAt ps (a ∷ [])) 1 (x ∷ noList ∷ noList ∷ noList ∷ []) = rw e (list-here ps a (getD ps a d) d m h refl) in
+    rw f (lists-more ps (a ∷ b ∷ 0 ∷ 0 ∷ []) 1 2 1 (x ∷ noList ∷ noList ∷ noList ∷ []) (getD ps b d) d m refl (omega arith) (omega arith) g (omega arith) refl one)
+
+first-two : (l : List ℕ) → 1 < length l → take 2 l ≡ getD l 0 0 ∷ getD l 1 0 ∷ []
+first-two [] h = absurd (omega arith)
+first-two (x ∷ []) h = absurd (omega arith)
+first-two (x ∷ y ∷ l) h = refl
+
+pub lists-both : (ps : List Placed) (l : List ℕ) (n count q : ℕ) (xs : List Listed) → length l ≡ 4 → n ≡ min count 4 → n ≡ 2 → Filled noList (listsAt ps (getD l 0 0 ∷ getD l 1 0 ∷ [])) q xs
+    → Filled noList (listsAt ps (take count l)) q xs
+lists-both ps l n count q xs k e f h = rw (← take-places l 4 count n k e, f, first-two l (omega arith)) h
+
 -- ---- the listed chains are those of the request
 
 lists-same : (ps : List request.Placed) → map listIn (map noted ps) ≡ map listOf ps

@@ -9,10 +9,12 @@ use shown::MAX_SITES;
 use shown::Site;
 ghost use mathlib.Core.Path.{_≡_};
 ghost use mathlib.Core.List.{[], _∷_};
-ghost use Rattle.placed.specs.Notes.{chainsIn};
+ghost use Prim.Native.Nat.{_<_};
+ghost use lib.ListN.{getD};
+ghost use Rattle.placed.specs.Notes.{nowhere, chainsIn};
 ghost use Rattle.rising.specs.Order.{placesIn};
 ghost use Rattle.listing.specs.Sites.{hasSite, sitesAt, SitesHeld};
-ghost use Rattle.listing.specs.Lists.{listsAt, ListsHeld};
+ghost use Rattle.listing.specs.Lists.{listIn, listsAt, ListsHeld};
 
 // ---- the sn sites
 
@@ -101,15 +103,36 @@ fn one_list(notes: &[u32; NOTE_ROOM], k: usize) -> Lists
     Lists { count: 0, items }
 }
 
-// The lists of the chains at some places. Many a line has one chain, for which nothing is gone through.
-pub fn lists_by_sn(notes: &[u32; NOTE_ROOM], order: Rising) -> Lists
+// What is listed of the chain at a place.
+fn list_at(notes: &[u32; NOTE_ROOM], k: usize) -> Listed
+    ensures { λ r. ⌜ r ≡ listIn (getD (chainsIn (now (notes .entry))) k nowhere) ⌝ }
+{
+    let p = placed::placed_at(notes, k);
+    Listed {
+        sn: p.sn,
+        count: p.count,
+    }
+}
+
+// The lists of the chains at two places.
+fn two_lists(notes: &[u32; NOTE_ROOM], a: usize, b: usize) -> Lists
+    requires { ⌜ a < 4 ⌝ }
+    requires { ⌜ b < 4 ⌝ }
+    ensures { λ r. ⌜ ListsHeld (listsAt (chainsIn (now (notes .entry))) (a ∷ b ∷ [])) r ⌝ }
+{
+    let first = list_at(notes, a);
+    let second = list_at(notes, b);
+    let none = Listed { sn: 0, count: 0 };
+    let items = [first, second, none, none];
+    Lists { count: 2, items }
+}
+
+// The lists of the chains at some places, one after the other.
+fn some_lists(notes: &[u32; NOTE_ROOM], order: Rising) -> Lists
     ensures { λ r. ⌜ ListsHeld (listsAt (chainsIn (now (notes .entry))) (placesIn order)) r ⌝ }
 {
     let n = placed::in_places(order.count);
     let items = order.items;
-    if n == 1 {
-        return one_list(notes, items[0] as usize);
-    }
     let none = Listed { sn: 0, count: 0 };
     let mut lists = [none; MAX_CHAINS];
     let mut count = 0;
@@ -133,4 +156,27 @@ pub fn lists_by_sn(notes: &[u32; NOTE_ROOM], order: Rising) -> Lists
         count,
         items: lists,
     }
+}
+
+// The lists of the chains at some places. Most lines have one chain or two, for which there is no loop.
+pub fn lists_by_sn(notes: &[u32; NOTE_ROOM], order: Rising) -> Lists
+    ensures { λ r. ⌜ ListsHeld (listsAt (chainsIn (now (notes .entry))) (placesIn order)) r ⌝ }
+{
+    let n = placed::in_places(order.count);
+    let items = order.items;
+    if n == 2 {
+        let a = items[0] as usize;
+        let b = items[1] as usize;
+        if a < MAX_CHAINS {
+            if b < MAX_CHAINS {
+                return two_lists(notes, a, b);
+            }
+            return some_lists(notes, order);
+        }
+        return some_lists(notes, order);
+    }
+    if n == 1 {
+        return one_list(notes, items[0] as usize);
+    }
+    some_lists(notes, order)
 }

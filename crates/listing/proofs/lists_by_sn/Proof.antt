@@ -1,101 +1,77 @@
-use native.Mathlib.Omega.{arith}
-use Prim.Native.Nat.{_≤_, _-_}
-use mathlib.Core.Path.{_≡_}
-use lib.ListN.{length, take}
-use Rattle.placed.specs.Notes.{chainsIn}
-use Rattle.placed.proofs.Notes.{length-chains}
-use Rattle.rising.specs.Four.{Filled}
-use Rattle.listing.specs.Lists.{noList, listsAt}
-use Rattle.listing.proofs.ListsLaws.{lists-first, lists-more, lists-past, lists-all, list-alone}
+use Rattle.listing.proofs.ListsLaws.{list-alone, lists-both}
 use borrow.Author.Needs.{needs}
 use Rattle.listing.proofs.lists_by_sn.Statement.{statement}
 use Rattle.listing.proofs.lists_by_sn.Tie as tie
 
-abbrev Inv-loop : tie.InvT-loop
-Inv-loop notes n items lists₀ count₀ i₀ lists count i = (i ≤ n) × (n ≤ 4) × (count ≤ i) × (length items ≡ 4) × (length lists ≡ 4) × Filled noList (listsAt (chainsIn notes) (take i items)) count lists
-
-abbrev μ-loop : tie.MeasureT-loop
-μ-loop notes n items lists₀ count₀ i₀ lists count i = n - i
-
-in-places-requires : tie.Need-in-places-requires Inv-loop μ-loop
+in-places-requires : tie.Need-in-places-requires
 in-places-requires c κs = search needs
 
-array-read-one-list : tie.Need-array-read-one-list Inv-loop μ-loop
+array-read-a : tie.Need-array-read-a
+array-read-a c = search needs
+
+cast-a : tie.Need-cast-a
+cast-a c = search needs
+
+array-read-b : tie.Need-array-read-b
+array-read-b c = search needs
+
+cast-b : tie.Need-cast-b
+cast-b c = search needs
+
+two-lists-requires : tie.Need-two-lists-requires
+two-lists-requires c κs = search needs
+
+returns : tie.Need-returns
+returns c = lists-both _ _ _ _ _ _ (search needs) (c .before .before .before .before .before .in-places .ensures) (c .before .before .before .if1 .taken) (c .two-lists .ensures)
+
+some-lists-requires : tie.Need-some-lists-requires
+some-lists-requires c κs = search needs
+
+returns-2 : tie.Need-returns-2
+returns-2 c = search needs
+
+some-lists-requires-2 : tie.Need-some-lists-requires-2
+some-lists-requires-2 c κs = search needs
+
+returns-3 : tie.Need-returns-3
+returns-3 c = search needs
+
+array-read-one-list : tie.Need-array-read-one-list
 array-read-one-list c = search needs
 
-cast-one-list : tie.Need-cast-one-list Inv-loop μ-loop
+cast-one-list : tie.Need-cast-one-list
 cast-one-list c = search needs
 
-one-list-requires : tie.Need-one-list-requires Inv-loop μ-loop
+one-list-requires : tie.Need-one-list-requires
 one-list-requires c κs = search needs
 
-returns : tie.Need-returns Inv-loop μ-loop
-returns c = list-alone _ _ _ _ _ _ (search needs) (c .before .before .before .in-places .ensures) (c .before .if1 .taken) (c .one-list .ensures)
+returns-4 : tie.Need-returns-4
+returns-4 c = list-alone _ _ _ _ _ _ (search needs) (c .before .before .before .before .in-places .ensures) (c .before .if4 .taken) (c .one-list .ensures)
 
-loop-holds : tie.Need-loop-holds Inv-loop μ-loop
-loop-holds c = (omega arith, omega arith, omega arith, search needs, search needs, lists-first _)
+some-lists-requires-3 : tie.Need-some-lists-requires-3
+some-lists-requires-3 c κs = search needs
 
-array-read-k : tie.Need-array-read-k Inv-loop μ-loop
-array-read-k c = search needs
-
-cast-k : tie.Need-cast-k Inv-loop μ-loop
-cast-k c = search needs
-
-placed-at-requires : tie.Need-placed-at-requires Inv-loop μ-loop
-placed-at-requires c κs = search needs
-
-mul-lists : tie.Need-mul-lists Inv-loop μ-loop
-mul-lists c = search needs
-
-array-set-from-lists : tie.Need-array-set-from-lists Inv-loop μ-loop
-array-set-from-lists c = search needs
-
-add-count : tie.Need-add-count Inv-loop μ-loop
-add-count c = search needs
-
-add-i : tie.Need-add-i Inv-loop μ-loop
-add-i c = search needs
-
-loop-less : tie.Need-loop-less Inv-loop μ-loop
-loop-less c = search needs
-
-loop-again : tie.Need-loop-again Inv-loop μ-loop
-loop-again c = let v = c .before .before .before .loop in (omega arith, omega arith, omega arith, search needs, search needs, lists-more _ _ _ _ _ _ _ _ (length-chains _) (v .inv .3) (v .inv .1) (c .before .before .loop-test .taken) (c .before .if2 .taken) (v .inv .2) (c .placed-at .ensures) (v .inv .5))
-
-add-i-2 : tie.Need-add-i-2 Inv-loop μ-loop
-add-i-2 c = search needs
-
-loop-less-2 : tie.Need-loop-less-2 Inv-loop μ-loop
-loop-less-2 c = search needs
-
-loop-again-2 : tie.Need-loop-again-2 Inv-loop μ-loop
-loop-again-2 c = (omega arith, omega arith, omega arith, search needs, search needs, search (lists-past, length-chains))
-
-returns-2 : tie.Need-returns-2 Inv-loop μ-loop
-returns-2 c = search lists-all
+returns-5 : tie.Need-returns-5
+returns-5 c = search needs
 
 pub lists-by-sn-spec : {M : Type 1} → statement M
 lists-by-sn-spec =
     tie.close
     (tie.spec
-    Inv-loop
-    μ-loop
     in-places-requires
+    array-read-a
+    cast-a
+    array-read-b
+    cast-b
+    two-lists-requires
+    returns
+    some-lists-requires
+    returns-2
+    some-lists-requires-2
+    returns-3
     array-read-one-list
     cast-one-list
     one-list-requires
-    returns
-    loop-holds
-    array-read-k
-    cast-k
-    placed-at-requires
-    mul-lists
-    array-set-from-lists
-    add-count
-    add-i
-    loop-less
-    loop-again
-    add-i-2
-    loop-less-2
-    loop-again-2
-    returns-2)
+    returns-4
+    some-lists-requires-3
+    returns-5)

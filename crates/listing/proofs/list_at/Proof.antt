@@ -1,0 +1,13 @@
+use Rattle.listing.proofs.ListsLaws.{list-told}
+use borrow.Author.Needs.{needs}
+use Rattle.listing.proofs.list_at.Statement.{statement}
+use Rattle.listing.proofs.list_at.Tie as tie
+
+placed-at-requires : tie.Need-placed-at-requires
+placed-at-requires c κs = search needs
+
+returns : tie.Need-returns
+returns c = search list-told
+
+pub list-at-spec : {M : Type 1} → statement M
+list-at-spec = tie.close (tie.spec placed-at-requires returns)
