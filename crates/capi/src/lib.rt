@@ -78,13 +78,13 @@ fn report_of(answer: Answer) -> [u32; REPORT_ROOM]
         d.sn as u32,
         d.count as u32,
         sited,
-        p.sn as u32,
+        p.sn,
         p.atom,
-        q.sn as u32,
+        q.sn,
         q.atom,
-        s.sn as u32,
+        s.sn,
         s.atom,
-        t.sn as u32,
+        t.sn,
         t.atom,
     ]
 }

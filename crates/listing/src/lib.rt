@@ -52,7 +52,7 @@ pub fn sites_by_sn(notes: &[u32; NOTE_ROOM], order: Rising) -> Sites
             let role = p.role;
             if has_site(role) {
                 let site = Site {
-                    sn: p.sn,
+                    sn: p.sn as u32,
                     atom: p.site,
                 };
                 sites[count] = site;
@@ -75,7 +75,7 @@ pub fn sites_by_sn(notes: &[u32; NOTE_ROOM], order: Rising) -> Sites
 
 // A chain: its sn, and how many indices it has.
 pub struct Listed {
-    pub sn: u8,
+    pub sn: u16,
     pub count: u16,
 }
 
@@ -93,7 +93,7 @@ fn one_list(notes: &[u32; NOTE_ROOM], k: usize) -> Lists
     if k < MAX_CHAINS {
         let p = placed::placed_at(notes, k);
         let list = Listed {
-            sn: p.sn,
+            sn: p.sn as u16,
             count: p.count,
         };
         let items = [list, none, none, none];
@@ -109,7 +109,7 @@ fn list_at(notes: &[u32; NOTE_ROOM], k: usize) -> Listed
 {
     let p = placed::placed_at(notes, k);
     Listed {
-        sn: p.sn,
+        sn: p.sn as u16,
         count: p.count,
     }
 }
@@ -142,7 +142,7 @@ fn some_lists(notes: &[u32; NOTE_ROOM], order: Rising) -> Lists
         if k < MAX_CHAINS {
             let p = placed::placed_at(notes, k);
             let list = Listed {
-                sn: p.sn,
+                sn: p.sn as u16,
                 count: p.count,
             };
             lists[count] = list;

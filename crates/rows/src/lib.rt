@@ -113,7 +113,7 @@ fn put_indices(out: &mut [u8], at: usize, indices: &[u16]) -> usize
 }
 
 // A chain: its sn and its indices.
-fn put_chain(out: &mut [u8], at: usize, sn: u8, indices: &[u16]) -> usize
+fn put_chain(out: &mut [u8], at: usize, sn: u16, indices: &[u16]) -> usize
     ensures { λ r. ⌜ Written (now (out .entry)) at (chainText (record { sn = sn; indices = now (indices .entry) })) (now (out .exit)) r ⌝ }
 {
     let p = put_decimal(out, at, sn as u64);
@@ -122,7 +122,7 @@ fn put_chain(out: &mut [u8], at: usize, sn: u8, indices: &[u16]) -> usize
 }
 
 // A chain of a list.
-fn put_next_chain(out: &mut [u8], at: usize, more: bool, sn: u8, indices: &[u16]) -> usize
+fn put_next_chain(out: &mut [u8], at: usize, more: bool, sn: u16, indices: &[u16]) -> usize
     ensures { λ r. ⌜ Written (now (out .entry)) at (listed more 59 (chainText (record { sn = sn; indices = now (indices .entry) }))) (now (out .exit)) r ⌝ }
 {
     let p = put_parting(out, at, more, b';');

@@ -61,8 +61,8 @@ pub fn put_numbered(out: &mut [u8], at: usize, before: &[u8], n: u32, after: u8)
 // The most sites that a line has: one for each sn.
 pub const MAX_SITES: usize = 4;
 
-// A site: the sn of its chain, and its atom.
+// A site: the sn of its chain, and its atom. Two numbers of one size: what pads a struct is copied with it.
 pub struct Site {
-    pub sn: u8,
+    pub sn: u32,
     pub atom: u32,
 }

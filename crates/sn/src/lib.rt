@@ -18,11 +18,11 @@ use shown::Site;
 use shown::put_block_lead;
 
 // A label, `sn` and its digit.
-pub fn put_label(out: &mut [u8], at: usize, sn: u8) -> usize
+pub fn put_label(out: &mut [u8], at: usize, sn: u32) -> usize
     requires { ⌜ sn < 10 ⌝ }
     ensures { λ r. ⌜ Written (now (out .entry)) at (showLabel sn) (now (out .exit)) r ⌝ }
 {
-    put_text(out, at, &[b's', b'n', 48 + sn])
+    put_text(out, at, &[b's', b'n', 48 + sn as u8])
 }
 
 // How many of the sites count: a larger number stands for all of them.

@@ -18,7 +18,7 @@ use sn::counted;
 use sn::put_label;
 
 // A label of the list of labels that may be exchanged.
-fn put_next_label(out: &mut [u8], at: usize, more: bool, sn: u8) -> usize
+fn put_next_label(out: &mut [u8], at: usize, more: bool, sn: u32) -> usize
     requires { ⌜ sn < 10 ⌝ }
     ensures { λ r. ⌜ Written (now (out .entry)) at (listed more 44 (showLabel sn)) (now (out .exit)) r ⌝ }
 {
