@@ -23,11 +23,11 @@ use Rattle.record.specs.declared.ChainPrefix.the-variants.{Acyl, SphingoidD, Sp
 use Rattle.record.specs.declared.Geometry.{Geometry}
 use Rattle.record.specs.declared.Geometry.the-variants.{Unstated, Cis, Trans}
 use Rattle.record.specs.declared.DbPos.{DbPos}
-use Rattle.record.specs.Chain.{Chain, Outcome, Read, Refused, andThen, unreadable, noFeatures, withBond, withUnlocated, countsOf, maxCarbons, maxBonds}
+use Rattle.record.specs.Chain.{Chain, Outcome, Read, Refused, andThen, unreadable, noFeatures, withBond, withUnlocated, countsOf, maxCarbons, maxBonds, maxGroups}
 use Rattle.parsed.specs.declared.ParsedChain.{ParsedChain}
 use Rattle.parsed.specs.Parsed.{Keeps}
 use Rattle.seats.specs.Seats.{seated}
-use Rattle.codes.specs.Codes.{bondCode, bondIn}
+use Rattle.codes.specs.Codes.{bondCode, bondIn, groupIn}
 use Rattle.codes.proofs.Laws.{bond-back}
 use Rattle.form.specs.Parts.{onto, partsAt, listParts}
 use Rattle.positions.specs.Each.{each}
@@ -47,12 +47,13 @@ use Rattle.token.specs.declared.Missing.the-variants.{Seated as Missing�
 use Rattle.token.specs.declared.Ended.{Ended}
 use Rattle.token.specs.declared.ReadToken.{ReadToken}
 use Rattle.token.specs.Lent.{MissingIs, Ends, Tells, noToken}
+use Rattle.segment.proofs.Laws.{segments-none}
 use Rattle.token.proofs.Laws.{rest-empty}
-use Rattle.token.specs.Short.{Passed, HeadAt, Headed, bonded, bondsIn, listLeft, SpotOf, Spotted, Listing, mayFollow, Follows, Lists, Starts, Plain, PlainIn}
+use Rattle.token.specs.Short.{Passed, HeadAt, Headed, bonded, bondsIn, listLeft, SpotOf, Spotted, Listing, mayFollow, Follows, Lists, grouped, groupsIn, Grouped, Starts, Plain, PlainIn}
 
 -- ---- the bytes that are passed
 
-digit-most : (b : ℕ) → isDigit b ≡ true → b ≤ 57
+pub digit-most : (b : ℕ) → isDigit b ≡ true → b ≤ 57
 unfolding isDigit
 digit-most b e = go (ltb b 48) e
   where
@@ -60,10 +61,10 @@ digit-most b e = go (ltb b 48) e
     go true e = absurd (true≢false (sym e))
     go false e = leb-true b 57 e
 
-passed-here : (v : List ℕ) → Passed v v
+pub passed-here : (v : List ℕ) → Passed v v
 passed-here v = record { bytes = refl; solid = λ e. e }
 
-passed-one : (x : ℕ) (s v : List ℕ) → 33 ≤ x → x ≤ 126 → Passed s v → Passed (x ∷ s) v
+pub passed-one : (x : ℕ) (s v : List ℕ) → 33 ≤ x → x ≤ 126 → Passed s v → Passed (x ∷ s) v
 unfolding allPrintable printable ending endingAfter
 passed-one x s v l h p = record { bytes = rw (le-ltb x 32 (omega arith), le-leb x 126 h) (p .bytes); solid = λ e. rw (ne-eqb x 32 (λ z. omega arith)) (ap suc (p .solid e)) }
 
@@ -78,13 +79,13 @@ digit-is b d e n = sym e ∙ not-false d n
 pub figure-most : (b : ℕ) → isDigit b ≡ true → b - 48 ≤ 9
 figure-most b e = omega (arith, digit-most b e)
 
-one-digit : (x : ℕ) → isDigit x ≡ true → digitsUpTo numberLimit (x ∷ []) ≡ Value (x - 48)
+pub one-digit : (x : ℕ) → isDigit x ≡ true → digitsUpTo numberLimit (x ∷ []) ≡ Value (x - 48)
 unfolding digitsUpTo checked allDigits valueFrom
 one-digit x e =
     let z : 0 * 10 + (x - 48) ≡ x - 48 = omega arith in
     rw (e, z, le-ltb numberLimit (x - 48) (omega (arith, digit-most x e)))
 
-two-digits : (x y : ℕ) → isDigit x ≡ true → isDigit y ≡ true → digitsUpTo numberLimit (x ∷ y ∷ []) ≡ Value ((x - 48) * 10 + (y - 48))
+pub two-digits : (x y : ℕ) → isDigit x ≡ true → isDigit y ≡ true → digitsUpTo numberLimit (x ∷ y ∷ []) ≡ Value ((x - 48) * 10 + (y - 48))
 unfolding digitsUpTo checked allDigits valueFrom
 two-digits x y e f =
     let z : (0 * 10 + (x - 48)) * 10 + (y - 48) ≡ (x - 48) * 10 + (y - 48) = omega arith in
@@ -375,7 +376,7 @@ spot-two t a b r i j l e m f k g h w n = go t l (digit-is _ i e m) (digit-is _ j
 
 -- ---- the list
 
-passed-on : (s u v : List ℕ) → Passed s u → Passed u v → Passed s v
+pub passed-on : (s u v : List ℕ) → Passed s u → Passed u v → Passed s v
 passed-on s u v p q = record { bytes = p .bytes ∙ q .bytes; solid = λ e. p .solid (q .solid e) }
 
 -- past a comma or the list's end, which stands n bytes on
@@ -529,26 +530,56 @@ unfolding trimmed firstByte
 ending-last [] l n e = absurd (l refl)
 ending-last (x ∷ s) l n e = rw (e, ne-eqb x 32 n) (take-all (length (x ∷ s) - 0) (x ∷ s) (omega arith))
 
-pub usual-read : (s ys : List ℕ) (h : Head) (l : Listed) → length s ≤ 255 → ((h .rest ≡ 0 → ⊥) → Headed s h) → (h .rest ≡ 0 → ⊥)
-    → Lists (take (length s - h .rest) (drop (h .rest) s)) ys l → (b : Bool)
-    → (b ≡ true → Follows (take (length (take (length s - h .rest) (drop (h .rest) s)) - l .rest) (drop (l .rest) (take (length s - h .rest) (drop (h .rest) s))))) → not b ≡ false
-    → Starts s ys (record { prefix = h .prefix; carbon = h .carbon; declared = h .declared; count = l .count; rest = h .rest + l .rest })
+-- what is left after the head and the list
+left-read : (s ys : List ℕ) (h : Head) (l : Listed) → length s ≤ 255 → Headed s h → Lists (drop (h .rest) s) ys l → Follows (drop (l .rest) (drop (h .rest) s))
+    → tokenOf s ≡ restOf (missingOf (h .carbon) (bondsIn (l .count) ys) (h .declared)) (drop (l .rest) (drop (h .rest) s)) (bonded (h .prefix) (h .carbon) (bondsIn (l .count) ys))
 unfolding tokenOf
-usual-read s ys h l few w n q b f t =
-    let k = w n in
-    let u : take (length s - h .rest) (drop (h .rest) s) ≡ drop (h .rest) s = to-end (h .rest) s in
-    let g : Lists (drop (h .rest) s) ys l = rw u at q in
-    let v : drop (l .rest) (drop (h .rest) s) ≡ drop (h .rest + l .rest) s = drop-drop (l .rest) (h .rest) s in
-    let i : Follows (drop (l .rest) (drop (h .rest) s)) = rw (u, to-end (l .rest) (drop (h .rest) s)) at (f (not-false b t)) in
+left-read s ys h l few k g i =
     let p : Passed s (drop (l .rest) (drop (h .rest) s)) = passed-on s _ _ (k .passed) (g .passed) in
     let c : trimmed s ≡ s = ending-last s (k .some) (k .first) (p .solid (i .solid)) in
-    record {
-      room = omega (arith, k .room, g .room, length-drop (h .rest) s);
-      few = k .few;
-      listed = g .few;
-      stored = g .stored;
-      says = rw (le-ltb 255 (length s) few, p .bytes ∙ i .bytes, c) (k .says (g .start (i .start)) ∙ g .says (i .start) (h .declared) (h .prefix) (h .carbon) ∙ rw v);
-    }
+    rw (le-ltb 255 (length s) few, p .bytes ∙ i .bytes, c) (k .says (g .start (i .start)) ∙ g .says (i .start) (h .declared) (h .prefix) (h .carbon))
+
+module _ (s ys hs : List ℕ) (h : Head) (l : Listed) (few : length s ≤ 255) (w : (h .rest ≡ 0 → ⊥) → Headed s h) (n : h .rest ≡ 0 → ⊥) (q : Lists (take (length s - h .rest) (drop (h .rest) s)) ys l) where
+  listing : Lists (drop (h .rest) s) ys l
+  listing = rw (to-end (h .rest) s) at q
+
+  pub usual-read : (b : Bool)
+      → (b ≡ true → Follows (take (length (take (length s - h .rest) (drop (h .rest) s)) - l .rest) (drop (l .rest) (take (length s - h .rest) (drop (h .rest) s))))) → not b ≡ false
+      → Starts s ys hs (record { prefix = h .prefix; carbon = h .carbon; declared = h .declared; count = l .count; groups = 0; rest = h .rest + l .rest })
+  usual-read b f t =
+      let k = w n in
+      let g = listing in
+      let u : take (length s - h .rest) (drop (h .rest) s) ≡ drop (h .rest) s = to-end (h .rest) s in
+      let i : Follows (drop (l .rest) (drop (h .rest) s)) = rw (u, to-end (l .rest) (drop (h .rest) s)) at (f (not-false b t)) in
+      record {
+        room = omega (arith, k .room, g .room, length-drop (h .rest) s);
+        few = k .few;
+        listed = g .few;
+        stored = g .stored;
+        grown = omega arith;
+        kept = omega arith;
+        says = left-read s ys h l few k g i ∙ rw (drop-drop (l .rest) (h .rest) s);
+      }
+
+  pub usual-groups : (m : ℕ)
+      → ((m ≡ 0 → ⊥) → Grouped (take (length (take (length s - h .rest) (drop (h .rest) s)) - l .rest) (drop (l .rest) (take (length s - h .rest) (drop (h .rest) s)))) hs m) → (m ≡ 0 → ⊥)
+      → Starts s ys hs (record { prefix = h .prefix; carbon = h .carbon; declared = h .declared; count = l .count; groups = m; rest = length s })
+  unfolding restOf
+  usual-groups m f t =
+      let k = w n in
+      let g = listing in
+      let u : take (length s - h .rest) (drop (h .rest) s) ≡ drop (h .rest) s = to-end (h .rest) s in
+      let i : Grouped (drop (l .rest) (drop (h .rest) s)) hs m = rw (u, to-end (l .rest) (drop (h .rest) s)) at (f t) in
+      let e = i .says (h .prefix) (h .carbon) (bondsIn (l .count) ys) (omega (arith, bonds-few (l .count) ys, g .few)) in
+      record {
+        room = le-refl (length s);
+        few = k .few;
+        listed = g .few;
+        stored = g .stored;
+        grown = i .few;
+        kept = i .stored;
+        says = left-read s ys h l few k g (i .follows) ∙ rw (e, drop-length s, segments-none (grouped (h .prefix) (h .carbon) (bondsIn (l .count) ys) (groupsIn m hs)));
+      }
 
 -- ---- the whole token
 
@@ -560,20 +591,26 @@ keeps-in n bs h l =
 bonds-few-in : (n : ℕ) (bs : List ℕ) → n ≤ 32 → length (bondsIn n bs) ≤ 32
 bonds-few-in n bs h = omega (arith, bonds-few n bs)
 
-module _ (p : ChainPrefix) (w : ℕ) (m : Missing) (n : ℕ) where
-  pub plain-unseated : (r : ReadToken) → m ≡ Unseated → r ≡ noToken 11 → Plain p w m n r
-  plain-unseated r e f = rw (e, f) (record { tells = λ bs gs rs h l. record { stands = (refl, omega arith) } })
+keeps-groups : (n : ℕ) (gs : List ℕ) → n ≤ 16 → n ≤ length gs → Keeps groupIn maxGroups gs n (groupsIn n gs)
+keeps-groups n gs h l =
+    let a : min n 16 ≡ n = omega arith in
+    let k : length (groupsIn n gs) ≤ n = omega (arith, length-map (take n gs) groupIn, length-take n gs) in
+    record { counted = omega (arith, length-map (take n gs) groupIn, length-take n gs); kept = rw a (sym (take-all 16 (groupsIn n gs) (omega arith))) }
 
-  pub plain-seated : (k : ℕ) → m ≡ Missing·Seated k → Plain p w m n (record { refusal = 0; prefix = p; written = w; carbon = w; branched = false; unlocated = k; counts = record { bonds = n; groups = 0; rings = 0; oxygens = 0 } })
+module _ (p : ChainPrefix) (w : ℕ) (m : Missing) (n g : ℕ) where
+  pub plain-unseated : (r : ReadToken) → m ≡ Unseated → r ≡ noToken 11 → Plain p w m n g r
+  plain-unseated r e f = rw (e, f) (record { tells = λ bs gs rs h l i j. record { stands = (refl, omega arith) } })
+
+  pub plain-seated : (k : ℕ) → m ≡ Missing·Seated k → Plain p w m n g (record { refusal = 0; prefix = p; written = w; carbon = w; branched = false; unlocated = k; counts = record { bonds = n; groups = g; rings = 0; oxygens = 0 } })
   unfolding bareOxygens withUnlocated
   plain-seated k e =
       rw e
       (record {
-        tells = λ bs gs rs h l.
+        tells = λ bs gs rs h l i j.
             record {
               stands = (
                 refl,
-                record { prefix = refl; written = refl; carbon = refl; branched = refl; unlocated = refl; oxygens = refl; bonds = keeps-in n bs h l; groups = record { counted = refl; kept = refl }; rings = record { counted = refl; kept = refl } },
+                record { prefix = refl; written = refl; carbon = refl; branched = refl; unlocated = refl; oxygens = refl; bonds = keeps-in n bs h l; groups = keeps-groups g gs i j; rings = record { counted = refl; kept = refl } },
               );
             };
       })
@@ -585,35 +622,35 @@ all-given w n bs l =
     let z : n - n ≡ 0 = omega arith in
     rw (k, le-ltb n n (le-refl n), z)
 
-module _ (p : ChainPrefix) (w declared n : ℕ) (bs : List ℕ) (r : ReadToken) where
-  pub plain-all : declared ≡ n → Plain p w (Missing·Seated 0) n r → PlainIn p w declared n bs r
-  plain-all e k = rw e (record { tells = λ gs rs a h l. rw (all-given w n bs l) (k .tells bs gs rs h l) })
+module _ (p : ChainPrefix) (w declared n g : ℕ) (bs : List ℕ) (r : ReadToken) where
+  pub plain-all : declared ≡ n → Plain p w (Missing·Seated 0) n g r → PlainIn p w declared n g bs r
+  plain-all e k = rw e (record { tells = λ gs rs a h l i j. rw (all-given w n bs l) (k .tells bs gs rs h l i j) })
 
-  pub plain-in : (m : Missing) → MissingIs w bs n declared m → Plain p w m n r → PlainIn p w declared n bs r
-  plain-in m v k = record { tells = λ gs rs a h l. rw (← v .is (bondsIn n bs) (keeps-in n bs h l) a (bonds-few-in n bs h)) (k .tells bs gs rs h l) }
+  pub plain-in : (m : Missing) → MissingIs w bs n declared m → Plain p w m n g r → PlainIn p w declared n g bs r
+  plain-in m v k = record { tells = λ gs rs a h l i j. rw (← v .is (bondsIn n bs) (keeps-in n bs h l) a (bonds-few-in n bs h)) (k .tells bs gs rs h l i j) }
 
-pub segments-end : (u : Usual) (s bs gs rs : List ℕ) (m : Missing) (r : Ended) (ys hs zs : List ℕ) → u .carbon ≤ 255 → u .count ≤ 32 → 32 ≤ length bs → MissingIs (u .carbon) bs (u .count) (u .declared) m
-    → Ends (u .carbon) (record { bonds = u .count; groups = 0; rings = 0; oxygens = 0 }) bs gs rs r ys hs zs (restOf m s)
+pub segments-end : (u : Usual) (s bs gs rs : List ℕ) (m : Missing) (r : Ended) (ys hs zs : List ℕ) → u .carbon ≤ 255 → u .count ≤ 32 → u .groups ≤ 16 → 32 ≤ length bs → 16 ≤ length gs
+    → MissingIs (u .carbon) bs (u .count) (u .declared) m → Ends (u .carbon) (record { bonds = u .count; groups = u .groups; rings = 0; oxygens = 0 }) bs gs rs r ys hs zs (restOf m s)
     → Tells (record { refusal = r .refusal; prefix = u .prefix; written = u .carbon; carbon = u .carbon; branched = false; unlocated = r .unlocated; counts = r .counts }) ys hs zs
-    (restOf (missingOf (u .carbon) (bondsIn (u .count) bs) (u .declared)) s (bonded (u .prefix) (u .carbon) (bondsIn (u .count) bs)))
-segments-end u s bs gs rs m r ys hs zs a h l v e =
-    let x : ParsedChain = record { prefix = u .prefix; written = u .carbon; carbon = u .carbon; branched = false; unlocated = 0; oxygens = 0; «bond_count» = u .count; bonds = bs; «group_count» = 0; groups = gs; «ring_count» = 0; rings = rs } in
+    (restOf (missingOf (u .carbon) (bondsIn (u .count) bs) (u .declared)) s (grouped (u .prefix) (u .carbon) (bondsIn (u .count) bs) (groupsIn (u .groups) gs)))
+segments-end u s bs gs rs m r ys hs zs a h g l o v e =
+    let x : ParsedChain = record { prefix = u .prefix; written = u .carbon; carbon = u .carbon; branched = false; unlocated = 0; oxygens = 0; «bond_count» = u .count; bonds = bs; «group_count» = u .groups; groups = gs; «ring_count» = 0; rings = rs } in
     let k = keeps-in (u .count) bs h (omega arith) in
     rw (← v .is (bondsIn (u .count) bs) k a (bonds-few-in (u .count) bs h))
     (record {
-      stands = e .gives x .stands (bonded (u .prefix) (u .carbon) (bondsIn (u .count) bs))
-          (record { prefix = refl; written = refl; carbon = refl; branched = refl; unlocated = refl; oxygens = refl; bonds = k; groups = record { counted = refl; kept = refl }; rings = record { counted = refl; kept = refl } });
+      stands = e .gives x .stands (grouped (u .prefix) (u .carbon) (bondsIn (u .count) bs) (groupsIn (u .groups) gs))
+          (record { prefix = refl; written = refl; carbon = refl; branched = refl; unlocated = refl; oxygens = refl; bonds = k; groups = keeps-groups (u .groups) gs g (omega arith); rings = record { counted = refl; kept = refl } });
     })
 
-module _ (s ys : List ℕ) (u : Usual) (r : ReadToken) (w : (u .rest ≡ 0 → ⊥) → Starts s ys u) (n : u .rest ≡ 0 → ⊥) where
-  pub token-plain : (gs rs : List ℕ) → u .rest ≡ length s → PlainIn (u .prefix) (u .carbon) (u .declared) (u .count) ys r → Tells r ys gs rs (tokenOf s)
-  token-plain gs rs e k =
+module _ (s ys hs : List ℕ) (u : Usual) (r : ReadToken) (w : (u .rest ≡ 0 → ⊥) → Starts s ys hs u) (n : u .rest ≡ 0 → ⊥) where
+  pub token-plain : (rs : List ℕ) → u .rest ≡ length s → PlainIn (u .prefix) (u .carbon) (u .declared) (u .count) (u .groups) ys r → Tells r ys hs rs (tokenOf s)
+  token-plain rs e k =
       let q = w n in
       let v : drop (u .rest) s ≡ [] = rw e (drop-length s) in
-      let z : tokenOf s ≡ finished (missingOf (u .carbon) (bondsIn (u .count) ys) (u .declared)) (bonded (u .prefix) (u .carbon) (bondsIn (u .count) ys)) = (rw v at (q .says)) ∙ rest-empty _ _ in
-      rw z (k .tells gs rs (q .few) (q .listed) (q .stored))
+      let z : tokenOf s ≡ finished (missingOf (u .carbon) (bondsIn (u .count) ys) (u .declared)) (grouped (u .prefix) (u .carbon) (bondsIn (u .count) ys) (groupsIn (u .groups) hs)) = (rw v at (q .says)) ∙ rest-empty _ _ in
+      rw z (k .tells hs rs (q .few) (q .listed) (q .stored) (q .grown) (q .kept))
 
   pub token-segments : (bs gs rs : List ℕ)
-      → Tells r bs gs rs (restOf (missingOf (u .carbon) (bondsIn (u .count) ys) (u .declared)) (take (length s - u .rest) (drop (u .rest) s)) (bonded (u .prefix) (u .carbon) (bondsIn (u .count) ys)))
+      → Tells r bs gs rs (restOf (missingOf (u .carbon) (bondsIn (u .count) ys) (u .declared)) (take (length s - u .rest) (drop (u .rest) s)) (grouped (u .prefix) (u .carbon) (bondsIn (u .count) ys) (groupsIn (u .groups) hs)))
       → Tells r bs gs rs (tokenOf s)
   token-segments bs gs rs k = rw (w n .says, ← to-end (u .rest) s) k

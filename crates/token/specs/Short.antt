@@ -2,17 +2,18 @@
 -- of the definitions of specs/Token.antt once so many bytes are read. Assumes nothing.
 use Prim.Native.Nat.{ℕ, _+_, _*_, _-_, _≤_, _<_}
 use mathlib.Core.Path.{_≡_}
-use mathlib.Core.List.{List, [], _∷_, map}
+use mathlib.Core.List.{List, [], _∷_, _++_, map}
 use mathlib.Core.Bool.{Bool, true, false, cond}
 use lib.ListN.{length, take, drop, getD}
-use lib.Dec.{eqb}
+use lib.Dec.{eqb, ltb}
 use Rattle.scan.specs.Part.{indexOf, ending}
 use Rattle.scan.specs.Number.{isDigit, digitRun}
 use Rattle.record.specs.declared.ChainPrefix.{ChainPrefix}
 use Rattle.record.specs.declared.Geometry.the-variants.{Unstated}
 use Rattle.record.specs.declared.DbPos.{DbPos}
-use Rattle.record.specs.Chain.{Chain, Outcome, Refused, andThen, unreadable, noFeatures, withBond, countsOf, maxCarbons, maxBonds}
-use Rattle.codes.specs.Codes.{bondCode, bondIn}
+use Rattle.record.specs.declared.Mod.{Mod}
+use Rattle.record.specs.Chain.{Chain, Outcome, Read, Refused, andThen, unreadable, noFeatures, withBond, countsOf, maxCarbons, maxBonds, maxGroups}
+use Rattle.codes.specs.Codes.{bondCode, bondIn, groupIn}
 use Rattle.form.specs.Parts.{partsAt}
 use Rattle.positions.specs.Each.{each}
 use Rattle.positions.specs.Positions.{geometryOf, bondAt}
@@ -20,6 +21,11 @@ use Rattle.token.specs.declared.Missing.{Missing}
 use Rattle.token.specs.declared.Head.{Head}
 use Rattle.token.specs.declared.Spot.{Spot}
 use Rattle.token.specs.declared.Listed.{Listed}
+use Rattle.features.specs.declared.Segment.the-variants.{Located}
+use Rattle.features.specs.Features.{itemAt, partOf}
+use Rattle.segment.specs.Segment.{segments}
+use Rattle.token.specs.declared.Lead.{Lead}
+use Rattle.token.specs.declared.Item.{Item}
 use Rattle.token.specs.declared.Usual.{Usual}
 use Rattle.token.specs.declared.ReadToken.{ReadToken}
 use Rattle.token.specs.Token.{missingOf, finished, restOf, listedOf, afterCount, trimmedOf, allPrintable, tokenOf}
@@ -109,6 +115,50 @@ pub record Follows (v : List ℕ) : Type 0 where
   pub solid : ending v ≡ length v
   pub start : mayFollow v ≡ true
 
+-- ---- segments of groups
+
+-- a byte of a part: from `0` to `z`, and no `;`, `[`, `]` or `c`, so that no part ends there and its segment has no other form
+unfoldable pub isPlain : ℕ → Bool
+isPlain b = cond (ltb b 48) false (cond (ltb 122 b) false (cond (eqb b 59) false (cond (eqb b 91) false (cond (eqb b 93) false (cond (eqb b 99) false true)))))
+
+abbrev pub Plainly : List ℕ → Type 0
+Plainly [] = Unit {0}
+Plainly (x ∷ s) = (isPlain x ≡ true) × Plainly s
+
+-- r is how many plain bytes lead
+pub record PlainRun (s : List ℕ) (r : ℕ) : Type 0 where
+  pub within : r ≤ length s
+  pub plain : Plainly (take r s)
+
+-- the position that t starts with, of at most two digits
+pub record Leads (t : List ℕ) (r : Lead) : Type 0 where
+  pub within : r .length ≤ length t
+  pub plain : Plainly (take (r .length) t)
+  pub small : r .pos ≤ 99
+  pub says : (c x : ℕ) (b : List ℕ) → isDigit x ≡ false → partOf (take (r .length) t ++ x ∷ b) c ≡ itemAt (x ∷ b) (r .pos) c
+
+-- r is the group that t starts with
+pub record Itemed (t : List ℕ) (r : Item) : Type 0 where
+  pub room : r .next ≤ length t
+  pub plain : Plainly (take (r .next) t)
+  pub says : (c : ℕ) → partOf (take (r .next) t) c ≡ Located (groupIn (r .code))
+
+-- a chain with these double bonds and groups and nothing else; the groups of an array
+abbrev pub grouped : ChainPrefix → ℕ → List DbPos → List Mod → Chain
+grouped p w l g = record { prefix = p; written = w; carbon = w; branched = false; unlocated = 0; oxygens = 0; bonds = l; groups = g; rings = [] }
+
+abbrev pub groupsIn : ℕ → List ℕ → List Mod
+groupsIn n xs = map groupIn (take n xs)
+
+-- all segments were read, as n groups in the array ys
+pub record Grouped (s ys : List ℕ) (n : ℕ) : Type 0 where
+  pub few : n ≤ maxGroups
+  pub stored : n ≤ length ys
+  pub follows : Follows s
+  pub says : (p : ChainPrefix) (w : ℕ) (l : List DbPos) → length l ≤ maxBonds → segments s (bonded p w l) ≡ Read (grouped p w l (groupsIn n ys))
+
+-- ---- the start of the token
+
 -- a list or none after the bond count, and what is left where segments or nothing may follow
 pub record Lists (u ys : List ℕ) (r : Listed) : Type 0 where
   pub room : r .rest ≤ length u
@@ -120,21 +170,24 @@ pub record Lists (u ys : List ℕ) (r : Listed) : Type 0 where
       → afterCount declared u (noFeatures p w w false) ≡ restOf (missingOf w (bondsIn (r .count) ys) declared) (drop (r .rest) u) (bonded p w (bondsIn (r .count) ys))
 
 -- what is left of a token of at most 255 bytes
-abbrev pub leftOf : Usual → List ℕ → List ℕ → Outcome
-leftOf r s ys = restOf (missingOf (r .carbon) (bondsIn (r .count) ys) (r .declared)) (drop (r .rest) s) (bonded (r .prefix) (r .carbon) (bondsIn (r .count) ys))
+abbrev pub leftOf : Usual → List ℕ → List ℕ → List ℕ → Outcome
+leftOf r s ys hs = restOf (missingOf (r .carbon) (bondsIn (r .count) ys) (r .declared)) (drop (r .rest) s) (grouped (r .prefix) (r .carbon) (bondsIn (r .count) ys) (groupsIn (r .groups) hs))
 
-pub record Starts (s ys : List ℕ) (r : Usual) : Type 0 where
+pub record Starts (s ys hs : List ℕ) (r : Usual) : Type 0 where
   pub room : r .rest ≤ length s
   pub few : r .carbon ≤ maxCarbons
   pub listed : r .count ≤ maxBonds
   pub stored : r .count ≤ length ys
-  pub says : tokenOf s ≡ leftOf r s ys
+  pub grown : r .groups ≤ maxGroups
+  pub kept : r .groups ≤ length hs
+  pub says : tokenOf s ≡ leftOf r s ys hs
 
 -- ---- the token
 
--- r is what is judged of a chain without segments
-pub record Plain (p : ChainPrefix) (w : ℕ) (m : Missing) (n : ℕ) (r : ReadToken) : Type 0 where
-  pub tells : (bs gs rs : List ℕ) → n ≤ maxBonds → n ≤ length bs → Tells r bs gs rs (finished m (bonded p w (bondsIn n bs)))
+-- r is what is judged of a chain of which all is read
+pub record Plain (p : ChainPrefix) (w : ℕ) (m : Missing) (n k : ℕ) (r : ReadToken) : Type 0 where
+  pub tells : (bs gs rs : List ℕ) → n ≤ maxBonds → n ≤ length bs → k ≤ maxGroups → k ≤ length gs → Tells r bs gs rs (finished m (grouped p w (bondsIn n bs) (groupsIn k gs)))
 
-pub record PlainIn (p : ChainPrefix) (w declared n : ℕ) (bs : List ℕ) (r : ReadToken) : Type 0 where
-  pub tells : (gs rs : List ℕ) → w ≤ maxCarbons → n ≤ maxBonds → n ≤ length bs → Tells r bs gs rs (finished (missingOf w (bondsIn n bs) declared) (bonded p w (bondsIn n bs)))
+pub record PlainIn (p : ChainPrefix) (w declared n k : ℕ) (bs : List ℕ) (r : ReadToken) : Type 0 where
+  pub tells : (gs rs : List ℕ) → w ≤ maxCarbons → n ≤ maxBonds → n ≤ length bs → k ≤ maxGroups → k ≤ length gs
+      → Tells r bs gs rs (finished (missingOf w (bondsIn n bs) declared) (grouped p w (bondsIn n bs) (groupsIn k gs)))

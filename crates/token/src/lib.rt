@@ -1,6 +1,7 @@
 // The token reader: one chain token, as lent bytes, to a chain, to 31 or to 11. Its double bonds, groups and rings are written to lent arrays,
 // and what is counted of them goes by value. Every byte string of every length has an answer, and it is the one that specs/Token.antt defines;
 // what is read holds the chain.
+use features::Feature;
 use opening::Branch;
 use parsed::Counted;
 use parsed::Counts;
@@ -13,10 +14,12 @@ use record::Geometry;
 use record::MAX_BONDS;
 use record::MAX_GROUPS;
 use record::MAX_RINGS;
+use record::Mod;
 use scan::Number;
 ghost use mathlib.Core.Path.{_≡_};
 ghost use mathlib.Core.Bool.{cond, true, false};
 ghost use mathlib.Core.List.{[]};
+ghost use mathlib.Core.Logic.{_⊎_};
 ghost use Prim.Native.Nat.{_≤_, _-_};
 ghost use lib.ListN.{length};
 ghost use Rattle.record.specs.Chain.{maxCarbons, maxBonds, maxGroups, maxRings};
@@ -24,7 +27,7 @@ ghost use Rattle.parsed.specs.Parsed.{Stands, Collects, gather};
 ghost use Rattle.scan.specs.Number.{isDigit};
 ghost use Rattle.token.specs.Token.{printable, allPrintable, maxBytes, missingOf, finished, restOf, countedList, listedOf, afterCount, bondsOf, namedChain, trimmedOf, tokenOf};
 ghost use Rattle.token.specs.Lent.{MissingIs, Bare, Finishes, listedAs, Ends, EndsBegun, Tells, noToken, tokenIn};
-ghost use Rattle.token.specs.Short.{HeadAt, Headed, bonded, bondsIn, SpotOf, Spotted, Listing, Lists, Follows, Starts, Plain, PlainIn};
+ghost use Rattle.token.specs.Short.{HeadAt, Headed, bondsIn, SpotOf, Spotted, Listing, Lists, Follows, isPlain, PlainRun, Leads, Itemed, grouped, groupsIn, Grouped, Starts, Plain, PlainIn};
 
 // The longest token.
 const MAX_BYTES: usize = 255;
@@ -572,12 +575,163 @@ fn may_follow(v: &[u8]) -> bool
     all_printable(v)
 }
 
+// Whether a byte is one of a part, whatever the form of its segment.
+fn is_plain(b: u8) -> bool
+    ensures { λ r. ⌜ r ≡ isPlain b ⌝ }
+{
+    if b < 48 {
+        return false;
+    }
+    if b > 122 {
+        return false;
+    }
+    if b == b';' {
+        return false;
+    }
+    if b == b'[' {
+        return false;
+    }
+    if b == b']' {
+        return false;
+    }
+    if b == b'c' {
+        return false;
+    }
+    true
+}
+
+// How many such bytes lead.
+fn plain_run(s: &[u8]) -> usize
+    ensures { λ r. ⌜ PlainRun (now (s .entry)) r ⌝ }
+{
+    let mut i = 0;
+    while i < s.len() {
+        if !is_plain(s[i]) {
+            return i;
+        }
+        i += 1;
+    }
+    i
+}
+
+// A position before an abbreviation, and how many digits it has.
+pub struct Lead {
+    pub pos: u32,
+    pub length: usize,
+}
+
+// A position of at most two digits, before another byte; 0 where none stands.
+fn read_lead(t: &[u8]) -> Lead
+    ensures { λ r. ⌜ Leads (now (t .entry)) r ⌝ }
+{
+    if t.len() < 2 {
+        return Lead { pos: 0, length: 0 };
+    }
+    if !scan::is_digit(t[0]) {
+        return Lead { pos: 0, length: 0 };
+    }
+    let first = figure(t[0]);
+    if !scan::is_digit(t[1]) {
+        return Lead {
+            pos: first,
+            length: 1,
+        };
+    }
+    let one = figure(t[1]);
+    Lead {
+        pos: first * 10 + one,
+        length: 2,
+    }
+}
+
+// A group of a segment, as a number of the crate `codes`, and how many bytes it has (0: there is none, or it is written otherwise).
+pub struct Item {
+    pub code: u64,
+    pub next: usize,
+}
+
+fn no_item() -> Item
+    ensures { λ r. ⌜ r .next ≡ 0 ⌝ }
+{
+    Item { code: 0, next: 0 }
+}
+
+// A position, which may be missing, and the abbreviation of a group.
+fn read_item(t: &[u8]) -> Item
+    ensures { λ r. ⌜ ((r .next ≡ 0 → ⊥) → Itemed (now (t .entry)) r) ⌝ }
+{
+    let lead = read_lead(t);
+    let n = lead.length;
+    if n == t.len() {
+        return no_item();
+    }
+    if scan::is_digit(t[n]) {
+        return no_item();
+    }
+    let m = plain_run(&t[n..]);
+    if m == 0 {
+        return no_item();
+    }
+    let feature = items::feature_of(&t[n..n + m]);
+    match feature {
+        Feature::Ring(_) => no_item(),
+        Feature::Group(row) => {
+            let code = codes::group_code(Mod { pos: lead.pos, row });
+            Item { code, next: n + m }
+        }
+        Feature::Other => no_item(),
+    }
+}
+
+// Whether a part ends at a byte.
+fn is_separator(b: u8) -> bool
+    ensures { λ r. ⌜ (r ≡ true → (b ≡ 44) ⊎ (b ≡ 59)) ⌝ }
+{
+    if b == b',' {
+        return true;
+    }
+    b == b';'
+}
+
+// The segments, where each is a list of groups that is written as nearly all are: how many groups they give (0: one is written otherwise).
+fn read_groups(s: &[u8], groups: &mut [u64]) -> usize
+    requires { ⌜ maxGroups ≤ length (now groups) ⌝ }
+    ensures { λ r. ⌜ ((r ≡ 0 → ⊥) → Grouped (now (s .entry)) (now (groups .exit)) r) ⌝ }
+{
+    if s.len() == 0 {
+        return 0;
+    }
+    if s[0] != b';' {
+        return 0;
+    }
+    let mut t = &s[1..];
+    let mut count = 0;
+    while count < MAX_GROUPS {
+        let item = read_item(t);
+        let n = item.next;
+        if n == 0 {
+            return 0;
+        }
+        groups[count] = item.code;
+        count += 1;
+        if n == t.len() {
+            return count;
+        }
+        if !is_separator(t[n]) {
+            return 0;
+        }
+        t = &t[n + 1..];
+    }
+    0
+}
+
 // A token that is written as nearly all are, up to its segments; where those start (0: it is written otherwise).
 pub struct Usual {
     pub prefix: ChainPrefix,
     pub carbon: u16,
     pub declared: u64,
     pub count: usize,
+    pub groups: usize,
     pub rest: usize,
 }
 
@@ -589,15 +743,17 @@ fn not_usual() -> Usual
         carbon: 0,
         declared: 0,
         count: 0,
+        groups: 0,
         rest: 0,
     }
 }
 
-// The head and the list. What was looked at here needs no look at its bytes and spaces before.
-fn read_usual(s: &[u8], bonds: &mut [u64]) -> Usual
+// The head, the list and segments of groups. What was looked at here needs no look at its bytes and spaces before.
+fn read_usual(s: &[u8], bonds: &mut [u64], groups: &mut [u64]) -> Usual
     requires { ⌜ length (now s) ≤ maxBytes ⌝ }
     requires { ⌜ maxBonds ≤ length (now bonds) ⌝ }
-    ensures { λ r. ⌜ ((r .rest ≡ 0 → ⊥) → Starts (now (s .entry)) (now (bonds .exit)) r) ⌝ }
+    requires { ⌜ maxGroups ≤ length (now groups) ⌝ }
+    ensures { λ r. ⌜ ((r .rest ≡ 0 → ⊥) → Starts (now (s .entry)) (now (bonds .exit)) (now (groups .exit)) r) ⌝ }
 {
     let head = read_head(s);
     let from = head.rest;
@@ -607,22 +763,41 @@ fn read_usual(s: &[u8], bonds: &mut [u64]) -> Usual
     let u = &s[from..];
     let listed = usual_list(u, bonds);
     let n = listed.rest;
-    if !may_follow(&u[n..]) {
+    let v = &u[n..];
+    let prefix = head.prefix;
+    let k = read_groups(v, groups);
+    if k != 0 {
+        return Usual {
+            prefix,
+            carbon: head.carbon,
+            declared: head.declared,
+            count: listed.count,
+            groups: k,
+            rest: s.len(),
+        };
+    }
+    if !may_follow(v) {
         return not_usual();
     }
-    let prefix = head.prefix;
     Usual {
         prefix,
         carbon: head.carbon,
         declared: head.declared,
         count: listed.count,
+        groups: 0,
         rest: from + n,
     }
 }
 
-// A chain without segments.
-fn plain_chain(prefix: ChainPrefix, carbon: u16, missing: Missing, count: usize) -> ReadToken
-    ensures { λ r. ⌜ Plain prefix carbon missing count r ⌝ }
+// A chain of which all is read: its double bonds and groups are so many.
+fn plain_chain(
+    prefix: ChainPrefix,
+    carbon: u16,
+    missing: Missing,
+    count: usize,
+    groups: usize,
+) -> ReadToken
+    ensures { λ r. ⌜ Plain prefix carbon missing count groups r ⌝ }
 {
     let Missing::Seated(n) = missing else {
         return ReadToken::empty(record::UNREADABLE);
@@ -636,7 +811,7 @@ fn plain_chain(prefix: ChainPrefix, carbon: u16, missing: Missing, count: usize)
         unlocated: n,
         counts: Counts {
             bonds: count,
-            groups: 0,
+            groups,
             rings: 0,
             oxygens: 0,
         },
@@ -650,14 +825,15 @@ fn end_plain(
     declared: u64,
     bonds: &[u64],
     count: usize,
+    groups: usize,
 ) -> ReadToken
-    ensures { λ r. ⌜ PlainIn prefix carbon declared count (now (bonds .entry)) r ⌝ }
+    ensures { λ r. ⌜ PlainIn prefix carbon declared count groups (now (bonds .entry)) r ⌝ }
 {
     if declared == count as u64 {
-        return plain_chain(prefix, carbon, Missing::Seated(0), count);
+        return plain_chain(prefix, carbon, Missing::Seated(0), count, groups);
     }
     let missing = missing_bonds(carbon, bonds, count, declared);
-    plain_chain(prefix, carbon, missing, count)
+    plain_chain(prefix, carbon, missing, count, groups)
 }
 
 // A chain with segments.
@@ -670,17 +846,18 @@ fn end_segments(
 ) -> ReadToken
     requires { ⌜ usual .carbon ≤ maxCarbons ⌝ }
     requires { ⌜ usual .count ≤ maxBonds ⌝ }
+    requires { ⌜ usual .groups ≤ maxGroups ⌝ }
     requires { ⌜ maxBonds ≤ length (now bonds) ⌝ }
     requires { ⌜ maxGroups ≤ length (now groups) ⌝ }
     requires { ⌜ maxRings ≤ length (now rings) ⌝ }
-    ensures { λ r. ⌜ Tells r (now (bonds .exit)) (now (groups .exit)) (now (rings .exit)) (restOf (missingOf (usual .carbon) (bondsIn (usual .count) (now (bonds .entry))) (usual .declared)) (now (s .entry)) (bonded (usual .prefix) (usual .carbon) (bondsIn (usual .count) (now (bonds .entry))))) ⌝ }
+    ensures { λ r. ⌜ Tells r (now (bonds .exit)) (now (groups .exit)) (now (rings .exit)) (restOf (missingOf (usual .carbon) (bondsIn (usual .count) (now (bonds .entry))) (usual .declared)) (now (s .entry)) (grouped (usual .prefix) (usual .carbon) (bondsIn (usual .count) (now (bonds .entry))) (groupsIn (usual .groups) (now (groups .entry))))) ⌝ }
 {
     let prefix = usual.prefix;
     let carbon = usual.carbon;
     let missing = missing_bonds(carbon, bonds, usual.count, usual.declared);
     let counts = Counts {
         bonds: usual.count,
-        groups: 0,
+        groups: usual.groups,
         rings: 0,
         oxygens: 0,
     };
@@ -707,14 +884,21 @@ fn read_token(s: &[u8], bonds: &mut [u64], groups: &mut [u64], rings: &mut [u64]
     if MAX_BYTES < s.len() {
         return ReadToken::empty(record::OVER_LIMIT);
     }
-    let usual = read_usual(s, bonds);
+    let usual = read_usual(s, bonds, groups);
     let from = usual.rest;
     if from == 0 {
         return read_any(s, bonds, groups, rings);
     }
     if from == s.len() {
         let prefix = usual.prefix;
-        return end_plain(prefix, usual.carbon, usual.declared, bonds, usual.count);
+        return end_plain(
+            prefix,
+            usual.carbon,
+            usual.declared,
+            bonds,
+            usual.count,
+            usual.groups,
+        );
     }
     end_segments(usual, &s[from..], bonds, groups, rings)
 }

@@ -1,4 +1,4 @@
-use Rattle.token.proofs.Short.{head-room, usual-read}
+use Rattle.token.proofs.Short.{head-room, usual-groups, usual-read}
 use borrow.Author.Needs.{needs}
 use Rattle.token.proofs.read_usual.Statement.{statement}
 use Rattle.token.proofs.read_usual.Tie as tie
@@ -24,14 +24,26 @@ part-u-end c = search needs
 usual-list-requires : tie.Need-usual-list-requires
 usual-list-requires c κs = search needs
 
-sub-may-follow : tie.Need-sub-may-follow
-sub-may-follow c = search needs
+sub-v : tie.Need-sub-v
+sub-v c = search needs
 
-part-may-follow-start : tie.Need-part-may-follow-start
-part-may-follow-start c = search needs
+part-v-start : tie.Need-part-v-start
+part-v-start c = search needs
 
-part-may-follow-end : tie.Need-part-may-follow-end
-part-may-follow-end c = search needs
+part-v-end : tie.Need-part-v-end
+part-v-end c = search needs
+
+read-groups-requires : tie.Need-read-groups-requires
+read-groups-requires c κs = search needs
+
+same-length : tie.Need-same-length
+same-length c = search needs
+
+same-length-2 : tie.Need-same-length-2
+same-length-2 c = search needs
+
+returns-2 : tie.Need-returns-2
+returns-2 c n = search usual-groups
 
 may-follow-requires : tie.Need-may-follow-requires
 may-follow-requires c κs = search needs
@@ -39,20 +51,26 @@ may-follow-requires c κs = search needs
 not-usual-requires-2 : tie.Need-not-usual-requires-2
 not-usual-requires-2 c κs = search needs
 
-same-length : tie.Need-same-length
-same-length c = search needs
+same-length-3 : tie.Need-same-length-3
+same-length-3 c = search needs
 
-returns-2 : tie.Need-returns-2
-returns-2 c n = absurd (n (c .not-usual2 .ensures))
-
-add-t11 : tie.Need-add-t11
-add-t11 c = search needs
-
-same-length-2 : tie.Need-same-length-2
-same-length-2 c = search needs
+same-length-4 : tie.Need-same-length-4
+same-length-4 c = search needs
 
 returns-3 : tie.Need-returns-3
-returns-3 c n = search usual-read
+returns-3 c n = absurd (n (c .not-usual2 .ensures))
+
+add-t14 : tie.Need-add-t14
+add-t14 c = search needs
+
+same-length-5 : tie.Need-same-length-5
+same-length-5 c = search needs
+
+same-length-6 : tie.Need-same-length-6
+same-length-6 c = search needs
+
+returns-4 : tie.Need-returns-4
+returns-4 c n = search usual-read
 
 pub read-usual-spec : {M : Type 1} → statement M
 read-usual-spec =
@@ -65,13 +83,19 @@ read-usual-spec =
     part-u-start
     part-u-end
     usual-list-requires
-    sub-may-follow
-    part-may-follow-start
-    part-may-follow-end
+    sub-v
+    part-v-start
+    part-v-end
+    read-groups-requires
+    same-length
+    same-length-2
+    returns-2
     may-follow-requires
     not-usual-requires-2
-    same-length
-    returns-2
-    add-t11
-    same-length-2
-    returns-3)
+    same-length-3
+    same-length-4
+    returns-3
+    add-t14
+    same-length-5
+    same-length-6
+    returns-4)
