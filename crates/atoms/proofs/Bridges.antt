@@ -92,12 +92,20 @@ unfolding busyAt
 ring-free acyl gs rs k e =
     or-right (groupOn gs k) (ringOn rs k) (or-right (carbonylOn acyl k) (groupOn gs k || ringOn rs k) e)
 
-pub no-bridge : {acyl : Bool} {gs : List Mod} {rs : List Closed} {bs : List DbPos} {c : ℕ} {ks us : List ℕ} (k : ℕ) → BondsBy bs rs c ks → Busy acyl gs rs us
-    → c ≤ 255 → k ≤ c → getD us k 0 ≡ 0 → getD ks k 0 ≡ 79 → ⊥
+ring-bridge : {rs : List Closed} {bs : List DbPos} {c : ℕ} {ks : List ℕ} (k : ℕ) → BondsBy bs rs c ks → c ≤ 255 → k ≤ c → ringOn rs k ≡ false → getD ks k 0 ≡ 79 → ⊥
 unfolding plainBonds
-no-bridge {acyl} {gs} {rs} {bs} {c} {ks} {us} k b u h g z e =
-    let free : ringOn rs k ≡ false = ring-free acyl gs rs k (zero-false (busyAt acyl gs rs k) (sym (u .at k (omega arith)) ∙ z)) in
+ring-bridge {rs} {bs} {c} {ks} k b h g free e =
     let m : getD (markFrom c bs 1 c (plainBonds bs rs c)) k 0 ≡ 79
     = ap (λ (l : List ℕ). getD l k 0) (sym (b .are h)) ∙ (getD-take (suc c) ks k 0 (omega arith) ∙ e) in
     let v : getD (plainBonds bs rs c) k 0 ≡ plainBond bs rs k = rw (zero-add k) at (values-at (plainBond bs rs) 0 (suc c) k 0 (omega arith)) in
     plain-bare bs rs k free (sym v ∙ marks-stand c bs 1 c (plainBonds bs rs c) k m)
+
+pub no-bridge : {acyl : Bool} {gs : List Mod} {rs : List Closed} {bs : List DbPos} {c : ℕ} {ks us : List ℕ} (k : ℕ) → BondsBy bs rs c ks → Busy acyl gs rs us
+    → c ≤ 255 → k ≤ c → getD us k 0 ≡ 0 → getD ks k 0 ≡ 79 → ⊥
+no-bridge {acyl} {gs} {rs} k b u h g z e =
+    ring-bridge k b h g (ring-free acyl gs rs k (zero-false (busyAt acyl gs rs k) (sym (u .at k (omega arith)) ∙ z))) e
+
+-- no ring at all
+pub bare-bridge : {bs : List DbPos} {c : ℕ} {ks : List ℕ} (k : ℕ) → BondsBy bs [] c ks → c ≤ 255 → k ≤ c → getD ks k 0 ≡ 79 → ⊥
+unfolding ringOn anyOf
+bare-bridge k b h g e = ring-bridge k b h g refl e

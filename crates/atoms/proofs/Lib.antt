@@ -4,4 +4,5 @@ pub mod AtomLaws
 pub mod NumberLaws
 pub mod Bridges
 pub mod Within
+pub mod Bare
 pub mod SumLaws

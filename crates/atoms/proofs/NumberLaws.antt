@@ -191,7 +191,7 @@ module _ (r : Role) (d : read.Chain) (x : Drawn) (t : ChainTokens) (w : Draws r 
       = tail-after (literalOf x t) (markOf (bondAt r d (literalEnd r d))) (x .unlocated) g n v (fits l n h) in
       rw (literal-same, w .unlocated) at q
 
-all-numbered : {first : ℕ} {xs ys zs : List ℕ} {at : ℕ} (x : Drawn) (t : ChainTokens) (l a : Numbers) (e : ℕ) → length xs < 2 ^ 64 → TokensOf x t
+pub all-numbered : {first : ℕ} {xs ys zs : List ℕ} {at : ℕ} (x : Drawn) (t : ChainTokens) (l a : Numbers) (e : ℕ) → length xs < 2 ^ 64 → TokensOf x t
     → LiteralNumbers first x t xs at ys l → TailNumbers first (x .unlocated) ys l zs a
     → Counts (a .next + 108) (floatEnd (a .next) (branches (floatsDrawn x))) e
     → AtomsOf first x xs at zs (record { at = a .at; count = a .count; flexible = l .next; floats = a .next; end = e })

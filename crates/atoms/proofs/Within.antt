@@ -45,7 +45,7 @@ unfolding valuesFrom
 values-append f k zero m = rw (zero-add m, add-zero k)
 values-append f k (suc n) m = rw (suc-add n m, add-suc k n, ← suc-add k n) (ap (λ (l : List _). f k ∷ l) (values-append f (suc k) n m))
 
-bares-values : (f : ℕ → Carbon) (k n : ℕ) → ((j : ℕ) → k ≤ j → j < k + n → (f j .parts ≡ []) × (f j .bridge ≡ false)) → Bares (valuesFrom f k n)
+pub bares-values : (f : ℕ → Carbon) (k n : ℕ) → ((j : ℕ) → k ≤ j → j < k + n → (f j .parts ≡ []) × (f j .bridge ≡ false)) → Bares (valuesFrom f k n)
 unfolding valuesFrom
 bares-values f k zero h = tt
 bares-values f k (suc n) h =

@@ -5,14 +5,16 @@ use drawable::Shape;
 use record::MAX_CARBONS;
 ghost use mathlib.Core.Path.{_≡_};
 ghost use mathlib.Core.Bool.{true};
+ghost use mathlib.Core.List.{[], _∷_};
 ghost use Prim.Native.Nat.{_+_, _*_, _≤_, _<_, min};
 ghost use lib.ListN.{length};
 ghost use Rattle.emit.specs.Text.{Written};
 ghost use Rattle.reading.specs.Chain.{partsEnd, bridgeEnd, floatEnd};
 ghost use Rattle.chain.specs.Drawing.{branchPart, branches};
-ghost use Rattle.drawable.specs.Drawn.{groupsIn, drawnOf, Says};
+ghost use Rattle.drawable.specs.Drawn.{groupsIn, drawnOf, bondsDrawn, ringsDrawn, Says};
 ghost use Rattle.fragment.specs.Text.{sitting, carbonylOf};
-ghost use Rattle.carbons.specs.Tokens.{tokens, TokensOf};
+ghost use Rattle.carbons.specs.ByCarbon.{BondsBy};
+ghost use Rattle.carbons.specs.Tokens.{tokens, TokensOf, Bare};
 ghost use Rattle.atoms.specs.Atoms.{Counts, carbonSize, bareSize, bridgedAt, tailCount, Roomy, IdleFour, indices, ups, LiteralNumbers, TailNumbers, AtomsOf};
 ghost use Rattle.atoms.specs.Index.{inRoom, indexFrom};
 ghost use Rattle.atoms.specs.Sum.{sumOf};
@@ -299,6 +301,15 @@ fn tail_end(count: usize, n: u16) -> usize
     CARBON_ROOM
 }
 
+// A number, where there is room for it.
+fn put_one(index: &mut [u16], at: usize, n: u16) -> usize
+    requires { ⌜ at + 1 ≤ length (now index) ⌝ }
+    ensures { λ r. ⌜ Written (now (index .entry)) at (n ∷ []) (now (index .exit)) r ⌝ }
+{
+    index[at] = n;
+    at + 1
+}
+
 // Numbers that follow one another, where there is room for all of them.
 fn fill(index: &mut [u16], at: usize, low: u16, n: usize) -> usize
     requires { ⌜ (at + n ≤ length (now index)) × (low + n < 65536) ⌝ }
@@ -416,6 +427,36 @@ pub fn number_chain<'a>(
         flexible: literal.next,
         floats: next,
         end,
+    }
+}
+
+// The same of a chain that carries nothing but, if it is acyl, the O of its C1, where there is room for its indices and none can be too large:
+// they follow one another from its second carbon on.
+pub fn number_bare<'a>(
+    index: &mut [u16],
+    at: usize,
+    first: u32,
+    x: Shape,
+    part: &'a [u64],
+    bonds: &'a [u8],
+) -> ChainAtoms
+    requires { ⌜ Bare (drawnOf x (now part)) ⌝ }
+    requires { ⌜ BondsBy (bondsDrawn (drawnOf x (now part))) (ringsDrawn (drawnOf x (now part))) (x .carbon) (now bonds) ⌝ }
+    requires { ⌜ (at + x .carbon ≤ length (now index)) × (first < 40000) ⌝ }
+    ensures { λ r. ⌜ AtomsOf first (drawnOf x (now (part .entry))) (now (index .entry)) at (now (index .exit)) r ⌝ }
+{
+    let lead = carbonyl_atoms(x.acyl, x.first);
+    let low = first as u16;
+    let rest = x.carbon - x.first;
+    let p = put_one(index, at, low);
+    let end = fill(index, p, low + 1 + lead, rest as usize);
+    let next = rest + 1 + lead;
+    ChainAtoms {
+        at: end,
+        count: rest + 1,
+        flexible: next,
+        floats: next,
+        end: next,
     }
 }
 

@@ -1,12 +1,13 @@
 -- Laws of the writers of groups: bytes written are the pieces shown.
 -- Assumes nothing.
-use Prim.Native.Nat.{ℕ, _+_, _-_, _^_, _≤_, _<_}
+use Prim.Native.Nat.{ℕ, suc, _+_, _-_, _^_, _≤_, _<_}
 use native.Mathlib.Nat.{sub-zero}
 use native.Mathlib.Omega.{arith}
 use mathlib.Core.Path.{_≡_, refl, sym, ap, _∙_}
-use mathlib.Core.Bool.{Bool, true, false}
+use mathlib.Core.Bool.{Bool, true, false, cond}
 use mathlib.Core.List.{List, [], _∷_, _++_, append-nil, map}
-use lib.ListN.{length, take, drop, getD, List·getD-map}
+use lib.ListN.{length, take, drop, getD, set, List·getD-map}
+use lib.Dec.{eqb}
 use borrow.Author.Tests.{eq-eqb, ne-eqb}
 use Rattle.emit.specs.Text.{Written}
 use Rattle.emit.proofs.Laws.{written-nil, written-length}
@@ -171,6 +172,14 @@ rows-put x l e w = record { rows = λ ρ d k. rw (e, ap rowsIn (k .floats)) at w
 abbrev ketoText : List ℕ
 ketoText = 40 ∷ 61 ∷ 79 ∷ 41 ∷ []
 
+pub oxo-stored : (xs : List ℕ) (at : ℕ) → length xs < 2 ^ 64 → at + 4 ≤ length xs
+    → Written xs at ketoText (set (set (set (set xs at 40) (at + 1) 61) (at + 2) 79) (at + 3) 41) (at + 4)
+oxo-stored xs at g h =
+    let a : at + 1 ≡ suc at = omega arith in
+    let b : at + 2 ≡ suc (suc at) = omega arith in
+    let d : at + 3 ≡ suc (suc (suc at)) = omega arith in
+    record { elements = rw (a, b, d); next = omega arith }
+
 keto-text : groupText 12 ≡ ketoText
 unfolding groupText partPieces show branchPart partOf entryAt entries
 keto-text = refl
@@ -188,3 +197,15 @@ module _ (xs : List ℕ) (at : ℕ) (acyl : Bool) (k : ℕ) (h : at < 2 ^ 64) wh
   pub carbonyl-no : acyl ≡ false → Written xs at (carbonylText acyl k) xs at
   unfolding carbonylText carbonylOf partPieces show
   carbonyl-no e = rw e (written-nil xs at h)
+
+keto-length : length (groupText 12) ≤ 4
+keto-length = rw keto-text (omega arith)
+
+pub carbonyl-length : (acyl : Bool) (k : ℕ) → length (carbonylText acyl k) ≤ 4
+unfolding carbonylText carbonylOf groupText partPieces show
+carbonyl-length false k = omega arith
+carbonyl-length true k = go (eqb k 1)
+  where
+    go : (b : Bool) → length (show (partPieces (cond b (branchPart 12 ∷ []) []))) ≤ 4
+    go false = omega arith
+    go true = keto-length

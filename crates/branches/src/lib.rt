@@ -3,6 +3,7 @@ use drawable::Shape;
 use groups::HYDROXY;
 use groups::KETO;
 use groups::METHYL;
+ghost use mathlib.Core.List.{[], _∷_};
 ghost use Rattle.emit.specs.Text.{Written};
 ghost use Rattle.drawable.specs.Drawn.{groupsIn, drawnOf};
 ghost use Rattle.branches.specs.Text.{branchText, groupText, sitting, groupsText, floatText, floatsText, carbonylText, rowsIn, RowsPut};
@@ -108,13 +109,29 @@ pub fn put_rows(rows: &mut [u8], at: usize, x: Shape, part: &[u64]) -> usize
     write_rows(rows, at, drawable::floats_part(part), x.float_count)
 }
 
+// The O of a carbonyl on its carbon; where there is room for it, without a look at the end of the slice for each byte.
+fn put_oxo(out: &mut [u8], at: usize) -> usize
+    ensures { λ r. ⌜ Written (now (out .entry)) at (40 ∷ 61 ∷ 79 ∷ 41 ∷ []) (now (out .exit)) r ⌝ }
+{
+    if at < out.len() {
+        if 4 <= out.len() - at {
+            out[at] = b'(';
+            out[at + 1] = b'=';
+            out[at + 2] = b'O';
+            out[at + 3] = b')';
+            return at + 4;
+        }
+    }
+    emit::put_text(out, at, b"(=O)")
+}
+
 // The doubly bonded O of an acyl C1.
 pub fn put_carbonyl(out: &mut [u8], at: usize, acyl: bool, k: u16) -> usize
     ensures { λ r. ⌜ Written (now (out .entry)) at (carbonylText acyl k) (now (out .exit)) r ⌝ }
 {
     if acyl {
         if k == 1 {
-            return emit::put_text(out, at, b"(=O)");
+            return put_oxo(out, at);
         }
         return at;
     }

@@ -21,7 +21,8 @@ use Rattle.chain.specs.Features.{literalEnd}
 use Rattle.chain.specs.Bonds.{openMark, opensDown, closeMark, closeByte, markBond, markFrom, geometryAt, plainBond, plainBonds}
 use Rattle.drawable.specs.declared.Shape.{Shape}
 use Rattle.drawable.specs.Drawn.{Drawn, bondsIn, groupsIn, ringsIn, bondsPart, groupsPart, ringsPart, drawnOf, bondsDrawn, groupsDrawn, ringsDrawn, SaysUpTo}
-use Rattle.carbons.specs.Tokens.{tokens, TokensOf}
+use Rattle.reach.proofs.Ends.{literal-whole}
+use Rattle.carbons.specs.Tokens.{tokens, TokensOf, Bare}
 use Rattle.carbons.specs.ByCarbon.{doubleAt, bridgeAt, groupOn, ringOn, carbonylOn, busyAt, SetWhere, PlainBonds, BondsBy, Busy}
 use Rattle.carbons.proofs.BondLaws.{where-none, where-one, length-marks}
 
@@ -182,3 +183,37 @@ pub tokens-are : {x : Shape} (l : List ℕ) {ds gs rs bs us : List ℕ} {f e m :
     → Busy (x .acyl) (groupsIn (x .«group_count») gs) (ringsIn (x .«ring_count») rs) us → f ≡ max (x .first) 1 → SaysUpTo (drawnOf x l) e literalEnd
     → m ≡ min e 255 → TokensOf (drawnOf x l) (tokens f m bs us)
 tokens-are l a b v c w f s m = tokens-say (rw (a, b) at v) (rw (a, c) at w) f s m
+
+-- ---- a bare chain
+
+-- which of its carbons carry something
+busyNumber : Drawn → ℕ → ℕ
+busyNumber x k = cond (busyAt (x .acyl) (groupsDrawn x) (ringsDrawn x) k) 1 0
+
+pub busyList : Drawn → List ℕ
+busyList x = valuesFrom (busyNumber x) 0 256
+
+busy-list : (x : Drawn) → Busy (x .acyl) (groupsDrawn x) (ringsDrawn x) (busyList x)
+unfolding busyList busyNumber
+busy-list x =
+    record {
+      size = length-values (busyNumber x) 0 256;
+      at = λ k h. rw (zero-add k) at (values-at (busyNumber x) 0 256 k 0 h);
+    }
+
+pub bare-tokens : {x : Drawn} {bs : List ℕ} → Bare x → BondsBy (bondsDrawn x) (ringsDrawn x) (x .carbon) bs → TokensOf x (tokens (x .first) (x .carbon) bs (busyList x))
+bare-tokens {x} e b =
+    record { first = omega (arith, e .first); room = e .room; last = λ h. literal-whole x (e .unlocated) .says; bonds = b; busy = busy-list x }
+
+bare-plain : {bs : List DbPos} {zs ks : List ℕ} → zs ≡ replicate 256 0 → SetWhere (doubleAt bs) 61 zs ks → PlainBonds bs [] ks
+unfolding bridgeAt anyOf
+bare-plain {zs = zs} e w = bonds-plain e (where-none 79 zs (λ k. refl)) w
+
+pub bare-size : {zs ks : List ℕ} {test : ℕ → Bool} {v : ℕ} (c : ℕ) → zs ≡ replicate 256 0 → SetWhere test v zs ks → c ≤ 255 → c < length ks
+bare-size c e w h = omega (arith, w .size, noughts e)
+
+pub bare-marked : (x : Shape) (l : List ℕ) {ds zs ks js : List ℕ} → ds ≡ bondsPart l → zs ≡ replicate 256 0 → Bare (drawnOf x l) → SetWhere (doubleAt (bondsIn (x .«bond_count») ds)) 61 zs ks
+    → js ≡ markFrom (x .carbon) (bondsIn (x .«bond_count») ds) 1 (x .carbon) ks → BondsBy (bondsDrawn (drawnOf x l)) (ringsDrawn (drawnOf x l)) (x .carbon) js
+bare-marked x l a z e w v =
+    let room : x .carbon ≤ 255 = e .room in
+    rw (e .rings) (bonds-marked (x .carbon) (x .carbon) (bare-plain z (rw a at w)) (omega arith) (rw a at v))

@@ -1,10 +1,10 @@
 -- What is known of each carbon of a drawn chain. Assumes nothing.
 use Prim.Native.Nat.{ℕ, _≤_, max}
 use mathlib.Core.Path.{_≡_}
-use mathlib.Core.List.{List}
+use mathlib.Core.List.{List, []}
 use Rattle.record.specs.Chain.{maxCarbons}
 use Rattle.chain.specs.Features.{literalEnd}
-use Rattle.drawable.specs.Drawn.{Drawn, bondsDrawn, groupsDrawn, ringsDrawn, Says}
+use Rattle.drawable.specs.Drawn.{Drawn, bondsDrawn, groupsDrawn, floatsDrawn, ringsDrawn, Says}
 use Rattle.carbons.specs.ByCarbon.{BondsBy, Busy}
 
 -- the bond after each carbon, whether a carbon carries anything (1) or not (0), the first drawn carbon and the last literal one
@@ -25,3 +25,13 @@ pub record TokensOf (x : Drawn) (t : ChainTokens) : Type 0 where
   pub last : x .carbon ≤ maxCarbons → Says x (t .last) literalEnd
   pub bonds : BondsBy (bondsDrawn x) (ringsDrawn x) (x .carbon) (t .bonds)
   pub busy : Busy (x .acyl) (groupsDrawn x) (ringsDrawn x) (t .busy)
+
+-- nothing is drawn of x but its carbons, double bonds that all have a position and, on an acyl C1, a doubly bonded O
+pub record Bare (x : Drawn) : Type 0 where
+  pub first : 1 ≤ x .first
+  pub some : x .first ≤ x .carbon
+  pub room : x .carbon ≤ maxCarbons
+  pub unlocated : x .unlocated ≡ 0
+  pub groups : groupsDrawn x ≡ []
+  pub floats : floatsDrawn x ≡ []
+  pub rings : ringsDrawn x ≡ []

@@ -8,9 +8,9 @@ ghost use mathlib.Core.Bool.{true};
 ghost use Prim.Native.Nat.{_≤_, _<_, min, max};
 ghost use lib.ListN.{length, set, replicate};
 ghost use Rattle.chain.specs.Bonds.{openMark, closeMark, markBond, closeByte, markFrom, bridged, double};
-ghost use Rattle.drawable.specs.Drawn.{bondsIn, groupsIn, ringsIn, drawnOf};
+ghost use Rattle.drawable.specs.Drawn.{bondsIn, groupsIn, ringsIn, drawnOf, bondsDrawn, ringsDrawn};
 ghost use Rattle.carbons.specs.ByCarbon.{geometryByte, geometryOf, doubleAt, bridgeAt, groupOn, ringOn, carbonylOn, risesFrom, SetWhere, Geometries, Marks, PlainBonds, BondsBy, Busy};
-ghost use Rattle.carbons.specs.Tokens.{tokens, TokensOf};
+ghost use Rattle.carbons.specs.Tokens.{tokens, TokensOf, Bare};
 
 // Carbons 0 to 255.
 pub const CARBON_ROOM: usize = 256;
@@ -329,6 +329,22 @@ fn busy_carbons<'a>(
     set_rings(busy, rings, ring_count);
     set_groups(busy, groups, group_count);
     set_carbonyl(busy, acyl);
+}
+
+// The bonds of a bare chain with their marks, in an array of noughts: there is no bridge among them.
+pub fn bare_bonds(x: Shape, part: &[u64], bonds: &mut [u8])
+    requires { ⌜ now bonds ≡ replicate 256 0 ⌝ }
+    requires { ⌜ Bare (drawnOf x (now part)) ⌝ }
+    ensures { λ _. ⌜ BondsBy (bondsDrawn (drawnOf x (now (part .entry)))) (ringsDrawn (drawnOf x (now (part .entry)))) (x .carbon) (now (bonds .exit)) ⌝ }
+{
+    let doubles = drawable::bonds_part(part);
+    set_doubles(bonds, doubles, x.bond_count);
+    let last = x.carbon as usize;
+    if rises(doubles, x.bond_count) {
+        mark_rising(bonds, doubles, x.bond_count, last);
+        return;
+    }
+    mark_any(bonds, doubles, x.bond_count, last);
 }
 
 // The carbons of a chain that are written one by one: from the first drawn one to the last literal one.

@@ -6,10 +6,10 @@ use native.Mathlib.Numerals.{add-one}
 use native.Mathlib.Omega.{arith}
 use mathlib.Core.Path.{_≡_, refl, sym, ap, _∙_}
 use mathlib.Core.Bool.{Bool, true, false, cond, _||_}
-use mathlib.Core.List.{List, [], _∷_, _++_, append-assoc}
+use mathlib.Core.List.{List, [], _∷_, _++_, append-nil, append-assoc}
 use lib.Dec.{eqb}
 use lib.ListN.{length, getD}
-use borrow.Author.Tests.{eq-eqb, eqb-true}
+use borrow.Author.Tests.{eq-eqb, ne-eqb, eqb-true}
 use Rattle.emit.specs.Text.{Written}
 use Rattle.record.specs.declared.Mod.{Mod}
 use Rattle.record.specs.declared.Ring.{Ring as Closed}
@@ -131,6 +131,32 @@ carbons-run acyl ks gs rs l k (suc m) n f =
       y,
     )
     (simp (append-assoc, x))
+
+-- ---- the carbons of a bare chain
+
+bare-features : (acyl : Bool) (l k : ℕ) → featuresText acyl [] [] l k ≡ carbonylText acyl k
+unfolding featuresText labelsText labelsAt ringPairs showLabels groupsText sitting only branches partPieces show
+bare-features acyl l k = append-nil (carbonylText acyl k)
+
+bare-later : (acyl : Bool) (k : ℕ) → (k ≡ 1 → ⊥) → carbonylText acyl k ≡ []
+unfolding carbonylText carbonylOf partPieces show
+bare-later false k h = refl
+bare-later true k h = rw (ne-eqb k 1 h)
+
+bare-rest : (acyl : Bool) (ks : List ℕ) (l k n : ℕ) → 1 ≤ k
+    → bridgeText (getD ks k 0) ++ carbonsText acyl ks [] [] l (suc k) n ≡ linksText ks (suc k) n ++ bridgeText (getD ks (k + n) 0)
+unfolding linksText linkText
+bare-rest acyl ks l k zero h = rw (carbons-none acyl ks [] [] l (suc k), add-zero) (append-nil (bridgeText (getD ks k 0)))
+bare-rest acyl ks l k (suc n) h =
+    let y : k + suc n ≡ suc k + n = omega arith in
+    let x : suc k - 1 ≡ k = omega arith in
+    let e : featuresText acyl [] [] l (suc k) ≡ [] = bare-features acyl l (suc k) ∙ bare-later acyl (suc k) (λ q. omega arith) in
+    rw (carbons-next acyl ks [] [] l (suc k) n, e, bare-rest acyl ks l (suc k) n (omega arith), y) (simp (append-assoc, x))
+
+pub bare-carbons : (acyl : Bool) (ks : List ℕ) (l k n : ℕ) → 1 ≤ k
+    → carbonsText acyl ks [] [] l k (suc n)
+    ≡ carbonText (getD ks (k - 1) 0) ++ (carbonylText acyl k ++ (linksText ks (suc k) n ++ bridgeText (getD ks (k + n) 0)))
+bare-carbons acyl ks l k n h = rw (carbons-next acyl ks [] [] l k n, bare-features acyl l k, bare-rest acyl ks l k n h)
 
 -- a turn of the loop through the carbons, and its end
 module _ {xs ys ts : List ℕ} {at p : ℕ} (acyl : Bool) (ks : List ℕ) (gs : List Mod) (rs : List Closed) (l k last : ℕ) (m : length xs < 2 ^ 64)

@@ -39,6 +39,10 @@ link-length : (b : ℕ) → length (linkText b) ≤ 2
 link-length zero = rw link-empty (omega arith)
 link-length (suc b) = rw (link-marked b) (omega arith)
 
+pub carbon-length : (b : ℕ) → length (carbonText b) ≤ 2
+unfolding linkText
+carbon-length b = omega (arith, link-length b, length-append (bridgeText b) (carbonText b))
+
 pub link-stored : (xs : List ℕ) (at b p : ℕ) → length xs < 2 ^ 64 → at + 2 ≤ length xs → p ≡ at + min b 1 → Written xs at (linkText b) (set (set xs at b) p 67) (p + 1)
 link-stored xs at zero p g h e =
     let z : p ≡ at = omega arith in
@@ -164,6 +168,29 @@ module _ (ks us : List ℕ) (k last : ℕ) where
 
     pub links-size : length ys ≡ length xs
     links-size = written-length (v .text)
+
+-- ---- carbons of which it does not matter what they carry
+
+free-none : (j : ℕ) → getD {A = ℕ} [] j 0 ≡ 0
+free-none j = refl
+
+module _ {xs ys : List ℕ} {at p j : ℕ} (ks : List ℕ) (k last : ℕ) (v : Links ks [] k last xs at ys p j) where
+  pub through-four : {zs : List ℕ} {q : ℕ} → length xs < 2 ^ 64 → j + 3 ≤ last → Written ys p (linksText ks j 4) zs q → Links ks [] k last xs at zs q (j + 4)
+  through-four g h w = links-on ks [] k last v 4 g (omega arith) (λ i a b. free-none i) w
+
+  pub through-one : {zs : List ℕ} {q : ℕ} → length xs < 2 ^ 64 → j ≤ last → Written ys p (linkText (getD ks (j - 1) 0)) zs q → Links ks [] k last xs at zs q (j + 1)
+  through-one g h w = links-one ks [] k last v g h (free-none j) w
+
+  pub through-end : last < j → Written xs at (linksText ks k (last + 1 - k)) ys p
+  through-end h =
+      let z : j ≡ last + 1 = omega (arith, v .high) in
+      rw z at (v .text)
+
+  pub through-then : {zs : List ℕ} {q : ℕ} → length xs < 2 ^ 64 → Written ys p (linksText ks j (last + 1 - j)) zs q → Written xs at (linksText ks k (last + 1 - k)) zs q
+  through-then {zs} {q} g w =
+      let z : j + (last + 1 - j) ≡ last + 1 = omega (arith, v .high) in
+      let u : Links ks [] k last xs at zs q (last + 1) = rw z at (links-on ks [] k last v (last + 1 - j) g (omega (arith, v .high)) (λ i a b. free-none i) w) in
+      u .text
 
 pub run-done : {xs ys zs ws : List ℕ} {at p q r c : ℕ} (ks us : List ℕ) (k last : ℕ) → getD us k 0 ≡ 0 → length xs < 2 ^ 64
     → Written xs at (carbonText (getD ks (k - 1) 0)) ys p → Links ks us (k + 1) last ys p zs q c → Written zs q (bridgeText (getD ks (c - 1) 0)) ws r → Run ks us k last xs at ws r c

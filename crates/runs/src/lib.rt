@@ -186,3 +186,40 @@ pub fn put_run<'a>(
         carbon: next,
     }
 }
+
+// The carbons from C k to the last, as long as there are four of them, whatever they carry.
+fn link_fours<'a>(out: &mut [u8], at: usize, bonds: &'a [u8], k: usize, last: usize) -> Reached
+    requires { ⌜ (1 ≤ k) × (k ≤ last + 1) × (last ≤ 255) × (length (now bonds) ≡ 256) × (at + (last + 1 - k) * 2 ≤ length (now out)) ⌝ }
+    ensures { λ r. ⌜ Links (now (bonds .entry)) [] k last (now (out .entry)) at (now (out .exit)) (r .at) (r .carbon) ⌝ }
+{
+    let mut p = at;
+    let mut j = k;
+    while j + 3 <= last {
+        p = put_four(out, p, bonds, j);
+        j += 4;
+    }
+    Reached { at: p, carbon: j }
+}
+
+// The same, one by one.
+fn link_ones<'a>(out: &mut [u8], at: usize, bonds: &'a [u8], k: usize, last: usize) -> usize
+    requires { ⌜ (1 ≤ k) × (k ≤ last + 1) × (last ≤ 255) × (length (now bonds) ≡ 256) × (at + (last + 1 - k) * 2 ≤ length (now out)) ⌝ }
+    ensures { λ r. ⌜ Written (now (out .entry)) at (linksText (now (bonds .entry)) k (last + 1 - k)) (now (out .exit)) r ⌝ }
+{
+    let mut p = at;
+    let mut j = k;
+    while j <= last {
+        p = put_link(out, p, bonds[j - 1]);
+        j += 1;
+    }
+    p
+}
+
+// All carbons from C k to the last, each after the bond before it, where there is room for them with a bond before each.
+pub fn put_through<'a>(out: &mut [u8], at: usize, bonds: &'a [u8], k: usize, last: usize) -> usize
+    requires { ⌜ (1 ≤ k) × (k ≤ last + 1) × (last ≤ 255) × (length (now bonds) ≡ 256) × (at + (last + 1 - k) * 2 ≤ length (now out)) ⌝ }
+    ensures { λ r. ⌜ Written (now (out .entry)) at (linksText (now (bonds .entry)) k (last + 1 - k)) (now (out .exit)) r ⌝ }
+{
+    let r = link_fours(out, at, bonds, k, last);
+    link_ones(out, r.at, bonds, r.carbon, last)
+}

@@ -13,14 +13,14 @@ use Rattle.chain.specs.declared.Role.the-variants.{Slot, Acyl, Base}
 use Rattle.chain.specs.Drawing.{carbonAtoms}
 use Rattle.drawable.proofs.Parts.{floats-few, rings-few}
 use Rattle.drawable.specs.declared.Shape.{Shape}
-use Rattle.drawable.specs.Drawn.{Drawn, Length, groupsIn, ringsIn, floatsPart, ringsPart, drawnOf, floatsDrawn, ringsDrawn, Says}
+use Rattle.drawable.specs.Drawn.{Drawn, Length, groupsIn, ringsIn, groupsPart, floatsPart, ringsPart, drawnOf, floatsDrawn, ringsDrawn, Says}
 use Rattle.branches.specs.Text.{RowsPut}
 use Rattle.fragment.specs.Segment.{Segment}
 use Rattle.atoms.specs.declared.ChainAtoms.{ChainAtoms}
 use Rattle.atoms.specs.Atoms.{Counts, indices, AtomsOf}
 use Rattle.atoms.specs.Sum.{sumOf}
 use Rattle.template.specs.Request.{headCarbons}
-use Rattle.strand.specs.Strand.{headCount, Indexed, rooms, StrandOf, FiguresOf}
+use Rattle.strand.specs.Strand.{headCount, Indexed, rooms, StrandOf, BareShape, FiguresOf}
 
 -- ---- the template's carbons
 
@@ -71,6 +71,44 @@ strand-laid {ρ} s i r =
       laid = λ d k h. record { text = s .text ρ d (k .draws) (k .readable) h; numbers = i .numbers d (k .draws) (k .readable) (k .drawn); rows = r .rows ρ d (k .draws) };
       sizes = record { text = s .size; index = i .size; rows = r .size };
     }
+
+-- ---- a bare chain
+
+none-groups : (l : List ℕ) → groupsIn 0 l ≡ []
+unfolding groupsIn
+none-groups [] = refl
+none-groups (n ∷ l) = refl
+
+none-rings : (l : List ℕ) → ringsIn 0 l ≡ []
+unfolding ringsIn
+none-rings [] = refl
+none-rings (n ∷ l) = refl
+
+pub shape-bare : (x : Shape) → x .«group_count» ≡ 0 → x .«ring_count» ≡ 0 → x .«float_count» ≡ 0 → x .unlocated ≡ 0 → (x .first ≡ 0 → ⊥) → x .first ≤ x .carbon → x .carbon ≤ 255 → BareShape x
+shape-bare x g r f u n s h =
+    record {
+      bare =
+          λ l.
+          record {
+            first = omega arith;
+            some = s;
+            room = h;
+            unlocated = u;
+            groups = rw g (none-groups (groupsPart l));
+            floats = rw f (none-groups (floatsPart l));
+            rings = rw r (none-rings (ringsPart l));
+          };
+    }
+
+pub bare-heads : {xs ys hs : List ℕ} {at p h : ℕ} (c : ℕ) → Counts 2 (length hs) h → at + (c + 2) ≤ length xs → Written xs at hs ys p → p + c ≤ length ys
+bare-heads c k g w = omega (arith, k .is, k .few, w .next, written-length w)
+
+pub bare-laid : {ρ : Role} {first at used row : ℕ} {x : Drawn} {xs ys zs xs′ ys′ zs′ : List ℕ} {p q : ℕ} {n : ChainAtoms}
+    → ((l : ℕ) → Segment x l xs at xs′ p) → Indexed ρ first x ys used ys′ n → RowsPut x zs row zs′ q
+    → (l : ℕ) → StrandOf ρ first l x (rooms xs ys zs) at used row (rooms xs′ ys′ zs′) (record { at = p; used = n .at; rows = q; count = n .count; flexible = n .flexible; floats = n .floats; end = n .end })
+bare-laid s i r l = strand-laid (s l) i r
+
+-- ---- what is kept beside
 
 -- their numbers are small
 pub floats-fit : {A : Type 0} {l′ : List A} {fs : List ℕ} {f : ℕ} (l : List ℕ) → fs ≡ floatsPart l → Length (length fs) l′ f → f < 65536

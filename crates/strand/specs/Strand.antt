@@ -11,7 +11,9 @@ use Rattle.reading.specs.Template.{chain, itemPieces}
 use Rattle.chain.specs.declared.Role.{Role}
 use Rattle.chain.specs.Features.{isAcyl, floating, drawnCount}
 use Rattle.chain.specs.Drawing.{chainDrawn, carbons, carbonAtoms, flexibleAtom, atomsEnd}
-use Rattle.drawable.specs.Drawn.{Drawn, Draws}
+use Rattle.drawable.specs.declared.Shape.{Shape}
+use Rattle.drawable.specs.Drawn.{Drawn, drawnOf, Draws}
+use Rattle.carbons.specs.Tokens.{Bare}
 use Rattle.branches.specs.Text.{rowsIn}
 use Rattle.fragment.specs.Segment.{Readable}
 use Rattle.atoms.specs.declared.ChainAtoms.{ChainAtoms}
@@ -70,6 +72,10 @@ pub record Laid (ρ : Role) (d : Chain) (first l : ℕ) (xs : Rooms) (at used ro
 pub record StrandOf (ρ : Role) (first l : ℕ) (x : Drawn) (xs : Rooms) (at used row : ℕ) (ys : Rooms) (s : Strand) : Type 0 where
   pub laid : (d : Chain) → Carries ρ d x → l ≤ 247 → Laid ρ d first l xs at used row ys s
   pub sizes : Sizes xs ys
+
+-- a chain with these numbers is bare, whatever stands in its lists
+pub record BareShape (x : Shape) : Type 0 where
+  pub bare : (l : List ℕ) → Bare (drawnOf x l)
 
 -- ---- what is kept beside
 

@@ -4,15 +4,19 @@ use atoms::ChainAtoms;
 use carbons::CARBON_ROOM;
 use chain::Role;
 use drawable::Shape;
+use record::MAX_CARBONS;
 ghost use mathlib.Core.Path.{_≡_};
+ghost use mathlib.Core.Bool.{true};
 ghost use mathlib.Core.List.{[], _∷_};
-ghost use Prim.Native.Nat.{_≤_};
+ghost use Prim.Native.Nat.{ℕ, _+_, _*_, _≤_, _<_};
+ghost use lib.ListN.{length};
 ghost use Rattle.emit.specs.Text.{Written};
-ghost use Rattle.drawable.specs.Drawn.{drawnOf};
-ghost use Rattle.carbons.specs.Tokens.{tokens, TokensOf};
+ghost use Rattle.drawable.specs.Drawn.{drawnOf, bondsDrawn, ringsDrawn};
+ghost use Rattle.carbons.specs.ByCarbon.{BondsBy};
+ghost use Rattle.carbons.specs.Tokens.{tokens, TokensOf, Bare};
 ghost use Rattle.atoms.specs.Atoms.{Counts};
 ghost use Rattle.template.specs.Request.{headCarbons};
-ghost use Rattle.strand.specs.Strand.{headCount, Indexed, rooms, StrandOf, FiguresOf};
+ghost use Rattle.strand.specs.Strand.{headCount, Indexed, rooms, StrandOf, BareShape, FiguresOf};
 
 // A chain that is laid down: the places after its text, its indices and its rows; how many indices it has; and, counted from its first atom, the
 // atoms of its first flexible carbon and of its first floating group, and the atom after its last.
@@ -88,8 +92,8 @@ fn put_indices<'a>(
     own
 }
 
-// A chain in a role, whose first atom and first ring label are given.
-pub fn put_strand(
+// A chain that may carry anything.
+fn put_laden(
     out: &mut [u8],
     index: &mut [u16],
     rows: &mut [u8],
@@ -121,6 +125,140 @@ pub fn put_strand(
         floats: own.floats,
         end: own.end,
     }
+}
+
+// Whether a chain carries nothing but double bonds that all have a position and, if it is acyl, the O of its C1.
+fn is_bare(x: Shape) -> bool
+    ensures { λ r. ⌜ (r ≡ true → BareShape x) ⌝ }
+{
+    if x.group_count != 0 {
+        return false;
+    }
+    if x.ring_count != 0 {
+        return false;
+    }
+    if x.float_count != 0 {
+        return false;
+    }
+    if x.unlocated != 0 {
+        return false;
+    }
+    if x.first == 0 {
+        return false;
+    }
+    if x.first > x.carbon {
+        return false;
+    }
+    if x.carbon > MAX_CARBONS {
+        return false;
+    }
+    true
+}
+
+// First atoms below this leave room for the indices of a chain.
+const FIRST_ROOM: u32 = 40000;
+
+// Whether there is room for the text and the indices of a bare chain, none of which can be too large.
+fn has_room(carbon: u16, text: usize, at: usize, index: usize, used: usize, first: u32) -> bool
+    ensures { λ r. ⌜ (r ≡ true → (at + (carbon * 2 + 8) ≤ text) × (used + (carbon + 2) ≤ index) × (first < 40000)) ⌝ }
+{
+    let n = carbon as usize;
+    if text < at {
+        return false;
+    }
+    if text - at < n * 2 + 8 {
+        return false;
+    }
+    if index < used {
+        return false;
+    }
+    if index - used < n + 2 {
+        return false;
+    }
+    if first >= FIRST_ROOM {
+        return false;
+    }
+    true
+}
+
+// The indices of a bare chain.
+fn bare_indices<'a>(
+    index: &mut [u16],
+    at: usize,
+    role: Role,
+    first: u32,
+    x: Shape,
+    part: &'a [u64],
+    bonds: &'a [u8],
+) -> ChainAtoms
+    requires { ⌜ Bare (drawnOf x (now part)) ⌝ }
+    requires { ⌜ BondsBy (bondsDrawn (drawnOf x (now part))) (ringsDrawn (drawnOf x (now part))) (x .carbon) (now bonds) ⌝ }
+    requires { ⌜ (at + (x .carbon + 2) ≤ length (now index)) × (first < 40000) ⌝ }
+    ensures { λ r. ⌜ Indexed role first (drawnOf x (now (part .entry))) (now (index .entry)) at (now (index .exit)) r ⌝ }
+{
+    let heads = head_count(role);
+    let p = put_heads(index, at, role);
+    let mut own = atoms::number_bare(index, p, first, x, part, bonds);
+    let count = heads + own.count;
+    own.count = count;
+    own
+}
+
+// A bare chain, where there is room for it: nothing need be asked of its carbons, and no label is written.
+fn put_bare(
+    out: &mut [u8],
+    index: &mut [u16],
+    rows: &mut [u8],
+    at: usize,
+    used: usize,
+    row: usize,
+    x: Shape,
+    part: &[u64],
+    role: Role,
+    first: u32,
+) -> Strand
+    requires { ⌜ Bare (drawnOf x (now part)) ⌝ }
+    requires { ⌜ (at + (x .carbon * 2 + 8) ≤ length (now out)) × (used + (x .carbon + 2) ≤ length (now index)) × (first < 40000) ⌝ }
+    ensures { λ r. ⌜ ((l : ℕ) → StrandOf role first l (drawnOf x (now (part .entry))) (rooms (now (out .entry)) (now (index .entry)) (now (rows .entry))) at used row (rooms (now (out .exit)) (now (index .exit)) (now (rows .exit))) r) ⌝ }
+{
+    let mut bonds = [0u8; CARBON_ROOM];
+    carbons::bare_bonds(x, part, &mut bonds);
+    let next = fragment::build_bare(out, at, x, part, &bonds);
+    let own = bare_indices(index, used, role, first, x, part, &bonds);
+    let end = branches::put_rows(rows, row, x, part);
+    Strand {
+        at: next,
+        used: own.at,
+        rows: end,
+        count: own.count,
+        flexible: own.flexible,
+        floats: own.floats,
+        end: own.end,
+    }
+}
+
+// A chain in a role, whose first atom and first ring label are given.
+pub fn put_strand(
+    out: &mut [u8],
+    index: &mut [u16],
+    rows: &mut [u8],
+    at: usize,
+    used: usize,
+    row: usize,
+    x: Shape,
+    part: &[u64],
+    role: Role,
+    first: u32,
+    label: u8,
+) -> Strand
+    ensures { λ r. ⌜ StrandOf role first label (drawnOf x (now (part .entry))) (rooms (now (out .entry)) (now (index .entry)) (now (rows .entry))) at used row (rooms (now (out .exit)) (now (index .exit)) (now (rows .exit))) r ⌝ }
+{
+    if is_bare(x) {
+        if has_room(x.carbon, out.len(), at, index.len(), used, first) {
+            return put_bare(out, index, rows, at, used, row, x, part, role, first);
+        }
+    }
+    put_laden(out, index, rows, at, used, row, x, part, role, first, label)
 }
 
 pub fn figures_of(x: Shape, part: &[u64]) -> Figures

@@ -4,11 +4,8 @@ use borrow.Author.Needs.{needs}
 use Rattle.branches.proofs.put_carbonyl.Statement.{statement}
 use Rattle.branches.proofs.put_carbonyl.Tie as tie
 
-slice-aggregate-put-text : tie.Need-slice-aggregate-put-text
-slice-aggregate-put-text c = search needs
-
-put-text-requires : tie.Need-put-text-requires
-put-text-requires c κs = search needs
+put-oxo-requires : tie.Need-put-oxo-requires
+put-oxo-requires c κs = search needs
 
 same-length : tie.Need-same-length
 same-length c = search needs
@@ -23,6 +20,4 @@ returns-3 : tie.Need-returns-3
 returns-3 c = search (carbonyl-no, arith)
 
 pub put-carbonyl-spec : {M : Type 1} → statement M
-put-carbonyl-spec =
-    tie.close
-    (tie.spec slice-aggregate-put-text put-text-requires same-length returns returns-2 returns-3)
+put-carbonyl-spec = tie.close (tie.spec put-oxo-requires same-length returns returns-2 returns-3)

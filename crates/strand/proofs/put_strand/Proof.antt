@@ -1,37 +1,18 @@
-use Rattle.strand.proofs.Laws.{strand-laid}
 use borrow.Author.Needs.{needs}
 use Rattle.strand.proofs.put_strand.Statement.{statement}
 use Rattle.strand.proofs.put_strand.Tie as tie
 
-slice-aggregate-chain-tokens : tie.Need-slice-aggregate-chain-tokens
-slice-aggregate-chain-tokens c = search needs
+is-bare-requires : tie.Need-is-bare-requires
+is-bare-requires c κs = search needs
 
-slice-aggregate-chain-tokens-2 : tie.Need-slice-aggregate-chain-tokens-2
-slice-aggregate-chain-tokens-2 c = search needs
+has-room-requires : tie.Need-has-room-requires
+has-room-requires c κs = search needs
 
-chain-tokens-requires : tie.Need-chain-tokens-requires
-chain-tokens-requires c κs = search needs
-
-slice-aggregate-build-chain-segment : tie.Need-slice-aggregate-build-chain-segment
-slice-aggregate-build-chain-segment c = search needs
-
-slice-aggregate-build-chain-segment-2 : tie.Need-slice-aggregate-build-chain-segment-2
-slice-aggregate-build-chain-segment-2 c = search needs
-
-build-chain-segment-requires : tie.Need-build-chain-segment-requires
-build-chain-segment-requires c κs = search needs
-
-slice-aggregate-put-indices : tie.Need-slice-aggregate-put-indices
-slice-aggregate-put-indices c = search needs
-
-slice-aggregate-put-indices-2 : tie.Need-slice-aggregate-put-indices-2
-slice-aggregate-put-indices-2 c = search needs
-
-put-indices-requires : tie.Need-put-indices-requires
-put-indices-requires c κs = search needs
-
-put-rows-requires : tie.Need-put-rows-requires
-put-rows-requires c κs = search needs
+put-bare-requires : tie.Need-put-bare-requires
+put-bare-requires c κs =
+    let room = c .before .before .before in
+    let bare = room .before .before in
+    (bare .before .is-bare .ensures (bare .if1 .taken) .bare _, room .before .has-room .ensures (room .if2 .taken))
 
 same-length : tie.Need-same-length
 same-length c = search needs
@@ -43,23 +24,36 @@ same-length-3 : tie.Need-same-length-3
 same-length-3 c = search needs
 
 returns : tie.Need-returns
-returns c = search strand-laid
+returns c = c .before .before .before .before .before .before .put-bare .ensures _
+
+put-laden-requires : tie.Need-put-laden-requires
+put-laden-requires c κs = search needs
+
+same-length-4 : tie.Need-same-length-4
+same-length-4 c = search needs
+
+same-length-5 : tie.Need-same-length-5
+same-length-5 c = search needs
+
+same-length-6 : tie.Need-same-length-6
+same-length-6 c = search needs
+
+returns-2 : tie.Need-returns-2
+returns-2 c = search needs
 
 pub put-strand-spec : {M : Type 1} → statement M
 put-strand-spec =
     tie.close
     (tie.spec
-    slice-aggregate-chain-tokens
-    slice-aggregate-chain-tokens-2
-    chain-tokens-requires
-    slice-aggregate-build-chain-segment
-    slice-aggregate-build-chain-segment-2
-    build-chain-segment-requires
-    slice-aggregate-put-indices
-    slice-aggregate-put-indices-2
-    put-indices-requires
-    put-rows-requires
+    is-bare-requires
+    has-room-requires
+    put-bare-requires
     same-length
     same-length-2
     same-length-3
-    returns)
+    returns
+    put-laden-requires
+    same-length-4
+    same-length-5
+    same-length-6
+    returns-2)
