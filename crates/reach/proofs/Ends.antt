@@ -3,7 +3,7 @@
 use Prim.Native.Nat.{ℕ, suc, _+_, _-_, _*_, _<_, _≤_, min}
 use native.Mathlib.Omega.{arith}
 use mathlib.Core.Path.{_≡_, refl, sym, _∙_}
-use mathlib.Core.List.{List, _++_, map}
+use mathlib.Core.List.{List, [], _∷_, _++_, map}
 use borrow.Author.Tests.{eq-eqb, ne-eqb}
 use Rattle.record.specs.Chain.{Chain}
 use Rattle.chain.specs.declared.Role.{Role}
@@ -13,6 +13,33 @@ use Rattle.drawable.specs.declared.Shape.{Shape}
 use Rattle.drawable.specs.Drawn.{Drawn, bondsIn, groupsIn, ringsIn, bondsPart, groupsPart, ringsPart, drawnOf, bondsDrawn, groupsDrawn, ringsDrawn, groupPin, Draws, Says, SaysUpTo}
 use Rattle.reach.specs.Reach.{bondReach, ringReach, Flexible}
 use Rattle.drawable.proofs.Lists.{largest-append}
+
+-- ---- the lists that stand in the part of a chain
+
+groups-none : (l : List ℕ) → groupsIn 0 l ≡ []
+unfolding groupsIn
+groups-none [] = refl
+groups-none (n ∷ l) = refl
+
+rings-none : (l : List ℕ) → ringsIn 0 l ≡ []
+unfolding ringsIn
+rings-none [] = refl
+rings-none (n ∷ l) = refl
+
+module _ (l : List ℕ) (n m : ℕ) where
+  pub located-none : n ≡ 0 → m ≡ largest m (map groupPin (groupsIn n (groupsPart l)))
+  unfolding largest
+  located-none e = rw (e, groups-none (groupsPart l))
+
+  pub located-some : {r : ℕ} {gs : List ℕ} → gs ≡ groupsPart l → r ≡ largest m (map groupPin (groupsIn n gs)) → r ≡ largest m (map groupPin (groupsIn n (groupsPart l)))
+  located-some e f = rw e at f
+
+  pub closed-none : n ≡ 0 → m ≡ largest m (map ringReach (ringsIn n (ringsPart l)))
+  unfolding largest
+  closed-none e = rw (e, rings-none (ringsPart l))
+
+  pub closed-some : {r : ℕ} {rs : List ℕ} → rs ≡ ringsPart l → r ≡ largest m (map ringReach (ringsIn n rs)) → r ≡ largest m (map ringReach (ringsIn n (ringsPart l)))
+  closed-some e f = rw e at f
 
 -- ---- the literal prefix
 
@@ -30,14 +57,13 @@ module _ (x : Drawn) (b g e : ℕ) (e₁ : b ≡ largest (x .first) (map bondRea
   whole h = record { says = record { is = λ r d w. omega (arith, end-as r d w) }; fits = omega arith }
 
 -- the same where the lists stand in the part of a chain
-module _ (x : Shape) (l bs gs rs : List ℕ) (b g e : ℕ) (p₁ : bs ≡ bondsPart l) (p₂ : gs ≡ groupsPart l) (p₃ : rs ≡ ringsPart l)
-    (e₁ : b ≡ largest (x .first) (map bondReach (bondsIn (x .«bond_count») bs))) (e₂ : g ≡ largest b (map groupPin (groupsIn (x .«group_count») gs)))
-    (e₃ : e ≡ largest g (map ringReach (ringsIn (x .«ring_count») rs))) where
+module _ (x : Shape) (l bs : List ℕ) (b g e : ℕ) (p₁ : bs ≡ bondsPart l) (e₁ : b ≡ largest (x .first) (map bondReach (bondsIn (x .«bond_count») bs)))
+    (e₂ : g ≡ largest b (map groupPin (groupsIn (x .«group_count») (groupsPart l)))) (e₃ : e ≡ largest g (map ringReach (ringsIn (x .«ring_count») (ringsPart l)))) where
   pub prefix-inside : e < x .carbon → SaysUpTo (drawnOf x l) e prefixEnd
-  prefix-inside = inside (drawnOf x l) b g e (rw p₁ at e₁) (rw p₂ at e₂) (rw p₃ at e₃)
+  prefix-inside = inside (drawnOf x l) b g e (rw p₁ at e₁) e₂ e₃
 
   pub prefix-whole : x .carbon ≤ e → SaysUpTo (drawnOf x l) (x .carbon) prefixEnd
-  prefix-whole = whole (drawnOf x l) b g e (rw p₁ at e₁) (rw p₂ at e₂) (rw p₃ at e₃)
+  prefix-whole = whole (drawnOf x l) b g e (rw p₁ at e₁) e₂ e₃
 
 pub rest-is : (x : Drawn) (e : ℕ) → SaysUpTo x e prefixEnd → Says x (x .carbon - e) remaining
 unfolding remaining

@@ -5,7 +5,7 @@ ghost use mathlib.Core.List.{map};
 ghost use Prim.Native.Nat.{max};
 ghost use Rattle.chain.specs.Lists.{largest};
 ghost use Rattle.chain.specs.Features.{prefixEnd, literalEnd, remaining, drawnCount};
-ghost use Rattle.drawable.specs.Drawn.{bondsIn, groupsIn, ringsIn, groupPin, drawnOf, Says, SaysUpTo};
+ghost use Rattle.drawable.specs.Drawn.{bondsIn, groupsIn, ringsIn, groupsPart, ringsPart, groupPin, drawnOf, Says, SaysUpTo};
 ghost use Rattle.reach.specs.Reach.{bondReach, ringReach, Flexible};
 
 fn larger(a: u64, b: u64) -> u64
@@ -62,6 +62,26 @@ fn rings_reach(rings: &[u64], count: usize, m: u64) -> u64
     reach
 }
 
+// The same of the groups of a chain. Most chains have none: then their room is not looked for.
+fn located_reach(part: &[u64], count: usize, m: u64) -> u64
+    ensures { λ r. ⌜ r ≡ largest m (map groupPin (groupsIn count (groupsPart (now (part .entry))))) ⌝ }
+{
+    if count == 0 {
+        return m;
+    }
+    groups_reach(drawable::groups_part(part), count, m)
+}
+
+// The same of its rings.
+fn closed_reach(part: &[u64], count: usize, m: u64) -> u64
+    ensures { λ r. ⌜ r ≡ largest m (map ringReach (ringsIn count (ringsPart (now (part .entry))))) ⌝ }
+{
+    if count == 0 {
+        return m;
+    }
+    rings_reach(drawable::rings_part(part), count, m)
+}
+
 // The last carbon of the literal prefix.
 fn prefix_end(x: Shape, part: &[u64]) -> u16
     ensures { λ r. ⌜ SaysUpTo (drawnOf x (now (part .entry))) r prefixEnd ⌝ }
@@ -69,8 +89,8 @@ fn prefix_end(x: Shape, part: &[u64]) -> u16
     let first = x.first as u64;
     let carbon = x.carbon;
     let bonds = bonds_reach(drawable::bonds_part(part), x.bond_count, first);
-    let groups = groups_reach(drawable::groups_part(part), x.group_count, bonds);
-    let reach = rings_reach(drawable::rings_part(part), x.ring_count, groups);
+    let groups = located_reach(part, x.group_count, bonds);
+    let reach = closed_reach(part, x.ring_count, groups);
     if reach < carbon as u64 {
         return reach as u16;
     }

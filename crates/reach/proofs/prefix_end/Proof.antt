@@ -12,17 +12,11 @@ bonds-part-requires c κs = search needs
 bonds-reach-requires : tie.Need-bonds-reach-requires
 bonds-reach-requires c κs = search needs
 
-groups-part-requires : tie.Need-groups-part-requires
-groups-part-requires c κs = search needs
+located-reach-requires : tie.Need-located-reach-requires
+located-reach-requires c κs = search needs
 
-groups-reach-requires : tie.Need-groups-reach-requires
-groups-reach-requires c κs = search needs
-
-rings-part-requires : tie.Need-rings-part-requires
-rings-part-requires c κs = search needs
-
-rings-reach-requires : tie.Need-rings-reach-requires
-rings-reach-requires c κs = search needs
+closed-reach-requires : tie.Need-closed-reach-requires
+closed-reach-requires c κs = search needs
 
 cast-if1 : tie.Need-cast-if1
 cast-if1 c = search needs
@@ -43,10 +37,8 @@ prefix-end-spec =
     cast-first
     bonds-part-requires
     bonds-reach-requires
-    groups-part-requires
-    groups-reach-requires
-    rings-part-requires
-    rings-reach-requires
+    located-reach-requires
+    closed-reach-requires
     cast-if1
     cast-result
     returns
