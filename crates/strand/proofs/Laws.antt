@@ -117,12 +117,21 @@ floats-fit {f = f} l e u = let z : f ≤ length (floatsPart l) = rw e at u .fits
 pub rings-fit : {A : Type 0} {l′ : List A} {rs : List ℕ} {r : ℕ} (l : List ℕ) → rs ≡ ringsPart l → Length (length rs) l′ r → r < 65536
 rings-fit {r = r} l e u = let z : r ≤ length (ringsPart l) = rw e at u .fits in omega (arith, rings-few l)
 
-pub figures-are : {x : Shape} (l : List ℕ) {t f r a b : ℕ} {fs rs : List ℕ} → Says (drawnOf x l) t sumOf → fs ≡ floatsPart l → Length a (groupsIn (x .«float_count») fs) f
-    → rs ≡ ringsPart l → Length b (ringsIn (x .«ring_count») rs) r
+pub floats-none : (l : List ℕ) (n : ℕ) → n ≡ 0 → 0 ≡ length (groupsIn n (floatsPart l))
+floats-none l n e = rw (e, none-groups (floatsPart l))
+
+pub floats-some : {fs : List ℕ} {a f : ℕ} (l : List ℕ) (n : ℕ) → fs ≡ floatsPart l → Length a (groupsIn n fs) f → f ≡ length (groupsIn n (floatsPart l))
+floats-some l n e u = rw e at u .is
+
+pub rings-none : (l : List ℕ) (n : ℕ) → n ≡ 0 → 0 ≡ length (ringsIn n (ringsPart l))
+rings-none l n e = rw (e, none-rings (ringsPart l))
+
+pub rings-some : {rs : List ℕ} {a r : ℕ} (l : List ℕ) (n : ℕ) → rs ≡ ringsPart l → Length a (ringsIn n rs) r → r ≡ length (ringsIn n (ringsPart l))
+rings-some l n e u = rw e at u .is
+
+pub figures-are : {x : Shape} (l : List ℕ) {t f r : ℕ} → Says (drawnOf x l) t sumOf → f ≡ length (floatsDrawn (drawnOf x l)) → r ≡ length (ringsDrawn (drawnOf x l))
     → FiguresOf (drawnOf x l) (record { acyl = x .acyl; unlocated = x .unlocated; total = t; «float_count» = f; rings = r })
-figures-are {x} l {f = f} {r = r} s e u g v =
-    let floats : f ≡ length (floatsDrawn (drawnOf x l)) = rw e at u .is in
-    let rings : r ≡ length (ringsDrawn (drawnOf x l)) = rw g at v .is in
+figures-are l s u v =
     record {
       are =
           λ ρ d w.
@@ -130,7 +139,7 @@ figures-are {x} l {f = f} {r = r} s e u g v =
             acyl = w .acyl;
             unlocated = w .unlocated;
             total = s .is ρ d w;
-            floats = floats ∙ ap length (w .floats);
-            rings = rings ∙ ap length (w .rings);
+            floats = u ∙ ap length (w .floats);
+            rings = v ∙ ap length (w .rings);
           };
     }

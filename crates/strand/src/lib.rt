@@ -11,7 +11,7 @@ ghost use mathlib.Core.List.{[], _∷_};
 ghost use Prim.Native.Nat.{ℕ, _+_, _*_, _≤_, _<_};
 ghost use lib.ListN.{length};
 ghost use Rattle.emit.specs.Text.{Written};
-ghost use Rattle.drawable.specs.Drawn.{drawnOf, bondsDrawn, ringsDrawn};
+ghost use Rattle.drawable.specs.Drawn.{groupsIn, ringsIn, floatsPart, ringsPart, drawnOf, bondsDrawn, ringsDrawn};
 ghost use Rattle.carbons.specs.ByCarbon.{BondsBy};
 ghost use Rattle.carbons.specs.Tokens.{tokens, TokensOf, Bare};
 ghost use Rattle.atoms.specs.Atoms.{Counts};
@@ -261,12 +261,32 @@ pub fn put_strand(
     put_laden(out, index, rows, at, used, row, x, part, role, first, label)
 }
 
+// How many groups without a position a chain has. Most have none: then their room is not looked for.
+fn float_len(part: &[u64], count: usize) -> u16
+    ensures { λ r. ⌜ r ≡ length (groupsIn count (floatsPart (now (part .entry)))) ⌝ }
+{
+    if count == 0 {
+        return 0;
+    }
+    drawable::groups_len(drawable::floats_part(part), count) as u16
+}
+
+// How many rings it has.
+fn ring_len(part: &[u64], count: usize) -> u16
+    ensures { λ r. ⌜ r ≡ length (ringsIn count (ringsPart (now (part .entry)))) ⌝ }
+{
+    if count == 0 {
+        return 0;
+    }
+    drawable::rings_len(drawable::rings_part(part), count) as u16
+}
+
 pub fn figures_of(x: Shape, part: &[u64]) -> Figures
     ensures { λ r. ⌜ FiguresOf (drawnOf x (now (part .entry))) r ⌝ }
 {
     let total = atoms::sum(x, part);
-    let float_count = drawable::groups_len(drawable::floats_part(part), x.float_count) as u16;
-    let rings = drawable::rings_len(drawable::rings_part(part), x.ring_count) as u16;
+    let float_count = float_len(part, x.float_count);
+    let rings = ring_len(part, x.ring_count);
     Figures {
         acyl: x.acyl,
         unlocated: x.unlocated,
