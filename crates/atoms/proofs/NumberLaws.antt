@@ -120,6 +120,20 @@ module _ {room n first end : ℕ} {gs : List Mod} (i : ℕ) (s : Length room gs 
         few = omega (arith, v .few, s .fits);
       }
 
+none-floats : (l : List ℕ) → groupsIn 0 l ≡ []
+unfolding groupsIn
+none-floats [] = refl
+none-floats (n ∷ l) = refl
+
+module _ (l : List ℕ) (n first : ℕ) where
+  pub loose-none : n ≡ 0 → Counts (first + 108) (floatEnd first (branches (groupsIn n (floatsPart l)))) first
+  unfolding branches floatEnd
+  loose-none e = record { is = rw (e, none-floats (floatsPart l)); few = omega arith }
+
+  pub loose-some : {fs : List ℕ} {m : ℕ} → fs ≡ floatsPart l → Counts (first + 108) (floatEnd first (branches (groupsIn n fs))) m
+      → Counts (first + 108) (floatEnd first (branches (groupsIn n (floatsPart l)))) m
+  loose-some e c = rw e at c
+
 -- ---- the atoms of the drawing
 
 starts-values : (f n : ℕ) (cs : List Carbon) → valuesFrom (atomOf f n cs) f (length cs) ≡ starts n cs
@@ -217,8 +231,8 @@ all-numbered {first} {xs} {ys} {zs} {at} x t l a e g k u v c =
     }
 
 -- where the floating groups stand in the part of a chain
-pub chain-numbered : {first : ℕ} {xs ys zs fs : List ℕ} {at : ℕ} (x : Shape) (part : List ℕ) (t : ChainTokens) (l a : Numbers) (e : ℕ) → length xs < 2 ^ 64
-    → TokensOf (drawnOf x part) t → LiteralNumbers first (drawnOf x part) t xs at ys l → TailNumbers first (x .unlocated) ys l zs a → fs ≡ floatsPart part
-    → Counts (a .next + 108) (floatEnd (a .next) (branches (groupsIn (x .«float_count») fs))) e
+pub chain-numbered : {first : ℕ} {xs ys zs : List ℕ} {at : ℕ} (x : Shape) (part : List ℕ) (t : ChainTokens) (l a : Numbers) (e : ℕ) → length xs < 2 ^ 64
+    → TokensOf (drawnOf x part) t → LiteralNumbers first (drawnOf x part) t xs at ys l → TailNumbers first (x .unlocated) ys l zs a
+    → Counts (a .next + 108) (floatEnd (a .next) (branches (groupsIn (x .«float_count») (floatsPart part)))) e
     → AtomsOf first (drawnOf x part) xs at zs (record { at = a .at; count = a .count; flexible = l .next; floats = a .next; end = e })
-chain-numbered x part t l a e g k u v f c = all-numbered (drawnOf x part) t l a e g k u v (rw f at c)
+chain-numbered x part t l a e g k u v c = all-numbered (drawnOf x part) t l a e g k u v c

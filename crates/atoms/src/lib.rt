@@ -11,7 +11,7 @@ ghost use lib.ListN.{length};
 ghost use Rattle.emit.specs.Text.{Written};
 ghost use Rattle.reading.specs.Chain.{partsEnd, bridgeEnd, floatEnd};
 ghost use Rattle.chain.specs.Drawing.{branchPart, branches};
-ghost use Rattle.drawable.specs.Drawn.{groupsIn, drawnOf, bondsDrawn, ringsDrawn, Says};
+ghost use Rattle.drawable.specs.Drawn.{groupsIn, floatsPart, drawnOf, bondsDrawn, ringsDrawn, Says};
 ghost use Rattle.fragment.specs.Text.{sitting, carbonylOf};
 ghost use Rattle.carbons.specs.ByCarbon.{BondsBy};
 ghost use Rattle.carbons.specs.Tokens.{tokens, TokensOf, Bare};
@@ -391,6 +391,17 @@ fn float_end(floats: &[u64], count: usize, first: u16) -> u16
     end
 }
 
+// The same of the floating groups of a chain. Most have none: then their room is not looked for.
+fn loose_end(part: &[u64], count: usize, first: u16) -> u16
+    requires { ⌜ first ≤ 23971 ⌝ }
+    ensures { λ r. ⌜ Counts (first + 108) (floatEnd first (branches (groupsIn count (floatsPart (now (part .entry)))))) r ⌝ }
+{
+    if count == 0 {
+        return first;
+    }
+    float_end(drawable::floats_part(part), count, first)
+}
+
 // A chain that is numbered: the place after its indices and their number; and, counted from its first atom, the atom of the first flexible
 // carbon, that of the first floating group, and the atom after the last.
 pub struct ChainAtoms {
@@ -420,7 +431,7 @@ pub fn number_chain<'a>(
     let literal = number_range(index, at, first, x, part, from, last, bonds, busy);
     let all = number_tail(index, first, literal, x.unlocated);
     let next = all.next;
-    let end = float_end(drawable::floats_part(part), x.float_count, next);
+    let end = loose_end(part, x.float_count, next);
     ChainAtoms {
         at: all.at,
         count: all.count as u16,

@@ -166,6 +166,23 @@ pub rows-put : {xs ys fs : List ℕ} {at p : ℕ} (x : Shape) (l : List ℕ) →
     → RowsPut (drawnOf x l) xs at ys p
 rows-put x l e w = record { rows = λ ρ d k. rw (e, ap rowsIn (k .floats)) at w; size = written-length w }
 
+none-floats : (l : List ℕ) → groupsIn 0 l ≡ []
+unfolding groupsIn
+none-floats [] = refl
+none-floats (n ∷ l) = refl
+
+pub rows-none : (x : Shape) (l xs : List ℕ) (at : ℕ) → at < 2 ^ 64 → x .«float_count» ≡ 0 → RowsPut (drawnOf x l) xs at xs at
+unfolding rowsIn
+rows-none x l xs at h e = rows-put x l refl (rw (e, none-floats (floatsPart l)) (written-nil xs at h))
+
+-- what is written of groups that a chain does not have
+pub loose-none : (l xs : List ℕ) (at n : ℕ) → at < 2 ^ 64 → n ≡ 0 → Written xs at (floatsText (groupsIn n (floatsPart l))) xs at
+unfolding floatsText branches floatPieces show
+loose-none l xs at n h e = rw (e, none-floats (floatsPart l)) (written-nil xs at h)
+
+pub floats-there : {xs ys fs : List ℕ} {at p : ℕ} (l : List ℕ) (n : ℕ) → fs ≡ floatsPart l → Written xs at (floatsText (groupsIn n fs)) ys p → Written xs at (floatsText (groupsIn n (floatsPart l))) ys p
+floats-there l n e w = rw e at w
+
 -- ---- the carbonyl
 
 -- `(=O)`

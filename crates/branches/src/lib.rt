@@ -102,10 +102,13 @@ fn write_rows(rows: &mut [u8], at: usize, groups: &[u64], count: usize) -> usize
     p
 }
 
-// The rows of the groups without a position.
+// The rows of the groups without a position. Most chains have none: then their room is not looked for.
 pub fn put_rows(rows: &mut [u8], at: usize, x: Shape, part: &[u64]) -> usize
     ensures { λ r. ⌜ RowsPut (drawnOf x (now (part .entry))) (now (rows .entry)) at (now (rows .exit)) r ⌝ }
 {
+    if x.float_count == 0 {
+        return at;
+    }
     write_rows(rows, at, drawable::floats_part(part), x.float_count)
 }
 

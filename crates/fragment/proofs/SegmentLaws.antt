@@ -203,13 +203,13 @@ range-ready x part first last bs us l k a b e =
     (omega (arith, k .first), k .room, k .bonds .size, rw (a, b) (k .busy), rw b (omega (arith, rings-few part)))
 
 -- where the lists stand in the part of a chain
-pub segment-done : {xs ys zs ws gs rs fs : List ℕ} {at p q o m : ℕ} (x : Shape) (part : List ℕ) (first last : ℕ) (bs us : List ℕ) (l : ℕ) → length xs < 2 ^ 64
+pub segment-done : {xs ys zs ws gs rs : List ℕ} {at p q o m : ℕ} (x : Shape) (part : List ℕ) (first last : ℕ) (bs us : List ℕ) (l : ℕ) → length xs < 2 ^ 64
     → TokensOf (drawnOf x part) (tokens first last bs us) → m ≡ min l 247 → gs ≡ groupsPart part → rs ≡ ringsPart part
     → Written xs at (carbonsText (x .acyl) bs (groupsIn (x .«group_count») gs) (ringsIn (x .«ring_count») rs) m first (suc last - first)) ys p
-    → Written ys p (flexibleText (getD bs last 0) (x .unlocated)) zs q → fs ≡ floatsPart part
-    → Written zs q (floatsText (groupsIn (x .«float_count») fs)) ws o → Segment (drawnOf x part) l xs at ws o
-segment-done {m = m} x part first last bs us l h k e a b u v c w =
-    segment-drawn (drawnOf x part) (tokens first last bs us) l k e (segment-written (drawnOf x part) (tokens first last bs us) m h (rw (a, b) at u) v (rw c at w))
+    → Written ys p (flexibleText (getD bs last 0) (x .unlocated)) zs q
+    → Written zs q (floatsText (groupsIn (x .«float_count») (floatsPart part))) ws o → Segment (drawnOf x part) l xs at ws o
+segment-done {m = m} x part first last bs us l h k e a b u v w =
+    segment-drawn (drawnOf x part) (tokens first last bs us) l k e (segment-written (drawnOf x part) (tokens first last bs us) m h (rw (a, b) at u) v w)
 
 -- ---- a bare chain
 

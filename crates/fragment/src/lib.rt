@@ -6,9 +6,10 @@ ghost use mathlib.Core.List.{_++_};
 ghost use Prim.Native.Nat.{ℕ, suc, _+_, _-_, _*_, _≤_, min};
 ghost use lib.ListN.{length};
 ghost use Rattle.emit.specs.Text.{Written};
-ghost use Rattle.drawable.specs.Drawn.{groupsIn, ringsIn, drawnOf, bondsDrawn, ringsDrawn};
+ghost use Rattle.drawable.specs.Drawn.{groupsIn, ringsIn, floatsPart, drawnOf, bondsDrawn, ringsDrawn};
 ghost use Rattle.carbons.specs.Tokens.{tokens, TokensOf, Bare};
 ghost use Rattle.carbons.specs.ByCarbon.{BondsBy, Busy};
+ghost use Rattle.branches.specs.Text.{floatsText};
 ghost use Rattle.backbone.specs.Text.{carbonText, bridgeText};
 ghost use Rattle.fragment.specs.Text.{featuresText, carbonsText};
 ghost use Rattle.fragment.specs.Segment.{Segment};
@@ -122,6 +123,16 @@ fn in_labels(label: u8) -> u8
     247
 }
 
+// The groups without a position of a chain. Most have none: then their room is not looked for.
+fn put_loose<'a>(out: &mut [u8], at: usize, part: &'a [u64], count: usize) -> usize
+    ensures { λ r. ⌜ Written (now (out .entry)) at (floatsText (groupsIn count (floatsPart (now (part .entry))))) (now (out .exit)) r ⌝ }
+{
+    if count == 0 {
+        return at;
+    }
+    branches::put_floats(out, at, drawable::floats_part(part), count)
+}
+
 // The text of a chain, with ring labels from the label given on: the literal carbons, the flexible tail and the groups without a position.
 // What each carbon has was looked up before, and is lent.
 pub fn build_chain_segment<'a>(
@@ -156,7 +167,7 @@ pub fn build_chain_segment<'a>(
         l,
     );
     let q = backbone::put_flexible(out, p, bond, x.unlocated);
-    branches::put_floats(out, q, drawable::floats_part(part), x.float_count)
+    put_loose(out, q, part, x.float_count)
 }
 
 // The text of a chain that carries nothing but, if it is acyl, the O of its C1, where there is room for it with a bond before each carbon: no

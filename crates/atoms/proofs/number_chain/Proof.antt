@@ -1,5 +1,4 @@
 use Rattle.atoms.proofs.NumberLaws.{chain-numbered}
-use Rattle.atoms.proofs.AtomLaws.{floats-short}
 use borrow.Author.Needs.{needs}
 use Rattle.atoms.proofs.number_chain.Statement.{statement}
 use Rattle.atoms.proofs.number_chain.Tie as tie
@@ -10,14 +9,11 @@ number-range-requires c κs = search needs
 number-tail-requires : tie.Need-number-tail-requires
 number-tail-requires c κs = search needs
 
-floats-part-requires : tie.Need-floats-part-requires
-floats-part-requires c κs = search needs
+loose-end-requires : tie.Need-loose-end-requires
+loose-end-requires c κs = search needs
 
-float-end-requires : tie.Need-float-end-requires
-float-end-requires c κs = (search needs, search floats-short)
-
-cast-t19 : tie.Need-cast-t19
-cast-t19 c = search needs
+cast-t18 : tie.Need-cast-t18
+cast-t18 c = search needs
 
 same-length : tie.Need-same-length
 same-length c = search needs
@@ -31,8 +27,7 @@ number-chain-spec =
     (tie.spec
     number-range-requires
     number-tail-requires
-    floats-part-requires
-    float-end-requires
-    cast-t19
+    loose-end-requires
+    cast-t18
     same-length
     returns)

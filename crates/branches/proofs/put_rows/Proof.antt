@@ -1,7 +1,10 @@
-use Rattle.branches.proofs.Laws.{rows-put}
+use Rattle.branches.proofs.Laws.{rows-none, rows-put}
 use borrow.Author.Needs.{needs}
 use Rattle.branches.proofs.put_rows.Statement.{statement}
 use Rattle.branches.proofs.put_rows.Tie as tie
+
+returns : tie.Need-returns
+returns c = search rows-none
 
 floats-part-requires : tie.Need-floats-part-requires
 floats-part-requires c κs = search needs
@@ -12,8 +15,8 @@ write-rows-requires c κs = search needs
 same-length : tie.Need-same-length
 same-length c = search needs
 
-returns : tie.Need-returns
-returns c = search rows-put
+returns-2 : tie.Need-returns-2
+returns-2 c = search rows-put
 
 pub put-rows-spec : {M : Type 1} → statement M
-put-rows-spec = tie.close (tie.spec floats-part-requires write-rows-requires same-length returns)
+put-rows-spec = tie.close (tie.spec returns floats-part-requires write-rows-requires same-length returns-2)

@@ -24,11 +24,8 @@ assemble-range-requires c κs =
 put-flexible-requires : tie.Need-put-flexible-requires
 put-flexible-requires c κs = search needs
 
-floats-part-requires : tie.Need-floats-part-requires
-floats-part-requires c κs = search needs
-
-put-floats-requires : tie.Need-put-floats-requires
-put-floats-requires c κs = search needs
+put-loose-requires : tie.Need-put-loose-requires
+put-loose-requires c κs = search needs
 
 same-length : tie.Need-same-length
 same-length c = search needs
@@ -46,7 +43,6 @@ build-chain-segment-spec =
     rings-part-requires
     assemble-range-requires
     put-flexible-requires
-    floats-part-requires
-    put-floats-requires
+    put-loose-requires
     same-length
     returns)
