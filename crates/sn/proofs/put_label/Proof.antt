@@ -3,8 +3,11 @@ use borrow.Author.Needs.{needs}
 use Rattle.sn.proofs.put_label.Statement.{statement}
 use Rattle.sn.proofs.put_label.Tie as tie
 
-add-t7 : tie.Need-add-t7
-add-t7 c = search needs
+cast-t7 : tie.Need-cast-t7
+cast-t7 c = search needs
+
+add-t8 : tie.Need-add-t8
+add-t8 c = search needs
 
 slice-aggregate-put-text : tie.Need-slice-aggregate-put-text
 slice-aggregate-put-text c = search needs
@@ -20,4 +23,5 @@ returns c = search label-text
 
 pub put-label-spec : {M : Type 1} → statement M
 put-label-spec =
-    tie.close (tie.spec add-t7 slice-aggregate-put-text put-text-requires same-length returns)
+    tie.close
+    (tie.spec cast-t7 add-t8 slice-aggregate-put-text put-text-requires same-length returns)
