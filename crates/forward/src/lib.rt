@@ -2,6 +2,7 @@
 // and a request that is refused leaves both slices as they were. What is answered and written is said by specs/Answer.antt of `answer`, and
 // what an accepted line promises by specs/Call.antt.
 pub use answer::Answer;
+use drawable::CHAIN_ROOM;
 use drawable::LIST_ROOM;
 use shapes::SHAPE_ROOM;
 ghost use Prim.Native.Nat.{_*_, _≤_, min};
@@ -50,8 +51,8 @@ fn draw_in<'a>(
     )
 }
 
-// A request: refused with a number of document 01 and the place of the token, or drawn. Most have one token or two: then an array for two
-// chains is filled, and not one for four.
+// A request: refused with a number of document 01 and the place of the token, or drawn. Most have one token or two: then an array for one
+// chain or two is filled, and not one for four.
 pub fn draw<'a>(
     class: &[u8],
     swap: bool,
@@ -66,6 +67,22 @@ pub fn draw<'a>(
 ) -> Answer
     ensures { λ r. ⌜ Called (verdict (now (class .entry)) (now (tail .entry)) count (tokens count (now (sn1 .entry)) (now (sn2 .entry)) (now (sn3 .entry)) (now (sn4 .entry)))) swap (now (tail .entry)) (now (line .entry)) (now (index .entry)) (now (line .exit)) (now (index .exit)) r ⌝ }
 {
+    if count == 1 {
+        let mut one = [0u64; CHAIN_ROOM];
+        return draw_in(
+            class,
+            swap,
+            tail,
+            count,
+            sn1,
+            sn2,
+            sn3,
+            sn4,
+            line,
+            index,
+            &mut one,
+        );
+    }
     if count < 3 {
         let mut few = [0u64; PAIR_ROOM];
         return draw_in(

@@ -7,6 +7,9 @@ use Rattle.listing.proofs.one_list.Tie as tie
 placed-at-requires : tie.Need-placed-at-requires
 placed-at-requires c κs = search needs
 
+cast-t9 : tie.Need-cast-t9
+cast-t9 c = search needs
+
 returns : tie.Need-returns
 returns c = search (list-here, length-chains)
 
@@ -14,4 +17,4 @@ returns-2 : tie.Need-returns-2
 returns-2 c = search (list-past, length-chains)
 
 pub one-list-spec : {M : Type 1} → statement M
-one-list-spec = tie.close (tie.spec placed-at-requires returns returns-2)
+one-list-spec = tie.close (tie.spec placed-at-requires cast-t9 returns returns-2)

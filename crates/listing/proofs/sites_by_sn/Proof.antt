@@ -35,6 +35,9 @@ placed-at-requires c κs = search needs
 has-site-requires : tie.Need-has-site-requires Inv-loop μ-loop
 has-site-requires c κs = search needs
 
+cast-t18 : tie.Need-cast-t18 Inv-loop μ-loop
+cast-t18 c = search needs
+
 mul-sites : tie.Need-mul-sites Inv-loop μ-loop
 mul-sites c = search needs
 
@@ -51,7 +54,7 @@ loop-less : tie.Need-loop-less Inv-loop μ-loop
 loop-less c = search needs
 
 loop-again : tie.Need-loop-again Inv-loop μ-loop
-loop-again c = let v = c .before .before .before .before .before .loop in (omega arith, omega arith, omega arith, search needs, search needs, sites-more _ _ _ _ _ _ _ _ _ (length-chains _) (v .inv .3) (v .inv .1) (c .before .before .before .before .loop-test .taken) (c .before .before .before .if1 .taken) (v .inv .2) (c .before .before .placed-at .ensures) (v .inv .5) (c .before .has-site .ensures) (c .if2 .taken))
+loop-again c = let w = c .before in let v = w .before .before .before .before .before .loop in (omega arith, omega arith, omega arith, search needs, search needs, sites-more _ _ _ _ _ _ _ _ _ (length-chains _) (v .inv .3) (v .inv .1) (w .before .before .before .before .loop-test .taken) (w .before .before .before .if1 .taken) (v .inv .2) (w .before .before .placed-at .ensures) (v .inv .5) (w .before .has-site .ensures) (w .if2 .taken))
 
 add-i-2 : tie.Need-add-i-2 Inv-loop μ-loop
 add-i-2 c = search needs
@@ -86,6 +89,7 @@ sites-by-sn-spec =
     cast-k
     placed-at-requires
     has-site-requires
+    cast-t18
     mul-sites
     array-set-from-sites
     add-count

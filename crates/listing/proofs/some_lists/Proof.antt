@@ -32,6 +32,9 @@ cast-k c = search needs
 placed-at-requires : tie.Need-placed-at-requires Inv-loop μ-loop
 placed-at-requires c κs = search needs
 
+cast-t16 : tie.Need-cast-t16 Inv-loop μ-loop
+cast-t16 c = search needs
+
 mul-lists : tie.Need-mul-lists Inv-loop μ-loop
 mul-lists c = search needs
 
@@ -48,7 +51,7 @@ loop-less : tie.Need-loop-less Inv-loop μ-loop
 loop-less c = search needs
 
 loop-again : tie.Need-loop-again Inv-loop μ-loop
-loop-again c = let v = c .before .before .before .loop in (omega arith, omega arith, omega arith, search needs, search needs, lists-more _ _ _ _ _ _ _ _ (length-chains _) (v .inv .3) (v .inv .1) (c .before .before .loop-test .taken) (c .before .if1 .taken) (v .inv .2) (c .placed-at .ensures) (v .inv .5))
+loop-again c = let w = c .before in let v = w .before .before .before .loop in (omega arith, omega arith, omega arith, search needs, search needs, lists-more _ _ _ _ _ _ _ _ (length-chains _) (v .inv .3) (v .inv .1) (w .before .before .loop-test .taken) (w .before .if1 .taken) (v .inv .2) (w .placed-at .ensures) (v .inv .5))
 
 add-i-2 : tie.Need-add-i-2 Inv-loop μ-loop
 add-i-2 c = search needs
@@ -73,6 +76,7 @@ some-lists-spec =
     array-read-k
     cast-k
     placed-at-requires
+    cast-t16
     mul-lists
     array-set-from-lists
     add-count
