@@ -4,8 +4,8 @@ use borrow.Author.Needs.{needs}
 use Rattle.rows.proofs.put_text_cell.Statement.{statement}
 use Rattle.rows.proofs.put_text_cell.Tie as tie
 
-copy-at-requires : tie.Need-copy-at-requires
-copy-at-requires c κs = search needs
+put-text-requires : tie.Need-put-text-requires
+put-text-requires c κs = search needs
 
 put-byte-requires : tie.Need-put-byte-requires
 put-byte-requires c κs = search needs
@@ -17,4 +17,4 @@ returns : tie.Need-returns
 returns c = search (ended-text, arith)
 
 pub put-text-cell-spec : {M : Type 1} → statement M
-put-text-cell-spec = tie.close (tie.spec copy-at-requires put-byte-requires same-length returns)
+put-text-cell-spec = tie.close (tie.spec put-text-requires put-byte-requires same-length returns)
