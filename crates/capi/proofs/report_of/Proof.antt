@@ -2,116 +2,73 @@ use Rattle.capi.proofs.Laws.{report-is}
 use borrow.Author.Needs.{needs}
 use Rattle.capi.proofs.report_of.Statement.{statement}
 use Rattle.capi.proofs.report_of.Tie as tie
-use Rattle.capi.proofs.report_of.Reads as reads
-use Rattle.capi.proofs.report_of.Lts as lts
-use Rattle.capi.proofs.capped.Reads as capped-reads
-use Rattle.capi.proofs.list_at.Reads as list-at-reads
-use Rattle.capi.proofs.site_at.Reads as site-at-reads
 
--- src/lib.rt:54:18
 cast-number : tie.Need-cast-number
 cast-number c = search needs
 
--- src/lib.rt:55:9
 capped-requires : tie.Need-capped-requires
 capped-requires c κs = search needs
 
--- src/lib.rt:56:9
 capped-requires-2 : tie.Need-capped-requires-2
 capped-requires-2 c κs = search needs
 
--- src/lib.rt:57:9
 capped-requires-3 : tie.Need-capped-requires-3
 capped-requires-3 c κs = search needs
 
--- src/lib.rt:58:9
 list-at-requires : tie.Need-list-at-requires
 list-at-requires c κs = search needs
 
--- src/lib.rt:59:9
 list-at-requires-2 : tie.Need-list-at-requires-2
 list-at-requires-2 c κs = search needs
 
--- src/lib.rt:60:9
 list-at-requires-3 : tie.Need-list-at-requires-3
 list-at-requires-3 c κs = search needs
 
--- src/lib.rt:61:9
 list-at-requires-4 : tie.Need-list-at-requires-4
 list-at-requires-4 c κs = search needs
 
--- src/lib.rt:62:9
 capped-requires-4 : tie.Need-capped-requires-4
 capped-requires-4 c κs = search needs
 
--- src/lib.rt:63:9
 site-at-requires : tie.Need-site-at-requires
 site-at-requires c κs = search needs
 
--- src/lib.rt:64:9
 site-at-requires-2 : tie.Need-site-at-requires-2
 site-at-requires-2 c κs = search needs
 
--- src/lib.rt:65:9
 site-at-requires-3 : tie.Need-site-at-requires-3
 site-at-requires-3 c κs = search needs
 
--- src/lib.rt:66:9
 site-at-requires-4 : tie.Need-site-at-requires-4
 site-at-requires-4 c κs = search needs
 
--- src/lib.rt:72:9
 cast-t17 : tie.Need-cast-t17
 cast-t17 c = search needs
 
--- src/lib.rt:73:9
 cast-t18 : tie.Need-cast-t18
 cast-t18 c = search needs
 
--- src/lib.rt:74:9
 cast-t19 : tie.Need-cast-t19
 cast-t19 c = search needs
 
--- src/lib.rt:75:9
 cast-t20 : tie.Need-cast-t20
 cast-t20 c = search needs
 
--- src/lib.rt:76:9
 cast-t21 : tie.Need-cast-t21
 cast-t21 c = search needs
 
--- src/lib.rt:77:9
 cast-t22 : tie.Need-cast-t22
 cast-t22 c = search needs
 
--- src/lib.rt:78:9
 cast-t23 : tie.Need-cast-t23
 cast-t23 c = search needs
 
--- src/lib.rt:79:9
 cast-t24 : tie.Need-cast-t24
 cast-t24 c = search needs
 
--- src/lib.rt:81:9
-cast-t25 : tie.Need-cast-t25
-cast-t25 c = search needs
-
--- src/lib.rt:83:9
-cast-t26 : tie.Need-cast-t26
-cast-t26 c = search needs
-
--- src/lib.rt:85:9
-cast-t27 : tie.Need-cast-t27
-cast-t27 c = search needs
-
--- src/lib.rt:87:9
-cast-t28 : tie.Need-cast-t28
-cast-t28 c = search needs
-
--- src/lib.rt:49:1
 returns : tie.Need-returns
 returns c =
-    let b = c .before .before .before .before .before .before .before .before .before .before .before .before in
+    let b = c .before .before .before .before .before .before .before .before in
     report-is _
     (b .before .before .before .before .before .before .before .before .before .before .before .capped .ensures)
     (b .before .before .before .before .before .before .before .before .before .before .capped2 .ensures)
@@ -151,8 +108,4 @@ report-of-spec =
     cast-t22
     cast-t23
     cast-t24
-    cast-t25
-    cast-t26
-    cast-t27
-    cast-t28
     returns)
