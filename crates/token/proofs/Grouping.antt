@@ -15,13 +15,15 @@ use lib.Dec.{eqb, ltb, eqb·zero-suc}
 use borrow.Author.Tests.{lt-ltb, le-ltb, eq-eqb, ne-eqb, eqb-false, ltb-false, not-false}
 use Rattle.scan.specs.Part.{firstByte, indexOf, indexOfText, startsWith, trimmed, ending, Place}
 use Rattle.scan.specs.Number.{isDigit, digitRun}
+use Rattle.scan.specs.declared.Number.the-variants.{Value}
 use Rattle.scan.proofs.Laws.{to-end, digit-from}
 use Rattle.part.proofs.Laws.{first-within}
 use Rattle.spaces.proofs.Laws.{trim-whole}
 use Rattle.record.specs.declared.ChainPrefix.{ChainPrefix}
 use Rattle.record.specs.declared.DbPos.{DbPos}
 use Rattle.record.specs.declared.Mod.{Mod}
-use Rattle.record.specs.Chain.{Chain, Outcome, Read, Refused, andThen, withGroup, countsOf, maxBonds, maxGroups}
+use Rattle.record.specs.declared.Ring.{Ring}
+use Rattle.record.specs.Chain.{Chain, Outcome, Read, Refused, andThen, withGroup, countsOf, maxBonds, maxGroups, maxRings}
 use Rattle.codes.specs.Codes.{groupIn, groupCode}
 use Rattle.codes.proofs.Laws.{group-back}
 use Rattle.groups.specs.Groups.{substituentOf, aliasRingSize}
@@ -32,7 +34,7 @@ use Rattle.groups.specs.declared.RingSize.the-variants.{Carbons, Nothing as Rin
 use Rattle.groups.proofs.Laws.{substituent-row}
 use Rattle.form.specs.Parts.{partsAt}
 use Rattle.form.specs.Form.{segmentText, afterOpening, beforeClosing, cyText, formOf}
-use Rattle.form.specs.Numbers.{leadingPosition}
+use Rattle.form.specs.Numbers.{trimmedNumber, leadingPosition}
 use Rattle.form.specs.declared.Form.the-variants.{Parts}
 use Rattle.form.proofs.Laws.{form-plain, parts-last, parts-more}
 use Rattle.positions.specs.Each.{each}
@@ -44,8 +46,8 @@ use Rattle.segment.specs.Segment.{partAt, commaParts, modification, segmentAt, 
 use Rattle.token.specs.declared.Lead.{Lead}
 use Rattle.token.specs.declared.Item.{Item}
 use Rattle.token.specs.Token.{allPrintable}
-use Rattle.token.specs.Short.{Passed, bonded, mayFollow, isPlain, Plainly, PlainRun, Leads, Itemed, grouped, groupsIn, Grouped}
-use Rattle.token.proofs.Short.{digit-most, digit-is, one-digit, two-digits, passed-here, passed-one, passed-on}
+use Rattle.token.specs.Short.{Passed, mayFollow, isPlain, Plainly, PlainRun, Numeral, Leads, Itemed, laden, groupsIn, Grouped}
+use Rattle.token.proofs.Short.{digit-most, digit-is, one-digit, two-digits, no-plus, passed-here, passed-one, passed-on}
 
 -- ---- plain bytes
 
@@ -156,14 +158,26 @@ part-two c a v x b d f e =
     let r : digitRun (a ∷ v ∷ x ∷ b) ≡ 2 = run-on a (v ∷ x ∷ b) d ∙ ap suc (run-on v (x ∷ b) f ∙ ap suc (not-run x b e)) in
     rw (r, ne-eqb 2 (length (a ∷ v ∷ x ∷ b)) (λ z. omega arith), two-digits a v d f)
 
+numeral-one : (x : ℕ) → isDigit x ≡ true → Numeral (x ∷ []) (x - 48)
+unfolding trimmedNumber
+numeral-one x e =
+    let w : x ∷ [] ≡ trimmed (x ∷ []) = trim-whole (x ∷ []) (λ z. omega arith) (λ z. omega (arith, digit-from x e)) (λ z. omega (arith, digit-from x e)) in
+    record { digits = (e, tt); some = omega arith; number = rw (← w) (no-plus x [] e ∙ one-digit x e) }
+
+numeral-two : (x y : ℕ) → isDigit x ≡ true → isDigit y ≡ true → Numeral (x ∷ y ∷ []) ((x - 48) * 10 + (y - 48))
+unfolding trimmedNumber
+numeral-two x y e f =
+    let w : x ∷ y ∷ [] ≡ trimmed (x ∷ y ∷ []) = trim-whole (x ∷ y ∷ []) (λ z. omega arith) (λ z. omega (arith, digit-from x e)) (λ z. omega (arith, digit-from y f)) in
+    record { digits = (e, (f, tt)); some = omega arith; number = rw (← w) (no-plus x (y ∷ []) e ∙ two-digits x y e f) }
+
 pub lead-none : (t : List ℕ) → Leads t (record { pos = 0; length = 0 })
-lead-none t = record { within = omega arith; plain = tt; small = omega arith; says = λ c x b e. part-none c x b e }
+lead-none t = record { within = omega arith; plain = tt; small = omega arith; figures = λ n. absurd (n refl); says = λ c x b e. part-none c x b e }
 
 pub lead-one : (t : List ℕ) (a : Bool) (x : ℕ) → 2 ≤ length t → a ≡ isDigit (getD t 0 0) → not a ≡ false → x ≡ getD t 0 0 - 48 → Leads t (record { pos = x; length = 1 })
 lead-one [] a x l e n f = absurd (omega arith)
 lead-one (y ∷ t) a x l e n f =
     let d = digit-is y a e n in
-    rw f (record { within = omega arith; plain = (digit-plain y d, tt); small = omega (arith, digit-most y d); says = λ c x b e. part-one c y x b d e })
+    rw f (record { within = omega arith; plain = (digit-plain y d, tt); small = omega (arith, digit-most y d); figures = λ n. numeral-one y d; says = λ c x b e. part-one c y x b d e })
 
 pub lead-two : (t : List ℕ) (a b : Bool) (x y : ℕ) → 2 ≤ length t → a ≡ isDigit (getD t 0 0) → not a ≡ false → b ≡ isDigit (getD t 1 0) → not b ≡ false → x ≡ getD t 0 0 - 48 → y ≡ getD t 1 0 - 48
     → Leads t (record { pos = x * 10 + y; length = 2 })
@@ -172,7 +186,7 @@ lead-two (i ∷ []) a b x y l e n f m g h = absurd (omega arith)
 lead-two (i ∷ j ∷ t) a b x y l e n f m g h =
     let d = digit-is i a e n in
     let k = digit-is j b f m in
-    rw (g, h) (record { within = omega arith; plain = (digit-plain i d, (digit-plain j k, tt)); small = omega (arith, digit-most i d, digit-most j k); says = λ c x b e. part-two c i j x b d k e })
+    rw (g, h) (record { within = omega arith; plain = (digit-plain i d, (digit-plain j k, tt)); small = omega (arith, digit-most i d, digit-most j k); figures = λ n. numeral-two i j d k; says = λ c x b e. part-two c i j x b d k e })
 
 -- ---- a group
 
@@ -316,7 +330,7 @@ segment-start u d h l = go (ℕ-discrete m (length u))
     go (no f) =
         rw (parts-more 59 u (indexOf 59 u) place f, sub-zero (indexOf 59 u), clean-segment (take (indexOf 59 u) u) d h long, to-end (indexOf 59 u + 1) u, drop-cons u (indexOf 59 u) 0 (omega (arith, place .within, f)), add-one (indexOf 59 u))
 
-first-empty : (t : List ℕ) (d : Chain) → segments (59 ∷ t) d ≡ segments t d
+pub first-empty : (t : List ℕ) (d : Chain) → segments (59 ∷ t) d ≡ segments t d
 unfolding segments each partsAt segmentAt segmentText beforeClosing afterOpening trimmed ending firstByte
 first-empty t d = refl
 
@@ -388,24 +402,24 @@ module _ (a : List ℕ) (g : Mod) (h : Plainly a) (w : (c : ℕ) → partOf a c 
 -- so far: what the segments say is what the rest says, on the chain with the groups read
 pub record Onto (s t hs : List ℕ) (n : ℕ) : Type 0 where
   passed : Passed s t
-  says : Cleanly (take (indexOf 59 t) t) → 0 < indexOf 59 t → (p : ChainPrefix) (w : ℕ) (l : List DbPos) → length l ≤ maxBonds → segments s (bonded p w l) ≡ partsLeft t (grouped p w l (groupsIn n hs))
+  says : Cleanly (take (indexOf 59 t) t) → 0 < indexOf 59 t → (p : ChainPrefix) (w : ℕ) (l : List DbPos) (z : List Ring) → length l ≤ maxBonds → length z ≤ maxRings → segments s (laden p w l [] z) ≡ partsLeft t (laden p w l (groupsIn n hs) z)
 
 pub onto-none : (s hs : List ℕ) → (length s ≡ 0 → ⊥) → getD s 0 0 ≡ 59 → Onto s (take (length s - 1) (drop 1 s)) hs 0
 onto-none [] hs l e = absurd (l refl)
 onto-none (x ∷ t) hs l e =
     rw (to-end 1 (x ∷ t), e)
-    (record { passed = passed-one 59 t t (omega arith) (omega arith) (passed-here t); says = λ c z p w b h. first-empty t (bonded p w b) ∙ segment-start t (bonded p w b) c z })
+    (record { passed = passed-one 59 t t (omega arith) (omega arith) (passed-here t); says = λ c i p w l z h k. first-empty t (laden p w l [] z) ∙ segment-start t (laden p w l [] z) c i })
 
-groups-more : (p : ChainPrefix) (w : ℕ) (l : List DbPos) (n code : ℕ) (hs : List ℕ) → n < length hs → withGroup (groupIn code) (grouped p w l (groupsIn n hs)) ≡ grouped p w l (groupsIn (n + 1) (set hs n code))
+groups-more : (p : ChainPrefix) (w : ℕ) (l : List DbPos) (z : List Ring) (n code : ℕ) (hs : List ℕ) → n < length hs → withGroup (groupIn code) (laden p w l (groupsIn n hs) z) ≡ laden p w l (groupsIn (n + 1) (set hs n code)) z
 unfolding withGroup
-groups-more p w l n code hs h = rw (add-one n, take-suc-set hs n code h, map-append groupIn (take n hs) (code ∷ []))
+groups-more p w l z n code hs h = rw (add-one n, take-suc-set hs n code h, map-append groupIn (take n hs) (code ∷ []))
 
 groups-few : (n : ℕ) (hs : List ℕ) → length (groupsIn n hs) ≤ n
 groups-few n hs = omega (arith, length-map (take n hs) groupIn, length-take n hs)
 
-grouped-counts : (p : ChainPrefix) (w : ℕ) (l : List DbPos) (g : List Mod) → length l ≤ 32 → length g ≤ 16 → countsOf (grouped p w l g) ≡ Read (grouped p w l g)
+pub laden-counts : (p : ChainPrefix) (w : ℕ) (l : List DbPos) (g : List Mod) (z : List Ring) → length l ≤ 32 → length g ≤ 16 → length z ≤ 8 → countsOf (laden p w l g z) ≡ Read (laden p w l g z)
 unfolding countsOf
-grouped-counts p w l g h k = rw (le-ltb maxBonds (length l) h, le-ltb maxGroups (length g) k)
+laden-counts p w l g z h k i = rw (le-ltb maxBonds (length l) h, le-ltb maxGroups (length g) k, le-ltb maxRings (length z) i)
 
 clean-only : (a : List ℕ) → Plainly a → Cleanly a
 clean-only [] h = tt
@@ -414,20 +428,20 @@ clean-only (x ∷ a) h =
     (record { low = omega (arith, y .low); opens = y .opens; closes = y .closes; cy = y .cy }, clean-only a (h .1))
 
 module _ (s t a hs : List ℕ) (n code : ℕ) (o : Onto s t hs n) (h : Plainly a) (long : 0 < length a) (w : (c : ℕ) → partOf a c ≡ Located (groupIn code)) (few : n < 16) (roomy : 16 ≤ length hs) where
-  counted : (p : ChainPrefix) (i : ℕ) (l : List DbPos) → length l ≤ 32 → countsOf (withGroup (groupIn code) (grouped p i l (groupsIn n hs))) ≡ Read (grouped p i l (groupsIn (n + 1) (set hs n code)))
-  counted p i l k = rw (groups-more p i l n code hs (omega arith)) (grouped-counts p i l (groupsIn (n + 1) (set hs n code)) k (omega (arith, groups-few (n + 1) (set hs n code))))
+  counted : (p : ChainPrefix) (i : ℕ) (l : List DbPos) (z : List Ring) → length l ≤ 32 → length z ≤ 8 → countsOf (withGroup (groupIn code) (laden p i l (groupsIn n hs) z)) ≡ Read (laden p i l (groupsIn (n + 1) (set hs n code)) z)
+  counted p i l z k j = rw (groups-more p i l z n code hs (omega arith)) (laden-counts p i l (groupsIn (n + 1) (set hs n code)) z k (omega (arith, groups-few (n + 1) (set hs n code))) j)
 
   onto-comma : (u : List ℕ) → t ≡ a ++ 44 ∷ u → Passed s u → Onto s u (set hs n code) (n + 1)
   onto-comma u e q =
       let v : Onto s (a ++ 44 ∷ u) hs n = rw e at o in
       record {
         passed = q;
-        says = λ k i p j l m.
+        says = λ k i p j l x m y.
             v .says
             (rw (take-comma a (groupIn code) h w u) (clean-plain a (44 ∷ take (indexOf 59 u) u) h (record { low = omega arith; opens = λ z. omega arith; closes = λ z. omega arith; cy = λ z. omega arith }, k)))
-            (omega (arith, at-comma a (groupIn code) h w u)) p j l m
-            ∙ left-comma a (groupIn code) h w u (grouped p j l (groupsIn n hs))
-            ∙ ap (partsLeft u) (groups-more p j l n code hs (omega arith));
+            (omega (arith, at-comma a (groupIn code) h w u)) p j l x m y
+            ∙ left-comma a (groupIn code) h w u (laden p j l (groupsIn n hs) x)
+            ∙ ap (partsLeft u) (groups-more p j l x n code hs (omega arith));
       }
 
   onto-next : (u : List ℕ) → t ≡ a ++ 59 ∷ u → Passed s u → Onto s u (set hs n code) (n + 1)
@@ -435,10 +449,10 @@ module _ (s t a hs : List ℕ) (n code : ℕ) (o : Onto s t hs n) (h : Plainly a
       let v : Onto s (a ++ 59 ∷ u) hs n = rw e at o in
       record {
         passed = q;
-        says = λ k i p j l m.
-            v .says (rw (at-next a (groupIn code) h w u, take-append-seam a (59 ∷ u)) (clean-only a h)) (omega (arith, at-next a (groupIn code) h w u)) p j l m
-            ∙ left-next a (groupIn code) h w u (grouped p j l (groupsIn n hs))
-            ∙ rw (counted p j l m) (segment-start u (grouped p j l (groupsIn (n + 1) (set hs n code))) k i);
+        says = λ k i p j l x m y.
+            v .says (rw (at-next a (groupIn code) h w u, take-append-seam a (59 ∷ u)) (clean-only a h)) (omega (arith, at-next a (groupIn code) h w u)) p j l x m y
+            ∙ left-next a (groupIn code) h w u (laden p j l (groupsIn n hs) x)
+            ∙ rw (counted p j l x m y) (segment-start u (laden p j l (groupsIn (n + 1) (set hs n code)) x) k i);
       }
 
   onto-end : t ≡ a → Passed s [] → mayFollow s ≡ true → Grouped s (set hs n code) (n + 1)
@@ -449,10 +463,10 @@ module _ (s t a hs : List ℕ) (n code : ℕ) (o : Onto s t hs n) (h : Plainly a
         few = omega arith;
         stored = omega (arith, length-set hs n code);
         follows = record { bytes = q .bytes; solid = q .solid refl; start = f };
-        says = λ p j l m.
-            v .says (rw (at-end a (groupIn code) h w, take-all (length a) a (omega arith)) (clean-only a h)) (omega (arith, at-end a (groupIn code) h w)) p j l m
-            ∙ left-end a (groupIn code) h w (grouped p j l (groupsIn n hs))
-            ∙ rw (counted p j l m);
+        says = λ p j l x m y.
+            v .says (rw (at-end a (groupIn code) h w, take-all (length a) a (omega arith)) (clean-only a h)) (omega (arith, at-end a (groupIn code) h w)) p j l x m y
+            ∙ left-end a (groupIn code) h w (laden p j l (groupsIn n hs) x)
+            ∙ rw (counted p j l x m y);
       }
 
 may-follow : (s : List ℕ) → getD s 0 0 ≡ 59 → mayFollow s ≡ true

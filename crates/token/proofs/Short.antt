@@ -23,11 +23,11 @@ use Rattle.record.specs.declared.ChainPrefix.the-variants.{Acyl, SphingoidD, Sp
 use Rattle.record.specs.declared.Geometry.{Geometry}
 use Rattle.record.specs.declared.Geometry.the-variants.{Unstated, Cis, Trans}
 use Rattle.record.specs.declared.DbPos.{DbPos}
-use Rattle.record.specs.Chain.{Chain, Outcome, Read, Refused, andThen, unreadable, noFeatures, withBond, withUnlocated, countsOf, maxCarbons, maxBonds, maxGroups}
+use Rattle.record.specs.Chain.{Chain, Outcome, Read, Refused, andThen, unreadable, noFeatures, withBond, withUnlocated, countsOf, maxCarbons, maxBonds, maxGroups, maxRings}
 use Rattle.parsed.specs.declared.ParsedChain.{ParsedChain}
 use Rattle.parsed.specs.Parsed.{Keeps}
 use Rattle.seats.specs.Seats.{seated}
-use Rattle.codes.specs.Codes.{bondCode, bondIn, groupIn}
+use Rattle.codes.specs.Codes.{bondCode, bondIn, groupIn, ringIn}
 use Rattle.codes.proofs.Laws.{bond-back}
 use Rattle.form.specs.Parts.{onto, partsAt, listParts}
 use Rattle.positions.specs.Each.{each}
@@ -49,7 +49,7 @@ use Rattle.token.specs.declared.ReadToken.{ReadToken}
 use Rattle.token.specs.Lent.{MissingIs, Ends, Tells, noToken}
 use Rattle.segment.proofs.Laws.{segments-none}
 use Rattle.token.proofs.Laws.{rest-empty}
-use Rattle.token.specs.Short.{Passed, HeadAt, Headed, bonded, bondsIn, listLeft, SpotOf, Spotted, Listing, mayFollow, Follows, Lists, grouped, groupsIn, Grouped, Starts, Plain, PlainIn}
+use Rattle.token.specs.Short.{Passed, HeadAt, Headed, bonded, bondsIn, listLeft, SpotOf, Spotted, Listing, mayFollow, Follows, Lists, laden, groupsIn, Grouped, ringsIn, RingFirst, Starts, Plain, PlainIn}
 
 -- ---- the bytes that are passed
 
@@ -91,7 +91,7 @@ two-digits x y e f =
     let z : (0 * 10 + (x - 48)) * 10 + (y - 48) ≡ (x - 48) * 10 + (y - 48) = omega arith in
     rw (e, f, z, le-ltb numberLimit ((x - 48) * 10 + (y - 48)) (omega (arith, digit-most x e, digit-most y f)))
 
-no-plus : (x : ℕ) (s : List ℕ) → isDigit x ≡ true → numberUpTo numberLimit (x ∷ s) ≡ digitsUpTo numberLimit (x ∷ s)
+pub no-plus : (x : ℕ) (s : List ℕ) → isDigit x ≡ true → numberUpTo numberLimit (x ∷ s) ≡ digitsUpTo numberLimit (x ∷ s)
 unfolding numberUpTo afterPlus
 no-plus x s e = rw (ne-eqb x 43 (λ z. omega (arith, digit-from x e)))
 
@@ -525,6 +525,10 @@ follows-some v b l e n f g =
 
 -- ---- the start of the token
 
+empty-is : (v : List ℕ) → length v ≡ 0 → v ≡ []
+empty-is [] e = refl
+empty-is (x ∷ v) e = absurd (omega arith)
+
 ending-last : (s : List ℕ) → (length s ≡ 0 → ⊥) → (getD s 0 0 ≡ 32 → ⊥) → ending s ≡ length s → trimmed s ≡ s
 unfolding trimmed firstByte
 ending-last [] l n e = absurd (l refl)
@@ -539,47 +543,108 @@ left-read s ys h l few k g i =
     let c : trimmed s ≡ s = ending-last s (k .some) (k .first) (p .solid (i .solid)) in
     rw (le-ltb 255 (length s) few, p .bytes ∙ i .bytes, c) (k .says (g .start (i .start)) ∙ g .says (i .start) (h .declared) (h .prefix) (h .carbon))
 
-module _ (s ys hs : List ℕ) (h : Head) (l : Listed) (few : length s ≤ 255) (w : (h .rest ≡ 0 → ⊥) → Headed s h) (n : h .rest ≡ 0 → ⊥) (q : Lists (take (length s - h .rest) (drop (h .rest) s)) ys l) where
+module _ (s ys hs zs : List ℕ) (h : Head) (l : Listed) (few : length s ≤ 255) (w : (h .rest ≡ 0 → ⊥) → Headed s h) (n : h .rest ≡ 0 → ⊥) (q : Lists (take (length s - h .rest) (drop (h .rest) s)) ys l) where
   listing : Lists (drop (h .rest) s) ys l
   listing = rw (to-end (h .rest) s) at q
 
-  pub usual-read : (b : Bool)
-      → (b ≡ true → Follows (take (length (take (length s - h .rest) (drop (h .rest) s)) - l .rest) (drop (l .rest) (take (length s - h .rest) (drop (h .rest) s))))) → not b ≡ false
-      → Starts s ys hs (record { prefix = h .prefix; carbon = h .carbon; declared = h .declared; count = l .count; groups = 0; rest = h .rest + l .rest })
-  usual-read b f t =
-      let k = w n in
-      let g = listing in
-      let u : take (length s - h .rest) (drop (h .rest) s) ≡ drop (h .rest) s = to-end (h .rest) s in
-      let i : Follows (drop (l .rest) (drop (h .rest) s)) = rw (u, to-end (l .rest) (drop (h .rest) s)) at (f (not-false b t)) in
-      record {
-        room = omega (arith, k .room, g .room, length-drop (h .rest) s);
-        few = k .few;
-        listed = g .few;
-        stored = g .stored;
-        grown = omega arith;
-        kept = omega arith;
-        says = left-read s ys h l few k g i ∙ rw (drop-drop (l .rest) (h .rest) s);
-      }
+  abbrev left : List ℕ
+  left = take (length (take (length s - h .rest) (drop (h .rest) s)) - l .rest) (drop (l .rest) (take (length s - h .rest) (drop (h .rest) s)))
 
-  pub usual-groups : (m : ℕ)
-      → ((m ≡ 0 → ⊥) → Grouped (take (length (take (length s - h .rest) (drop (h .rest) s)) - l .rest) (drop (l .rest) (take (length s - h .rest) (drop (h .rest) s)))) hs m) → (m ≡ 0 → ⊥)
-      → Starts s ys hs (record { prefix = h .prefix; carbon = h .carbon; declared = h .declared; count = l .count; groups = m; rest = length s })
-  unfolding restOf
-  usual-groups m f t =
+  left-is : left ≡ drop (l .rest) (drop (h .rest) s)
+  left-is =
+      let u : take (length s - h .rest) (drop (h .rest) s) ≡ drop (h .rest) s = to-end (h .rest) s in
+      rw u (to-end (l .rest) (drop (h .rest) s))
+
+  -- nothing follows
+  pub usual-bare : length (take (length (take (length s - h .rest) (drop (h .rest) s)) - l .rest) (drop (l .rest) (take (length s - h .rest) (drop (h .rest) s)))) ≡ 0
+      → Starts s ys hs zs (record { prefix = h .prefix; carbon = h .carbon; declared = h .declared; count = l .count; groups = 0; rings = 0; rest = length s })
+  usual-bare e =
       let k = w n in
       let g = listing in
-      let u : take (length s - h .rest) (drop (h .rest) s) ≡ drop (h .rest) s = to-end (h .rest) s in
-      let i : Grouped (drop (l .rest) (drop (h .rest) s)) hs m = rw (u, to-end (l .rest) (drop (h .rest) s)) at (f t) in
-      let e = i .says (h .prefix) (h .carbon) (bondsIn (l .count) ys) (omega (arith, bonds-few (l .count) ys, g .few)) in
+      let i : length (drop (l .rest) (drop (h .rest) s)) ≡ 0 = rw (← left-is) e in
+      let m : drop (l .rest) (drop (h .rest) s) ≡ [] = empty-is (drop (l .rest) (drop (h .rest) s)) i in
       record {
         room = le-refl (length s);
         few = k .few;
         listed = g .few;
         stored = g .stored;
-        grown = i .few;
-        kept = i .stored;
-        says = left-read s ys h l few k g (i .follows) ∙ rw (e, drop-length s, segments-none (grouped (h .prefix) (h .carbon) (bondsIn (l .count) ys) (groupsIn m hs)));
+        grown = omega arith;
+        kept = omega arith;
+        closed = omega arith;
+        held = omega arith;
+        says = left-read s ys h l few k g (follows-none _ i) ∙ rw (m, drop-length s);
       }
+
+  module _ (z : Listed) (v : RingFirst (h .carbon) (take (length (take (length s - h .rest) (drop (h .rest) s)) - l .rest) (drop (l .rest) (take (length s - h .rest) (drop (h .rest) s)))) zs z) where
+    ringing : RingFirst (h .carbon) (drop (l .rest) (drop (h .rest) s)) zs z
+    ringing = rw left-is at v
+
+    -- what is left after the ring
+    left-ring : Follows (drop (z .rest) (drop (l .rest) (drop (h .rest) s)))
+        → tokenOf s ≡ restOf (missingOf (h .carbon) (bondsIn (l .count) ys) (h .declared)) (drop (z .rest) (drop (l .rest) (drop (h .rest) s))) (laden (h .prefix) (h .carbon) (bondsIn (l .count) ys) [] (ringsIn (z .count) zs))
+    unfolding restOf
+    left-ring f =
+        let x = ringing in
+        left-read s ys h l few (w n) listing (x .follows f) ∙ rw (x .says f (h .prefix) (bondsIn (l .count) ys) (omega (arith, bonds-few (l .count) ys, listing .few)))
+
+    rings-few : length (ringsIn (z .count) zs) ≤ 8
+    rings-few = omega (arith, ringing .few, length-map (take (z .count) zs) ringIn, length-take (z .count) zs)
+
+    module _ (t : List ℕ) (c : t ≡ take (length left - z .rest) (drop (z .rest) left)) where
+      after-is : t ≡ drop (z .rest) (drop (l .rest) (drop (h .rest) s))
+      after-is = c ∙ rw left-is (to-end (z .rest) (drop (l .rest) (drop (h .rest) s)))
+
+      read-then : (b : Bool) → (b ≡ true → Follows t) → not b ≡ false
+          → Starts s ys hs zs (record { prefix = h .prefix; carbon = h .carbon; declared = h .declared; count = l .count; groups = 0; rings = z .count; rest = h .rest + l .rest + z .rest })
+      read-then b f i =
+          let k = w n in
+          let g = listing in
+          let x = ringing in
+          let j : Follows (drop (z .rest) (drop (l .rest) (drop (h .rest) s))) = rw after-is at (f (not-false b i)) in
+          record {
+            room = omega (arith, k .room, g .room, x .room, length-drop (h .rest) s, length-drop (l .rest) (drop (h .rest) s));
+            few = k .few;
+            listed = g .few;
+            stored = g .stored;
+            grown = omega arith;
+            kept = omega arith;
+            closed = x .few;
+            held = x .stored;
+            says = left-ring j ∙ rw (drop-drop (l .rest) (h .rest) s, drop-drop (z .rest) (h .rest + l .rest) s);
+          }
+
+      groups-then : (m : ℕ) → ((m ≡ 0 → ⊥) → Grouped t hs m) → (m ≡ 0 → ⊥)
+          → Starts s ys hs zs (record { prefix = h .prefix; carbon = h .carbon; declared = h .declared; count = l .count; groups = m; rings = z .count; rest = length s })
+      unfolding restOf
+      groups-then m f i =
+          let k = w n in
+          let g = listing in
+          let x = ringing in
+          let j : Grouped (drop (z .rest) (drop (l .rest) (drop (h .rest) s))) hs m = rw after-is at (f i) in
+          let e = j .says (h .prefix) (h .carbon) (bondsIn (l .count) ys) (ringsIn (z .count) zs) (omega (arith, bonds-few (l .count) ys, g .few)) rings-few in
+          record {
+            room = le-refl (length s);
+            few = k .few;
+            listed = g .few;
+            stored = g .stored;
+            grown = j .few;
+            kept = j .stored;
+            closed = x .few;
+            held = x .stored;
+            says = left-ring (j .follows) ∙ rw (e, drop-length s, segments-none (laden (h .prefix) (h .carbon) (bondsIn (l .count) ys) (groupsIn m hs) (ringsIn (z .count) zs)));
+          }
+
+    pub usual-read : (b : Bool)
+        → (b ≡ true → Follows (take (length (take (length (take (length s - h .rest) (drop (h .rest) s)) - l .rest) (drop (l .rest) (take (length s - h .rest) (drop (h .rest) s)))) - z .rest) (drop (z .rest) (take (length (take (length s - h .rest) (drop (h .rest) s)) - l .rest) (drop (l .rest) (take (length s - h .rest) (drop (h .rest) s)))))))
+        → not b ≡ false
+        → Starts s ys hs zs (record { prefix = h .prefix; carbon = h .carbon; declared = h .declared; count = l .count; groups = 0; rings = z .count; rest = h .rest + l .rest + z .rest })
+    usual-read b f i = read-then _ refl b f i
+
+    pub usual-groups : (m : ℕ)
+        → ((m ≡ 0 → ⊥) → Grouped (take (length (take (length (take (length s - h .rest) (drop (h .rest) s)) - l .rest) (drop (l .rest) (take (length s - h .rest) (drop (h .rest) s)))) - z .rest) (drop (z .rest) (take (length (take (length s - h .rest) (drop (h .rest) s)) - l .rest) (drop (l .rest) (take (length s - h .rest) (drop (h .rest) s)))))) hs m)
+        → (m ≡ 0 → ⊥)
+        → Starts s ys hs zs (record { prefix = h .prefix; carbon = h .carbon; declared = h .declared; count = l .count; groups = m; rings = z .count; rest = length s })
+    usual-groups m f i = groups-then _ refl m f i
 
 -- ---- the whole token
 
@@ -597,20 +662,26 @@ keeps-groups n gs h l =
     let k : length (groupsIn n gs) ≤ n = omega (arith, length-map (take n gs) groupIn, length-take n gs) in
     record { counted = omega (arith, length-map (take n gs) groupIn, length-take n gs); kept = rw a (sym (take-all 16 (groupsIn n gs) (omega arith))) }
 
-module _ (p : ChainPrefix) (w : ℕ) (m : Missing) (n g : ℕ) where
-  pub plain-unseated : (r : ReadToken) → m ≡ Unseated → r ≡ noToken 11 → Plain p w m n g r
-  plain-unseated r e f = rw (e, f) (record { tells = λ bs gs rs h l i j. record { stands = (refl, omega arith) } })
+keeps-rings : (n : ℕ) (rs : List ℕ) → n ≤ 8 → n ≤ length rs → Keeps ringIn maxRings rs n (ringsIn n rs)
+keeps-rings n rs h l =
+    let a : min n 8 ≡ n = omega arith in
+    let k : length (ringsIn n rs) ≤ n = omega (arith, length-map (take n rs) ringIn, length-take n rs) in
+    record { counted = omega (arith, length-map (take n rs) ringIn, length-take n rs); kept = rw a (sym (take-all 8 (ringsIn n rs) (omega arith))) }
 
-  pub plain-seated : (k : ℕ) → m ≡ Missing·Seated k → Plain p w m n g (record { refusal = 0; prefix = p; written = w; carbon = w; branched = false; unlocated = k; counts = record { bonds = n; groups = g; rings = 0; oxygens = 0 } })
+module _ (p : ChainPrefix) (w : ℕ) (m : Missing) (n g c : ℕ) where
+  pub plain-unseated : (r : ReadToken) → m ≡ Unseated → r ≡ noToken 11 → Plain p w m n g c r
+  plain-unseated r e f = rw (e, f) (record { tells = λ bs gs rs h l i j x y. record { stands = (refl, omega arith) } })
+
+  pub plain-seated : (k : ℕ) → m ≡ Missing·Seated k → Plain p w m n g c (record { refusal = 0; prefix = p; written = w; carbon = w; branched = false; unlocated = k; counts = record { bonds = n; groups = g; rings = c; oxygens = 0 } })
   unfolding bareOxygens withUnlocated
   plain-seated k e =
       rw e
       (record {
-        tells = λ bs gs rs h l i j.
+        tells = λ bs gs rs h l i j x y.
             record {
               stands = (
                 refl,
-                record { prefix = refl; written = refl; carbon = refl; branched = refl; unlocated = refl; oxygens = refl; bonds = keeps-in n bs h l; groups = keeps-groups g gs i j; rings = record { counted = refl; kept = refl } },
+                record { prefix = refl; written = refl; carbon = refl; branched = refl; unlocated = refl; oxygens = refl; bonds = keeps-in n bs h l; groups = keeps-groups g gs i j; rings = keeps-rings c rs x y },
               );
             };
       })
@@ -622,35 +693,35 @@ all-given w n bs l =
     let z : n - n ≡ 0 = omega arith in
     rw (k, le-ltb n n (le-refl n), z)
 
-module _ (p : ChainPrefix) (w declared n g : ℕ) (bs : List ℕ) (r : ReadToken) where
-  pub plain-all : declared ≡ n → Plain p w (Missing·Seated 0) n g r → PlainIn p w declared n g bs r
-  plain-all e k = rw e (record { tells = λ gs rs a h l i j. rw (all-given w n bs l) (k .tells bs gs rs h l i j) })
+module _ (p : ChainPrefix) (w declared n g c : ℕ) (bs : List ℕ) (r : ReadToken) where
+  pub plain-all : declared ≡ n → Plain p w (Missing·Seated 0) n g c r → PlainIn p w declared n g c bs r
+  plain-all e k = rw e (record { tells = λ gs rs a h l i j x y. rw (all-given w n bs l) (k .tells bs gs rs h l i j x y) })
 
-  pub plain-in : (m : Missing) → MissingIs w bs n declared m → Plain p w m n g r → PlainIn p w declared n g bs r
-  plain-in m v k = record { tells = λ gs rs a h l i j. rw (← v .is (bondsIn n bs) (keeps-in n bs h l) a (bonds-few-in n bs h)) (k .tells bs gs rs h l i j) }
+  pub plain-in : (m : Missing) → MissingIs w bs n declared m → Plain p w m n g c r → PlainIn p w declared n g c bs r
+  plain-in m v k = record { tells = λ gs rs a h l i j x y. rw (← v .is (bondsIn n bs) (keeps-in n bs h l) a (bonds-few-in n bs h)) (k .tells bs gs rs h l i j x y) }
 
-pub segments-end : (u : Usual) (s bs gs rs : List ℕ) (m : Missing) (r : Ended) (ys hs zs : List ℕ) → u .carbon ≤ 255 → u .count ≤ 32 → u .groups ≤ 16 → 32 ≤ length bs → 16 ≤ length gs
-    → MissingIs (u .carbon) bs (u .count) (u .declared) m → Ends (u .carbon) (record { bonds = u .count; groups = u .groups; rings = 0; oxygens = 0 }) bs gs rs r ys hs zs (restOf m s)
+pub segments-end : (u : Usual) (s bs gs rs : List ℕ) (m : Missing) (r : Ended) (ys hs zs : List ℕ) → u .carbon ≤ 255 → u .count ≤ 32 → u .groups ≤ 16 → u .rings ≤ 8 → 32 ≤ length bs → 16 ≤ length gs → 8 ≤ length rs
+    → MissingIs (u .carbon) bs (u .count) (u .declared) m → Ends (u .carbon) (record { bonds = u .count; groups = u .groups; rings = u .rings; oxygens = 0 }) bs gs rs r ys hs zs (restOf m s)
     → Tells (record { refusal = r .refusal; prefix = u .prefix; written = u .carbon; carbon = u .carbon; branched = false; unlocated = r .unlocated; counts = r .counts }) ys hs zs
-    (restOf (missingOf (u .carbon) (bondsIn (u .count) bs) (u .declared)) s (grouped (u .prefix) (u .carbon) (bondsIn (u .count) bs) (groupsIn (u .groups) gs)))
-segments-end u s bs gs rs m r ys hs zs a h g l o v e =
-    let x : ParsedChain = record { prefix = u .prefix; written = u .carbon; carbon = u .carbon; branched = false; unlocated = 0; oxygens = 0; «bond_count» = u .count; bonds = bs; «group_count» = u .groups; groups = gs; «ring_count» = 0; rings = rs } in
+    (restOf (missingOf (u .carbon) (bondsIn (u .count) bs) (u .declared)) s (laden (u .prefix) (u .carbon) (bondsIn (u .count) bs) (groupsIn (u .groups) gs) (ringsIn (u .rings) rs)))
+segments-end u s bs gs rs m r ys hs zs a h g c l o q v e =
+    let x : ParsedChain = record { prefix = u .prefix; written = u .carbon; carbon = u .carbon; branched = false; unlocated = 0; oxygens = 0; «bond_count» = u .count; bonds = bs; «group_count» = u .groups; groups = gs; «ring_count» = u .rings; rings = rs } in
     let k = keeps-in (u .count) bs h (omega arith) in
     rw (← v .is (bondsIn (u .count) bs) k a (bonds-few-in (u .count) bs h))
     (record {
-      stands = e .gives x .stands (grouped (u .prefix) (u .carbon) (bondsIn (u .count) bs) (groupsIn (u .groups) gs))
-          (record { prefix = refl; written = refl; carbon = refl; branched = refl; unlocated = refl; oxygens = refl; bonds = k; groups = keeps-groups (u .groups) gs g (omega arith); rings = record { counted = refl; kept = refl } });
+      stands = e .gives x .stands (laden (u .prefix) (u .carbon) (bondsIn (u .count) bs) (groupsIn (u .groups) gs) (ringsIn (u .rings) rs))
+          (record { prefix = refl; written = refl; carbon = refl; branched = refl; unlocated = refl; oxygens = refl; bonds = k; groups = keeps-groups (u .groups) gs g (omega arith); rings = keeps-rings (u .rings) rs c (omega arith) });
     })
 
-module _ (s ys hs : List ℕ) (u : Usual) (r : ReadToken) (w : (u .rest ≡ 0 → ⊥) → Starts s ys hs u) (n : u .rest ≡ 0 → ⊥) where
-  pub token-plain : (rs : List ℕ) → u .rest ≡ length s → PlainIn (u .prefix) (u .carbon) (u .declared) (u .count) (u .groups) ys r → Tells r ys hs rs (tokenOf s)
-  token-plain rs e k =
+module _ (s ys hs zs : List ℕ) (u : Usual) (r : ReadToken) (w : (u .rest ≡ 0 → ⊥) → Starts s ys hs zs u) (n : u .rest ≡ 0 → ⊥) where
+  pub token-plain : u .rest ≡ length s → PlainIn (u .prefix) (u .carbon) (u .declared) (u .count) (u .groups) (u .rings) ys r → Tells r ys hs zs (tokenOf s)
+  token-plain e k =
       let q = w n in
       let v : drop (u .rest) s ≡ [] = rw e (drop-length s) in
-      let z : tokenOf s ≡ finished (missingOf (u .carbon) (bondsIn (u .count) ys) (u .declared)) (grouped (u .prefix) (u .carbon) (bondsIn (u .count) ys) (groupsIn (u .groups) hs)) = (rw v at (q .says)) ∙ rest-empty _ _ in
-      rw z (k .tells hs rs (q .few) (q .listed) (q .stored) (q .grown) (q .kept))
+      let z : tokenOf s ≡ finished (missingOf (u .carbon) (bondsIn (u .count) ys) (u .declared)) (laden (u .prefix) (u .carbon) (bondsIn (u .count) ys) (groupsIn (u .groups) hs) (ringsIn (u .rings) zs)) = (rw v at (q .says)) ∙ rest-empty _ _ in
+      rw z (k .tells hs zs (q .few) (q .listed) (q .stored) (q .grown) (q .kept) (q .closed) (q .held))
 
   pub token-segments : (bs gs rs : List ℕ)
-      → Tells r bs gs rs (restOf (missingOf (u .carbon) (bondsIn (u .count) ys) (u .declared)) (take (length s - u .rest) (drop (u .rest) s)) (grouped (u .prefix) (u .carbon) (bondsIn (u .count) ys) (groupsIn (u .groups) hs)))
+      → Tells r bs gs rs (restOf (missingOf (u .carbon) (bondsIn (u .count) ys) (u .declared)) (take (length s - u .rest) (drop (u .rest) s)) (laden (u .prefix) (u .carbon) (bondsIn (u .count) ys) (groupsIn (u .groups) hs) (ringsIn (u .rings) zs)))
       → Tells r bs gs rs (tokenOf s)
   token-segments bs gs rs k = rw (w n .says, ← to-end (u .rest) s) k

@@ -8,21 +8,24 @@ use lib.ListN.{length, take, drop, getD}
 use lib.Dec.{eqb, ltb}
 use Rattle.scan.specs.Part.{indexOf, ending}
 use Rattle.scan.specs.Number.{isDigit, digitRun}
+use Rattle.scan.specs.declared.Number.the-variants.{Value}
 use Rattle.record.specs.declared.ChainPrefix.{ChainPrefix}
 use Rattle.record.specs.declared.Geometry.the-variants.{Unstated}
 use Rattle.record.specs.declared.DbPos.{DbPos}
 use Rattle.record.specs.declared.Mod.{Mod}
-use Rattle.record.specs.Chain.{Chain, Outcome, Read, Refused, andThen, unreadable, noFeatures, withBond, countsOf, maxCarbons, maxBonds, maxGroups}
-use Rattle.codes.specs.Codes.{bondCode, bondIn, groupIn}
+use Rattle.record.specs.declared.Ring.{Ring}
+use Rattle.record.specs.Chain.{Chain, Outcome, Read, Refused, andThen, unreadable, noFeatures, withBond, countsOf, maxCarbons, maxBonds, maxGroups, maxRings}
+use Rattle.codes.specs.Codes.{bondCode, bondIn, groupIn, ringIn}
 use Rattle.form.specs.Parts.{partsAt}
+use Rattle.form.specs.Numbers.{trimmedNumber}
 use Rattle.positions.specs.Each.{each}
 use Rattle.positions.specs.Positions.{geometryOf, bondAt}
 use Rattle.token.specs.declared.Missing.{Missing}
 use Rattle.token.specs.declared.Head.{Head}
 use Rattle.token.specs.declared.Spot.{Spot}
 use Rattle.token.specs.declared.Listed.{Listed}
-use Rattle.features.specs.declared.Segment.the-variants.{Located}
-use Rattle.features.specs.Features.{itemAt, partOf}
+use Rattle.features.specs.declared.Segment.the-variants.{Cycle, Located}
+use Rattle.features.specs.Features.{ringOf, itemAt, partOf}
 use Rattle.segment.specs.Segment.{segments}
 use Rattle.token.specs.declared.Lead.{Lead}
 use Rattle.token.specs.declared.Item.{Item}
@@ -130,11 +133,22 @@ pub record PlainRun (s : List ℕ) (r : ℕ) : Type 0 where
   pub within : r ≤ length s
   pub plain : Plainly (take r s)
 
+abbrev pub Digits : List ℕ → Type 0
+Digits [] = Unit {0}
+Digits (x ∷ s) = (isDigit x ≡ true) × Digits s
+
+-- s is n in digits
+pub record Numeral (s : List ℕ) (n : ℕ) : Type 0 where
+  pub digits : Digits s
+  pub some : 0 < length s
+  pub number : trimmedNumber s ≡ Value n
+
 -- the position that t starts with, of at most two digits
 pub record Leads (t : List ℕ) (r : Lead) : Type 0 where
   pub within : r .length ≤ length t
   pub plain : Plainly (take (r .length) t)
   pub small : r .pos ≤ 99
+  pub figures : (r .length ≡ 0 → ⊥) → Numeral (take (r .length) t) (r .pos)
   pub says : (c x : ℕ) (b : List ℕ) → isDigit x ≡ false → partOf (take (r .length) t ++ x ∷ b) c ≡ itemAt (x ∷ b) (r .pos) c
 
 -- r is the group that t starts with
@@ -143,9 +157,9 @@ pub record Itemed (t : List ℕ) (r : Item) : Type 0 where
   pub plain : Plainly (take (r .next) t)
   pub says : (c : ℕ) → partOf (take (r .next) t) c ≡ Located (groupIn (r .code))
 
--- a chain with these double bonds and groups and nothing else; the groups of an array
-abbrev pub grouped : ChainPrefix → ℕ → List DbPos → List Mod → Chain
-grouped p w l g = record { prefix = p; written = w; carbon = w; branched = false; unlocated = 0; oxygens = 0; bonds = l; groups = g; rings = [] }
+-- a chain with these double bonds, groups and rings and nothing else; the groups of an array
+abbrev pub laden : ChainPrefix → ℕ → List DbPos → List Mod → List Ring → Chain
+laden p w l g z = record { prefix = p; written = w; carbon = w; branched = false; unlocated = 0; oxygens = 0; bonds = l; groups = g; rings = z }
 
 abbrev pub groupsIn : ℕ → List ℕ → List Mod
 groupsIn n xs = map groupIn (take n xs)
@@ -155,7 +169,57 @@ pub record Grouped (s ys : List ℕ) (n : ℕ) : Type 0 where
   pub few : n ≤ maxGroups
   pub stored : n ≤ length ys
   pub follows : Follows s
-  pub says : (p : ChainPrefix) (w : ℕ) (l : List DbPos) → length l ≤ maxBonds → segments s (bonded p w l) ≡ Read (grouped p w l (groupsIn n ys))
+  pub says : (p : ChainPrefix) (w : ℕ) (l : List DbPos) (z : List Ring) → length l ≤ maxBonds → length z ≤ maxRings → segments s (laden p w l [] z) ≡ Read (laden p w l (groupsIn n ys) z)
+
+-- ---- a ring in brackets, `[8-12cy5]`
+
+-- its size, and the `]`
+pub record Sized (start end carbon : ℕ) (t : List ℕ) (r : Item) : Type 0 where
+  pub size : List ℕ
+  pub span : ℕ
+  pub spans : Numeral size span
+  pub room : r .next ≤ length t
+  pub split : t ≡ size ++ 93 ∷ drop (r .next) t
+  pub closes : ringOf start end span carbon ≡ Cycle (ringIn (r .code))
+
+-- its last carbon and `cy` before those
+pub record Spanned (start carbon : ℕ) (t : List ℕ) (r : Item) : Type 0 where
+  pub last : List ℕ
+  pub end : ℕ
+  pub ends : Numeral last end
+  pub size : List ℕ
+  pub span : ℕ
+  pub spans : Numeral size span
+  pub room : r .next ≤ length t
+  pub split : t ≡ last ++ 99 ∷ 121 ∷ (size ++ 93 ∷ drop (r .next) t)
+  pub closes : ringOf start end span carbon ≡ Cycle (ringIn (r .code))
+
+-- its first carbon and `-` before those
+pub record Enclosed (carbon : ℕ) (t : List ℕ) (r : Item) : Type 0 where
+  pub first : List ℕ
+  pub start : ℕ
+  pub starts : Numeral first start
+  pub last : List ℕ
+  pub end : ℕ
+  pub ends : Numeral last end
+  pub size : List ℕ
+  pub span : ℕ
+  pub spans : Numeral size span
+  pub room : r .next ≤ length t
+  pub split : t ≡ first ++ 45 ∷ (last ++ 99 ∷ 121 ∷ (size ++ 93 ∷ drop (r .next) t))
+  pub closes : ringOf start end span carbon ≡ Cycle (ringIn (r .code))
+
+-- the rings of an array
+abbrev pub ringsIn : ℕ → List ℕ → List Ring
+ringsIn n xs = map ringIn (take n xs)
+
+-- the ring that segments start with, or none, and what is left where more or nothing may follow
+pub record RingFirst (w : ℕ) (v zs : List ℕ) (r : Listed) : Type 0 where
+  pub room : r .rest ≤ length v
+  pub few : r .count ≤ maxRings
+  pub stored : r .count ≤ length zs
+  pub follows : Follows (drop (r .rest) v) → Follows v
+  pub says : Follows (drop (r .rest) v) → (p : ChainPrefix) (l : List DbPos) → length l ≤ maxBonds → segments v (bonded p w l) ≡ segments (drop (r .rest) v) (laden p w l [] (ringsIn (r .count) zs))
 
 -- ---- the start of the token
 
@@ -170,24 +234,28 @@ pub record Lists (u ys : List ℕ) (r : Listed) : Type 0 where
       → afterCount declared u (noFeatures p w w false) ≡ restOf (missingOf w (bondsIn (r .count) ys) declared) (drop (r .rest) u) (bonded p w (bondsIn (r .count) ys))
 
 -- what is left of a token of at most 255 bytes
-abbrev pub leftOf : Usual → List ℕ → List ℕ → List ℕ → Outcome
-leftOf r s ys hs = restOf (missingOf (r .carbon) (bondsIn (r .count) ys) (r .declared)) (drop (r .rest) s) (grouped (r .prefix) (r .carbon) (bondsIn (r .count) ys) (groupsIn (r .groups) hs))
+abbrev pub leftOf : Usual → List ℕ → List ℕ → List ℕ → List ℕ → Outcome
+leftOf r s ys hs zs =
+    restOf (missingOf (r .carbon) (bondsIn (r .count) ys) (r .declared)) (drop (r .rest) s) (laden (r .prefix) (r .carbon) (bondsIn (r .count) ys) (groupsIn (r .groups) hs) (ringsIn (r .rings) zs))
 
-pub record Starts (s ys hs : List ℕ) (r : Usual) : Type 0 where
+pub record Starts (s ys hs zs : List ℕ) (r : Usual) : Type 0 where
   pub room : r .rest ≤ length s
   pub few : r .carbon ≤ maxCarbons
   pub listed : r .count ≤ maxBonds
   pub stored : r .count ≤ length ys
   pub grown : r .groups ≤ maxGroups
   pub kept : r .groups ≤ length hs
-  pub says : tokenOf s ≡ leftOf r s ys hs
+  pub closed : r .rings ≤ maxRings
+  pub held : r .rings ≤ length zs
+  pub says : tokenOf s ≡ leftOf r s ys hs zs
 
 -- ---- the token
 
 -- r is what is judged of a chain of which all is read
-pub record Plain (p : ChainPrefix) (w : ℕ) (m : Missing) (n k : ℕ) (r : ReadToken) : Type 0 where
-  pub tells : (bs gs rs : List ℕ) → n ≤ maxBonds → n ≤ length bs → k ≤ maxGroups → k ≤ length gs → Tells r bs gs rs (finished m (grouped p w (bondsIn n bs) (groupsIn k gs)))
+pub record Plain (p : ChainPrefix) (w : ℕ) (m : Missing) (n k j : ℕ) (r : ReadToken) : Type 0 where
+  pub tells : (bs gs rs : List ℕ) → n ≤ maxBonds → n ≤ length bs → k ≤ maxGroups → k ≤ length gs → j ≤ maxRings → j ≤ length rs
+      → Tells r bs gs rs (finished m (laden p w (bondsIn n bs) (groupsIn k gs) (ringsIn j rs)))
 
-pub record PlainIn (p : ChainPrefix) (w declared n k : ℕ) (bs : List ℕ) (r : ReadToken) : Type 0 where
-  pub tells : (gs rs : List ℕ) → w ≤ maxCarbons → n ≤ maxBonds → n ≤ length bs → k ≤ maxGroups → k ≤ length gs
-      → Tells r bs gs rs (finished (missingOf w (bondsIn n bs) declared) (grouped p w (bondsIn n bs) (groupsIn k gs)))
+pub record PlainIn (p : ChainPrefix) (w declared n k j : ℕ) (bs : List ℕ) (r : ReadToken) : Type 0 where
+  pub tells : (gs rs : List ℕ) → w ≤ maxCarbons → n ≤ maxBonds → n ≤ length bs → k ≤ maxGroups → k ≤ length gs → j ≤ maxRings → j ≤ length rs
+      → Tells r bs gs rs (finished (missingOf w (bondsIn n bs) declared) (laden p w (bondsIn n bs) (groupsIn k gs) (ringsIn j rs)))

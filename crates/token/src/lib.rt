@@ -2,6 +2,7 @@
 // and what is counted of them goes by value. Every byte string of every length has an answer, and it is the one that specs/Token.antt defines;
 // what is read holds the chain.
 use features::Feature;
+use features::Segment;
 use opening::Branch;
 use parsed::Counted;
 use parsed::Counts;
@@ -27,7 +28,7 @@ ghost use Rattle.parsed.specs.Parsed.{Stands, Collects, gather};
 ghost use Rattle.scan.specs.Number.{isDigit};
 ghost use Rattle.token.specs.Token.{printable, allPrintable, maxBytes, missingOf, finished, restOf, countedList, listedOf, afterCount, bondsOf, namedChain, trimmedOf, tokenOf};
 ghost use Rattle.token.specs.Lent.{MissingIs, Bare, Finishes, listedAs, Ends, EndsBegun, Tells, noToken, tokenIn};
-ghost use Rattle.token.specs.Short.{HeadAt, Headed, bondsIn, SpotOf, Spotted, Listing, Lists, Follows, isPlain, PlainRun, Leads, Itemed, grouped, groupsIn, Grouped, Starts, Plain, PlainIn};
+ghost use Rattle.token.specs.Short.{HeadAt, Headed, bondsIn, SpotOf, Spotted, Listing, Lists, Follows, isPlain, PlainRun, Leads, Itemed, laden, groupsIn, Grouped, Sized, Spanned, Enclosed, ringsIn, RingFirst, Starts, Plain, PlainIn};
 
 // The longest token.
 const MAX_BYTES: usize = 255;
@@ -497,7 +498,7 @@ fn read_spot(t: &[u8]) -> Spot
     lettered(first * 10 + one, t[2], 3)
 }
 
-// How many double bonds a list gave, and where the rest starts.
+// How many double bonds a list gave, or rings, and where the rest starts.
 pub struct Listed {
     pub count: usize,
     pub rest: usize,
@@ -614,7 +615,7 @@ fn plain_run(s: &[u8]) -> usize
     i
 }
 
-// A position before an abbreviation, and how many digits it has.
+// A position before an abbreviation, or a number of a ring, and how many digits it has.
 pub struct Lead {
     pub pos: u32,
     pub length: usize,
@@ -644,7 +645,7 @@ fn read_lead(t: &[u8]) -> Lead
     }
 }
 
-// A group of a segment, as a number of the crate `codes`, and how many bytes it has (0: there is none, or it is written otherwise).
+// A group or a ring of a segment, as a number of the crate `codes`, and how many bytes it has (0: there is none, or it is written otherwise).
 pub struct Item {
     pub code: u64,
     pub next: usize,
@@ -725,6 +726,109 @@ fn read_groups(s: &[u8], groups: &mut [u64]) -> usize
     0
 }
 
+// The size of a ring and the `]` behind it.
+fn read_size(t: &[u8], start: u32, end: u32, carbon: u16) -> Item
+    ensures { λ r. ⌜ ((r .next ≡ 0 → ⊥) → Sized start end carbon (now (t .entry)) r) ⌝ }
+{
+    let size = read_lead(t);
+    let n = size.length;
+    if n == 0 {
+        return no_item();
+    }
+    if n == t.len() {
+        return no_item();
+    }
+    if t[n] != b']' {
+        return no_item();
+    }
+    let ring = features::ring_of(start as u64, end as u64, size.pos as u64, carbon);
+    let Segment::Cycle(cycle) = ring else {
+        return no_item();
+    };
+    Item {
+        code: codes::ring_code(cycle),
+        next: n + 1,
+    }
+}
+
+// The last carbon of a ring, `cy` and what follows it.
+fn read_span(t: &[u8], start: u32, carbon: u16) -> Item
+    ensures { λ r. ⌜ ((r .next ≡ 0 → ⊥) → Spanned start carbon (now (t .entry)) r) ⌝ }
+{
+    let end = read_lead(t);
+    let n = end.length;
+    if n == 0 {
+        return no_item();
+    }
+    if t.len() < n + 2 {
+        return no_item();
+    }
+    if t[n] != b'c' {
+        return no_item();
+    }
+    if t[n + 1] != b'y' {
+        return no_item();
+    }
+    let sized = read_size(&t[n + 2..], start, end.pos, carbon);
+    if sized.next == 0 {
+        return no_item();
+    }
+    Item {
+        code: sized.code,
+        next: n + 2 + sized.next,
+    }
+}
+
+// The first carbon of a ring, `-` and what follows it.
+fn read_bracket(t: &[u8], carbon: u16) -> Item
+    ensures { λ r. ⌜ ((r .next ≡ 0 → ⊥) → Enclosed carbon (now (t .entry)) r) ⌝ }
+{
+    let start = read_lead(t);
+    let n = start.length;
+    if n == 0 {
+        return no_item();
+    }
+    if n == t.len() {
+        return no_item();
+    }
+    if t[n] != b'-' {
+        return no_item();
+    }
+    let span = read_span(&t[n + 1..], start.pos, carbon);
+    if span.next == 0 {
+        return no_item();
+    }
+    Item {
+        code: span.code,
+        next: n + 1 + span.next,
+    }
+}
+
+// The ring in brackets that the first segment is, or none.
+fn first_ring(v: &[u8], carbon: u16, rings: &mut [u64]) -> Listed
+    requires { ⌜ maxRings ≤ length (now rings) ⌝ }
+    ensures { λ r. ⌜ RingFirst carbon (now (v .entry)) (now (rings .exit)) r ⌝ }
+{
+    if v.len() < 2 {
+        return not_listed();
+    }
+    if v[0] != b';' {
+        return not_listed();
+    }
+    if v[1] != b'[' {
+        return not_listed();
+    }
+    let ring = read_bracket(&v[2..], carbon);
+    if ring.next == 0 {
+        return not_listed();
+    }
+    rings[0] = ring.code;
+    Listed {
+        count: 1,
+        rest: ring.next + 2,
+    }
+}
+
 // A token that is written as nearly all are, up to its segments; where those start (0: it is written otherwise).
 pub struct Usual {
     pub prefix: ChainPrefix,
@@ -732,6 +836,7 @@ pub struct Usual {
     pub declared: u64,
     pub count: usize,
     pub groups: usize,
+    pub rings: usize,
     pub rest: usize,
 }
 
@@ -744,16 +849,18 @@ fn not_usual() -> Usual
         declared: 0,
         count: 0,
         groups: 0,
+        rings: 0,
         rest: 0,
     }
 }
 
-// The head, the list and segments of groups. What was looked at here needs no look at its bytes and spaces before.
-fn read_usual(s: &[u8], bonds: &mut [u64], groups: &mut [u64]) -> Usual
+// The head, the list, a ring and segments of groups. What was looked at here needs no look at its bytes and spaces before.
+fn read_usual(s: &[u8], bonds: &mut [u64], groups: &mut [u64], rings: &mut [u64]) -> Usual
     requires { ⌜ length (now s) ≤ maxBytes ⌝ }
     requires { ⌜ maxBonds ≤ length (now bonds) ⌝ }
     requires { ⌜ maxGroups ≤ length (now groups) ⌝ }
-    ensures { λ r. ⌜ ((r .rest ≡ 0 → ⊥) → Starts (now (s .entry)) (now (bonds .exit)) (now (groups .exit)) r) ⌝ }
+    requires { ⌜ maxRings ≤ length (now rings) ⌝ }
+    ensures { λ r. ⌜ ((r .rest ≡ 0 → ⊥) → Starts (now (s .entry)) (now (bonds .exit)) (now (groups .exit)) (now (rings .exit)) r) ⌝ }
 {
     let head = read_head(s);
     let from = head.rest;
@@ -765,7 +872,21 @@ fn read_usual(s: &[u8], bonds: &mut [u64], groups: &mut [u64]) -> Usual
     let n = listed.rest;
     let v = &u[n..];
     let prefix = head.prefix;
-    let k = read_groups(v, groups);
+    if v.len() == 0 {
+        return Usual {
+            prefix,
+            carbon: head.carbon,
+            declared: head.declared,
+            count: listed.count,
+            groups: 0,
+            rings: 0,
+            rest: s.len(),
+        };
+    }
+    let ring = first_ring(v, head.carbon, rings);
+    let m = ring.rest;
+    let x = &v[m..];
+    let k = read_groups(x, groups);
     if k != 0 {
         return Usual {
             prefix,
@@ -773,10 +894,11 @@ fn read_usual(s: &[u8], bonds: &mut [u64], groups: &mut [u64]) -> Usual
             declared: head.declared,
             count: listed.count,
             groups: k,
+            rings: ring.count,
             rest: s.len(),
         };
     }
-    if !may_follow(v) {
+    if !may_follow(x) {
         return not_usual();
     }
     Usual {
@@ -785,19 +907,21 @@ fn read_usual(s: &[u8], bonds: &mut [u64], groups: &mut [u64]) -> Usual
         declared: head.declared,
         count: listed.count,
         groups: 0,
-        rest: from + n,
+        rings: ring.count,
+        rest: from + n + m,
     }
 }
 
-// A chain of which all is read: its double bonds and groups are so many.
+// A chain of which all is read: its double bonds, groups and rings are so many.
 fn plain_chain(
     prefix: ChainPrefix,
     carbon: u16,
     missing: Missing,
     count: usize,
     groups: usize,
+    rings: usize,
 ) -> ReadToken
-    ensures { λ r. ⌜ Plain prefix carbon missing count groups r ⌝ }
+    ensures { λ r. ⌜ Plain prefix carbon missing count groups rings r ⌝ }
 {
     let Missing::Seated(n) = missing else {
         return ReadToken::empty(record::UNREADABLE);
@@ -812,7 +936,7 @@ fn plain_chain(
         counts: Counts {
             bonds: count,
             groups,
-            rings: 0,
+            rings,
             oxygens: 0,
         },
     }
@@ -826,14 +950,15 @@ fn end_plain(
     bonds: &[u64],
     count: usize,
     groups: usize,
+    rings: usize,
 ) -> ReadToken
-    ensures { λ r. ⌜ PlainIn prefix carbon declared count groups (now (bonds .entry)) r ⌝ }
+    ensures { λ r. ⌜ PlainIn prefix carbon declared count groups rings (now (bonds .entry)) r ⌝ }
 {
     if declared == count as u64 {
-        return plain_chain(prefix, carbon, Missing::Seated(0), count, groups);
+        return plain_chain(prefix, carbon, Missing::Seated(0), count, groups, rings);
     }
     let missing = missing_bonds(carbon, bonds, count, declared);
-    plain_chain(prefix, carbon, missing, count, groups)
+    plain_chain(prefix, carbon, missing, count, groups, rings)
 }
 
 // A chain with segments.
@@ -847,10 +972,11 @@ fn end_segments(
     requires { ⌜ usual .carbon ≤ maxCarbons ⌝ }
     requires { ⌜ usual .count ≤ maxBonds ⌝ }
     requires { ⌜ usual .groups ≤ maxGroups ⌝ }
+    requires { ⌜ usual .rings ≤ maxRings ⌝ }
     requires { ⌜ maxBonds ≤ length (now bonds) ⌝ }
     requires { ⌜ maxGroups ≤ length (now groups) ⌝ }
     requires { ⌜ maxRings ≤ length (now rings) ⌝ }
-    ensures { λ r. ⌜ Tells r (now (bonds .exit)) (now (groups .exit)) (now (rings .exit)) (restOf (missingOf (usual .carbon) (bondsIn (usual .count) (now (bonds .entry))) (usual .declared)) (now (s .entry)) (grouped (usual .prefix) (usual .carbon) (bondsIn (usual .count) (now (bonds .entry))) (groupsIn (usual .groups) (now (groups .entry))))) ⌝ }
+    ensures { λ r. ⌜ Tells r (now (bonds .exit)) (now (groups .exit)) (now (rings .exit)) (restOf (missingOf (usual .carbon) (bondsIn (usual .count) (now (bonds .entry))) (usual .declared)) (now (s .entry)) (laden (usual .prefix) (usual .carbon) (bondsIn (usual .count) (now (bonds .entry))) (groupsIn (usual .groups) (now (groups .entry))) (ringsIn (usual .rings) (now (rings .entry))))) ⌝ }
 {
     let prefix = usual.prefix;
     let carbon = usual.carbon;
@@ -858,7 +984,7 @@ fn end_segments(
     let counts = Counts {
         bonds: usual.count,
         groups: usual.groups,
-        rings: 0,
+        rings: usual.rings,
         oxygens: 0,
     };
     let ended = parse_rest(missing, s, carbon, bonds, groups, rings, counts);
@@ -884,7 +1010,7 @@ fn read_token(s: &[u8], bonds: &mut [u64], groups: &mut [u64], rings: &mut [u64]
     if MAX_BYTES < s.len() {
         return ReadToken::empty(record::OVER_LIMIT);
     }
-    let usual = read_usual(s, bonds, groups);
+    let usual = read_usual(s, bonds, groups, rings);
     let from = usual.rest;
     if from == 0 {
         return read_any(s, bonds, groups, rings);
@@ -898,6 +1024,7 @@ fn read_token(s: &[u8], bonds: &mut [u64], groups: &mut [u64], rings: &mut [u64]
             bonds,
             usual.count,
             usual.groups,
+            usual.rings,
         );
     }
     end_segments(usual, &s[from..], bonds, groups, rings)

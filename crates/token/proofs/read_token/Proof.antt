@@ -37,29 +37,32 @@ same-length-4 c = search needs
 same-length-5 : tie.Need-same-length-5
 same-length-5 c = search needs
 
+same-length-6 : tie.Need-same-length-6
+same-length-6 c = search needs
+
 returns-3 : tie.Need-returns-3
 returns-3 c = search token-plain
 
 sub-end-segments : tie.Need-sub-end-segments
-sub-end-segments c = search (needs, c .before .before .before .before .before .before .read-usual .ensures (c .before .if2 .left) .room)
+sub-end-segments c = search (needs, c .before .before .before .before .before .before .before .before .read-usual .ensures (c .before .if2 .left) .room)
 
 part-end-segments-start : tie.Need-part-end-segments-start
-part-end-segments-start c = search (needs, c .before .before .before .before .before .before .read-usual .ensures (c .before .if2 .left) .room)
+part-end-segments-start c = search (needs, c .before .before .before .before .before .before .before .before .read-usual .ensures (c .before .if2 .left) .room)
 
 part-end-segments-end : tie.Need-part-end-segments-end
 part-end-segments-end c = search needs
 
 end-segments-requires : tie.Need-end-segments-requires
-end-segments-requires c κs = let k = c .before .before .before .before .before .before .before .before .before .before .read-usual .ensures (c .before .before .before .before .before .if2 .left) in search (needs, k .few, k .listed, k .grown)
-
-same-length-6 : tie.Need-same-length-6
-same-length-6 c = search needs
+end-segments-requires c κs = let k = c .before .before .before .before .before .before .before .before .before .before .before .before .read-usual .ensures (c .before .before .before .before .before .if2 .left) in search (needs, k .few, k .listed, k .grown, k .closed)
 
 same-length-7 : tie.Need-same-length-7
 same-length-7 c = search needs
 
 same-length-8 : tie.Need-same-length-8
 same-length-8 c = search needs
+
+same-length-9 : tie.Need-same-length-9
+same-length-9 c = search needs
 
 returns-4 : tie.Need-returns-4
 returns-4 c = search token-segments
@@ -79,12 +82,13 @@ read-token-spec =
     end-plain-requires
     same-length-4
     same-length-5
+    same-length-6
     returns-3
     sub-end-segments
     part-end-segments-start
     part-end-segments-end
     end-segments-requires
-    same-length-6
     same-length-7
     same-length-8
+    same-length-9
     returns-4)

@@ -1,4 +1,4 @@
-use Rattle.token.proofs.Short.{head-room, usual-groups, usual-read}
+use Rattle.token.proofs.Short.{head-room, usual-bare, usual-groups, usual-read}
 use borrow.Author.Needs.{needs}
 use Rattle.token.proofs.read_usual.Statement.{statement}
 use Rattle.token.proofs.read_usual.Tie as tie
@@ -33,23 +33,29 @@ part-v-start c = search needs
 part-v-end : tie.Need-part-v-end
 part-v-end c = search needs
 
-read-groups-requires : tie.Need-read-groups-requires
-read-groups-requires c κs = search needs
-
 same-length : tie.Need-same-length
 same-length c = search needs
 
+returns-2 : tie.Need-returns-2
+returns-2 c n = search usual-bare
+
+first-ring-requires : tie.Need-first-ring-requires
+first-ring-requires c κs = search needs
+
+sub-x : tie.Need-sub-x
+sub-x c = search needs
+
+part-x-start : tie.Need-part-x-start
+part-x-start c = search needs
+
+part-x-end : tie.Need-part-x-end
+part-x-end c = search needs
+
+read-groups-requires : tie.Need-read-groups-requires
+read-groups-requires c κs = search needs
+
 same-length-2 : tie.Need-same-length-2
 same-length-2 c = search needs
-
-returns-2 : tie.Need-returns-2
-returns-2 c n = search usual-groups
-
-may-follow-requires : tie.Need-may-follow-requires
-may-follow-requires c κs = search needs
-
-not-usual-requires-2 : tie.Need-not-usual-requires-2
-not-usual-requires-2 c κs = search needs
 
 same-length-3 : tie.Need-same-length-3
 same-length-3 c = search needs
@@ -58,10 +64,13 @@ same-length-4 : tie.Need-same-length-4
 same-length-4 c = search needs
 
 returns-3 : tie.Need-returns-3
-returns-3 c n = absurd (n (c .not-usual2 .ensures))
+returns-3 c n = search usual-groups
 
-add-t14 : tie.Need-add-t14
-add-t14 c = search needs
+may-follow-requires : tie.Need-may-follow-requires
+may-follow-requires c κs = search needs
+
+not-usual-requires-2 : tie.Need-not-usual-requires-2
+not-usual-requires-2 c κs = search needs
 
 same-length-5 : tie.Need-same-length-5
 same-length-5 c = search needs
@@ -69,8 +78,29 @@ same-length-5 c = search needs
 same-length-6 : tie.Need-same-length-6
 same-length-6 c = search needs
 
+same-length-7 : tie.Need-same-length-7
+same-length-7 c = search needs
+
 returns-4 : tie.Need-returns-4
-returns-4 c n = search usual-read
+returns-4 c n = absurd (n (c .not-usual2 .ensures))
+
+add-t18 : tie.Need-add-t18
+add-t18 c = search needs
+
+add-t33 : tie.Need-add-t33
+add-t33 c = search needs
+
+same-length-8 : tie.Need-same-length-8
+same-length-8 c = search needs
+
+same-length-9 : tie.Need-same-length-9
+same-length-9 c = search needs
+
+same-length-10 : tie.Need-same-length-10
+same-length-10 c = search needs
+
+returns-5 : tie.Need-returns-5
+returns-5 c n = search usual-read
 
 pub read-usual-spec : {M : Type 1} → statement M
 read-usual-spec =
@@ -86,16 +116,26 @@ read-usual-spec =
     sub-v
     part-v-start
     part-v-end
-    read-groups-requires
     same-length
-    same-length-2
     returns-2
-    may-follow-requires
-    not-usual-requires-2
+    first-ring-requires
+    sub-x
+    part-x-start
+    part-x-end
+    read-groups-requires
+    same-length-2
     same-length-3
     same-length-4
     returns-3
-    add-t14
+    may-follow-requires
+    not-usual-requires-2
     same-length-5
     same-length-6
-    returns-4)
+    same-length-7
+    returns-4
+    add-t18
+    add-t33
+    same-length-8
+    same-length-9
+    same-length-10
+    returns-5)
