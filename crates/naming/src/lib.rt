@@ -19,19 +19,19 @@ fn bridge_of(size: u16) -> Bridge
     Bridge::Carbocycle
 }
 
-// What an abbreviation names: an alias ring before a group.
+// What an abbreviation names. No alias ring is a group as well, so the group, which nearly all name, is asked for first.
 pub fn feature_of(abbr: &[u8]) -> Feature
     ensures { λ r. ⌜ r ≡ featureOf (now (abbr .entry)) ⌝ }
 {
-    let alias = aliases::alias_ring_size(abbr);
-    if let RingSize::Carbons(size) = alias {
-        let bridge = bridge_of(size);
-        return Feature::Ring(bridge);
+    let group = abbreviations::substituent(abbr);
+    if let Found::At(row) = group {
+        return Feature::Group(row);
     }
-    let Found::At(row) = abbreviations::substituent(abbr) else {
+    let RingSize::Carbons(size) = aliases::alias_ring_size(abbr) else {
         return Feature::Other;
     };
-    Feature::Group(row)
+    let bridge = bridge_of(size);
+    Feature::Ring(bridge)
 }
 
 // What follows the `(` of (abbr)n.

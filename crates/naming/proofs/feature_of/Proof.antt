@@ -1,28 +1,26 @@
-use Rattle.features.proofs.Laws.{names-ring, names-nothing, names-group}
+use Rattle.naming.proofs.Laws.{feature-group}
+use Rattle.features.proofs.Laws.{names-ring, names-nothing}
 use borrow.Author.Needs.{needs}
 use Rattle.naming.proofs.feature_of.Statement.{statement}
 use Rattle.naming.proofs.feature_of.Tie as tie
 
-alias-ring-size-requires : tie.Need-alias-ring-size-requires
-alias-ring-size-requires c κs = search needs
+substituent-requires : tie.Need-substituent-requires
+substituent-requires c κs = search needs
 
-enum-known-alias : tie.Need-enum-known-alias
-enum-known-alias c = search needs
-
-bridge-of-requires : tie.Need-bridge-of-requires
-bridge-of-requires c κs = search needs
+enum-known-group : tie.Need-enum-known-group
+enum-known-group c = search needs
 
 returns : tie.Need-returns
-returns c = search names-ring
+returns c = search feature-group
 
 enum-told : tie.Need-enum-told
 enum-told c = search needs
 
-substituent-requires : tie.Need-substituent-requires
-substituent-requires c κs = search needs
+alias-ring-size-requires : tie.Need-alias-ring-size-requires
+alias-ring-size-requires c κs = search needs
 
-enum-known-row : tie.Need-enum-known-row
-enum-known-row c = search needs
+enum-known-size : tie.Need-enum-known-size
+enum-known-size c = search needs
 
 enum-told-2 : tie.Need-enum-told-2
 enum-told-2 c = search needs
@@ -30,20 +28,23 @@ enum-told-2 c = search needs
 returns-2 : tie.Need-returns-2
 returns-2 c = search names-nothing
 
+bridge-of-requires : tie.Need-bridge-of-requires
+bridge-of-requires c κs = search needs
+
 returns-3 : tie.Need-returns-3
-returns-3 c = search names-group
+returns-3 c = search names-ring
 
 pub feature-of-spec : {M : Type 1} → statement M
 feature-of-spec =
     tie.close
     (tie.spec
-    alias-ring-size-requires
-    enum-known-alias
-    bridge-of-requires
+    substituent-requires
+    enum-known-group
     returns
     enum-told
-    substituent-requires
-    enum-known-row
+    alias-ring-size-requires
+    enum-known-size
     enum-told-2
     returns-2
+    bridge-of-requires
     returns-3)
