@@ -1,33 +1,33 @@
 -- Laws of the atom counts: a branch, the groups of a carbon, a carbon, and the atoms of a stretch of carbons.
 -- Assumes nothing.
-use Prim.Native.Nat.{ℕ, zero, suc, _+_, _-_, _*_, _^_, _≤_, _<_}
+use Prim.Native.Nat.{ℕ, suc, _+_, _-_, _*_, _^_, _≤_, _<_}
+use native.Mathlib.Nat.{zero-add}
 use native.Mathlib.Numerals.{add-one}
 use native.Mathlib.Omega.{arith}
 use mathlib.Core.Path.{_≡_, refl, sym, ap, _∙_}
 use mathlib.Core.Bool.{Bool, true, false, cond, _||_}
-use mathlib.Core.List.{List, [], _∷_, _++_, map}
-use lib.Dec.{eqb, leb}
-use lib.ListN.{length, drop, getD, length-append, List·getD-map}
-use borrow.Author.Tests.{eq-eqb, ne-eqb, leb-true, leb-false}
+use mathlib.Core.List.{List, [], _∷_, _++_}
+use lib.Dec.{eqb}
+use lib.ListN.{length, getD}
+use borrow.Author.Tests.{eq-eqb, ne-eqb, eqb-true, eqb-false}
 use Rattle.emit.specs.Text.{Written}
-use Rattle.groups.specs.Groups.{Entry, entries, blank, entryAt}
-use Rattle.groups.proofs.Laws.{every, every-at}
+use Rattle.groups.specs.Groups.{entries, entryAt}
 use Rattle.record.specs.declared.Mod.{Mod}
 use Rattle.record.specs.declared.Ring.{Ring as Closed}
-use Rattle.reading.specs.Part.{Part, partOf}
+use Rattle.reading.specs.Part.{Part}
 use Rattle.reading.specs.Chain.{Carbon, partsEnd, bridgeEnd, carbonEnd, chainEnd, floatEnd}
 use Rattle.chain.specs.Lists.{only, valuesFrom}
-use Rattle.chain.specs.Drawing.{orNone, branchPart, branches}
-use Rattle.drawable.proofs.Parts.{groups-few, floats-few}
-use Rattle.drawable.specs.Drawn.{Drawn, groupsIn, groupsPart, floatsPart, Length, noGroup, groupsDrawn}
+use Rattle.chain.specs.Drawing.{branchPart, branches}
+use Rattle.drawable.proofs.Parts.{floats-few}
+use Rattle.drawable.specs.Drawn.{Drawn, floatsPart, groupsDrawn, ringsDrawn}
 use Rattle.fragment.specs.Text.{sitting, carbonylOf, carbonOf}
-use Rattle.carbons.specs.ByCarbon.{groupOn, ringOn, carbonylOn, busyAt, Busy}
-use Rattle.atoms.specs.Atoms.{Counts, bridgedAt, carbonSize, bareSize, starts, literalOf, indices, Numbered, LiteralNumbers}
+use Rattle.carbons.specs.ByCarbon.{groupOn, ringOn, carbonylOn, busyAt, RowAtoms, groupAtoms, loadAt, Busy}
+use Rattle.atoms.specs.Atoms.{Loaded, Counts, bridgedAt, carbonSize, bareSize, starts, literalOf, indices, LiteralNumbers}
 use Rattle.atoms.specs.Index.{indexFrom}
-use Rattle.carbons.specs.Tokens.{ChainTokens, TokensOf}
+use Rattle.carbons.specs.Tokens.{ChainTokens, tokens, TokensOf}
 use Rattle.carbons.proofs.TokenLaws.{length-values}
-use Rattle.fragment.proofs.RangeLaws.{or-left, or-right, no-groups, no-carbonyl, zero-false}
-use Rattle.carbons.proofs.Fronts.{next-of, none-left}
+use Rattle.fragment.proofs.RangeLaws.{or-left, or-right, no-groups, no-carbonyl}
+use Rattle.carbons.proofs.Loads.{not-busy}
 use Rattle.carbons.proofs.Left.{Left, left-all, left-less, left-none, left-length}
 use Rattle.fragment.proofs.TextLaws.{branch-size, sitting-past}
 
@@ -68,81 +68,30 @@ unfolding partsEnd
 parts-end-append n [] qs = refl
 parts-end-append n (p ∷ ps) qs = parts-end-append (n + p .size) ps qs
 
--- ---- a branch has at most five atoms, by one computed test over the table
-
-abbrev small : Entry → Bool
-small e = leb (e .atoms) 5
-
-table-small : every small entries ≡ true
-unfolding entries
-table-small = refl
-
-past : (l : List Entry) (i : ℕ) → length l ≤ i → getD l i blank ≡ blank
-past [] i h = refl
-past (e ∷ l) zero h = absurd (omega arith)
-past (e ∷ l) (suc i) h = past l i (omega arith)
-
-row-small : (row : ℕ) → entryAt row .atoms ≤ 5
-unfolding entryAt
-row-small row = go (leb (suc row) (length entries)) refl
-  where
-    go : (b : Bool) → leb (suc row) (length entries) ≡ b → getD entries row blank .atoms ≤ 5
-    go true e = leb-true (getD entries row blank .atoms) 5 (every-at small entries row blank table-small (leb-true (suc row) (length entries) e))
-    go false e = rw (past entries row (omega (arith, leb-false (suc row) (length entries) e))) (omega arith)
-
-abbrev atomsIn : Entry → ℕ
-atomsIn e = e .atoms
-
--- the atoms of each row, as the table has them
-pub branch-told : (l : List ℕ) (row n : ℕ) → map atomsIn entries ≡ l → n ≡ getD l row 0 → Counts 5 (branchPart row .size) n
-unfolding entryAt
-branch-told l row n t e =
-    let same : n ≡ entryAt row .atoms = e ∙ (rw (← t) (List·getD-map atomsIn entries row blank)) in
-    record { is = same ∙ sym (branch-size row); few = omega (arith, same, row-small row) }
-
-pub branch-past : (row : ℕ) → 17 ≤ row → Counts 5 (branchPart row .size) 0
-unfolding entryAt entries
-branch-past row h =
-    let none : entryAt row .atoms ≡ 0 = rw (past entries row h) in
-    record { is = sym (branch-size row ∙ none); few = omega arith }
-
 -- ---- the groups of a carbon
 
--- what is counted so far, with what is left
-pub record Sums (gs : List Mod) (k sum i : ℕ) : Type 0 where
-  pub is : partsEnd 0 (branches (sitting k gs)) ≡ partsEnd sum (branches (sitting k (drop i gs)))
-  pub few : sum ≤ 5 * i
-
-pub sums-none : (gs : List Mod) (k : ℕ) → Sums gs k 0 0
-sums-none gs k = record { is = refl; few = omega arith }
+pub branch-counted : (row n m : ℕ) → RowAtoms row m → n ≡ m → Counts 5 (branchPart row .size) n
+branch-counted row n m r e = record { is = e ∙ (r .is ∙ sym (branch-size row)); few = omega (arith, r .few) }
 
 sitting-first : (k : ℕ) (g : Mod) (gs : List Mod) → g .pos ≡ k → sitting k (g ∷ gs) ≡ g ∷ sitting k gs
 unfolding sitting only
 sitting-first k g gs e = rw (eq-eqb (g .pos) k e)
 
-module _ {room n sum : ℕ} {gs : List Mod} (k i : ℕ) (s : Length room gs n) (v : Sums gs k sum i) where
-  pub sums-here : (g : Mod) (m : ℕ) → i < n → g ≡ getD gs i noGroup → g .pos ≡ k → Counts 5 (branchPart (g .row) .size) m → Sums gs k (sum + m) (i + 1)
-  unfolding branches partsEnd
-  sums-here g m h e f c =
-      record {
-        is = v .is ∙ (ap (λ (us : List Mod). partsEnd sum (branches (sitting k us))) (next-of s noGroup g i e h) ∙ (rw (sitting-first k g (drop (i + 1) gs) f, c .is)));
-        few = omega (arith, v .few, c .few);
-      }
+pub parts-plus : (a : ℕ) (ps : List Part) → partsEnd a ps ≡ a + partsEnd 0 ps
+parts-plus a ps =
+    let z : a + 0 ≡ a = omega arith in
+    rw z at (parts-shift a 0 ps)
 
-  pub sums-past : (g : Mod) → i < n → g ≡ getD gs i noGroup → (g .pos ≡ k → ⊥) → Sums gs k sum (i + 1)
-  sums-past g h e f =
-      record {
-        is = v .is ∙ (ap (λ (us : List Mod). partsEnd sum (branches (sitting k us))) (next-of s noGroup g i e h) ∙ (rw (sitting-past k g (drop (i + 1) gs) f)));
-        few = omega (arith, v .few);
-      }
-
-  pub sums-end : room ≤ 18 → i ≤ n → n ≤ i → Counts 90 (partsEnd 0 (branches (sitting k gs))) sum
-  unfolding sitting only branches partsEnd
-  sums-end f g h =
-      record {
-        is = sym (v .is ∙ ap (λ (us : List Mod). partsEnd sum (branches (sitting k us))) (none-left s i h));
-        few = omega (arith, v .few, s .fits);
-      }
+groups-counted : (k : ℕ) (gs : List Mod) → partsEnd 0 (branches (sitting k gs)) ≡ groupAtoms gs k
+unfolding sitting only branches partsEnd groupAtoms
+groups-counted k [] = refl
+groups-counted k (g ∷ gs) = go (eqb (g .pos) k) refl (groups-counted k gs)
+  where
+    go : (b : Bool) → eqb (g .pos) k ≡ b → partsEnd 0 (branches (sitting k gs)) ≡ groupAtoms gs k
+        → partsEnd 0 (branches (sitting k (g ∷ gs))) ≡ cond b (entryAt (g .row) .atoms) 0 + groupAtoms gs k
+    go true e h =
+        rw (sitting-first k g gs (eqb-true (g .pos) k e)) (parts-plus (0 + branchPart (g .row) .size) (branches (sitting k gs)) ∙ omega (arith, h, branch-size (g .row)))
+    go false e h = rw (sitting-past k g gs (eqb-false (g .pos) k e)) (h ∙ sym (zero-add (groupAtoms gs k)))
 
 -- ---- a carbon
 
@@ -177,11 +126,6 @@ pub bare-counted : (b n : ℕ) → Counts 1 (bridgeEnd (bridgedAt b) 0) n → Co
 unfolding bareSize carbonEnd partsEnd
 bare-counted b n c = record { is = ap (λ (m : ℕ). 1 + m) (c .is) ∙ sym (bridge-shift (bridgedAt b) 1 0); few = omega (arith, c .few) }
 
-pub parts-plus : (a : ℕ) (ps : List Part) → partsEnd a ps ≡ a + partsEnd 0 ps
-parts-plus a ps =
-    let z : a + 0 ≡ a = omega arith in
-    rw z at (parts-shift a 0 ps)
-
 pub bridge-plus : (b : Bool) (a : ℕ) → bridgeEnd b a ≡ a + bridgeEnd b 0
 bridge-plus b a =
     let z : a + 0 ≡ a = omega arith in
@@ -192,14 +136,40 @@ carbon-plus n c =
     let z : n + 0 ≡ n = omega arith in
     rw z at (carbon-shift n 0 c)
 
-pub busy-counted : (acyl : Bool) (gs : List Mod) (b k n m o : ℕ) → Counts 1 (partsEnd 0 (carbonylOf acyl k)) n → Counts 90 (partsEnd 0 (branches (sitting k gs))) m
-    → Counts 1 (bridgeEnd (bridgedAt b) 0) o → Counts 93 (carbonSize acyl gs b k) (1 + n + m + o)
+carbonyl-counted : (acyl : Bool) (k : ℕ) → partsEnd 0 (carbonylOf acyl k) ≡ cond (carbonylOn acyl k) 1 0
+unfolding carbonylOn
+carbonyl-counted false k = sym (carbonyl-not false k refl .is)
+carbonyl-counted true k = go (eqb 1 k) refl
+  where
+    go : (b : Bool) → eqb 1 k ≡ b → partsEnd 0 (carbonylOf true k) ≡ cond b 1 0
+    go true e = sym (carbonyl-one true k refl (sym (eqb-true 1 k e)) .is)
+    go false e = sym (carbonyl-zero true k refl (λ f. eqb-false 1 k e (sym f)) .is)
+
+carbon-size : (acyl : Bool) (gs : List Mod) (b k : ℕ)
+    → carbonSize acyl gs b k ≡ 1 + partsEnd 0 (carbonylOf acyl k) + partsEnd 0 (branches (sitting k gs)) + bridgeEnd (bridgedAt b) 0
 unfolding carbonSize carbonEnd
-busy-counted acyl gs b k n m o u v w =
-    record {
-      is = sym (bridge-plus (bridgedAt b) (partsEnd 1 (carbonylOf acyl k ++ branches (sitting k gs))) ∙ (rw (parts-end-append 1 (carbonylOf acyl k) (branches (sitting k gs)), parts-plus (partsEnd 1 (carbonylOf acyl k)) (branches (sitting k gs)), parts-plus 1 (carbonylOf acyl k), ← u .is, ← v .is, ← w .is)));
-      few = omega (arith, u .few, v .few, w .few);
-    }
+carbon-size acyl gs b k =
+    bridge-plus (bridgedAt b) (partsEnd 1 (carbonylOf acyl k ++ branches (sitting k gs)))
+    ∙ (rw (parts-end-append 1 (carbonylOf acyl k) (branches (sitting k gs)), parts-plus (partsEnd 1 (carbonylOf acyl k)) (branches (sitting k gs)), parts-plus 1 (carbonylOf acyl k)))
+
+pub busy-counted : (x : Drawn) (load b k n m : ℕ) → Loaded x k load → n ≡ load → Counts 1 (bridgeEnd (bridgedAt b) 0) m
+    → Counts 93 (carbonSize (x .acyl) (groupsDrawn x) b k) (n + m)
+unfolding loadAt
+busy-counted x load b k n m u e w = go (busyAt (x .acyl) (groupsDrawn x) (ringsDrawn x) k) (u .is)
+  where
+    go : (t : Bool) → load ≡ cond t (suc (cond (carbonylOn (x .acyl) k) 1 0 + groupAtoms (groupsDrawn x) k)) 0 → Counts 93 (carbonSize (x .acyl) (groupsDrawn x) b k) (n + m)
+    go true f =
+        record {
+          is = omega (arith, w .is, carbon-size (x .acyl) (groupsDrawn x) b k, carbonyl-counted (x .acyl) k, groups-counted k (groupsDrawn x));
+          few = omega (arith, u .few, w .few);
+        }
+    go false f = absurd (u .some f)
+
+pub loaded : {x : Drawn} {f l : ℕ} {bs us : List ℕ} (k : ℕ) → TokensOf x (tokens f l bs us) → k ≤ l → (getD us k 0 ≡ 0 → ⊥) → Loaded x k (getD us k 0)
+loaded {l = l} k w h z =
+    let room : l ≤ 255 = w .room in
+    let g : k < 256 = omega arith in
+    record { is = w .busy .at k g; some = z; few = w .busy .few k g }
 
 -- ---- a stretch of carbons
 
@@ -209,13 +179,6 @@ literal-few x t w =
     omega (arith, w .first, w .room, length-values (carbonOf (x .acyl) (t .bonds) (groupsDrawn x)) (t .first) (suc (t .last) - t .first))
 
 -- groups that stand in the part of a chain
-pub groups-short : {gs : List ℕ} (l : List ℕ) → gs ≡ groupsPart l → length gs ≤ 18
-groups-short l e = rw e (groups-few l)
-
-pub counts-there : (acyl : Bool) (n b k m : ℕ) (gs l : List ℕ) → gs ≡ groupsPart l → Counts 93 (carbonSize acyl (groupsIn n gs) b k) m
-    → Counts 93 (carbonSize acyl (groupsIn n (groupsPart l)) b k) m
-counts-there acyl n b k m gs l e c = rw e at c
-
 pub floats-short : {gs : List ℕ} (l : List ℕ) → gs ≡ floatsPart l → length gs ≤ 18
 floats-short l e = rw e (floats-few l)
 
@@ -269,7 +232,7 @@ module _ {first at : ℕ} {cs : List Carbon} {xs ys : List ℕ} {p count next : 
       → Numbering first cs xs at zs q (count + 1) (next + m) (valuesFrom (carbonOf acyl ks gs) (k + 1) (suc last - (k + 1)))
   unfolding bareSize carbonOf carbonEnd
   number-bare i m g b o h e w z c =
-      let y : carbonylOf acyl k ++ branches (sitting k gs) ≡ [] = empty-parts acyl gs rs k (zero-false (busyAt acyl gs rs k) (sym (b .at k (omega arith)) ∙ z)) in
+      let y : carbonylOf acyl k ++ branches (sitting k gs) ≡ [] = empty-parts acyl gs rs k (not-busy k b (omega arith) z) in
       numbering-one (carbonOf acyl ks gs k) m g (here h) (rw e at w) (rw y (c .is)) (c .few)
 
   pub numbers-end : last < k → Numbering first cs xs at ys p count next []

@@ -20,7 +20,8 @@ use Rattle.chain.specs.Refusals.{isEpoxide}
 use Rattle.chain.specs.Bonds.{empty, up, plainBond, plainBonds, geometryAt, openMark, opensDown, closeByte, closeMark, markBond, markFrom}
 use Rattle.carbons.specs.ByCarbon.{groupOn, ringOn, carbonylOn, busyAt, BondsBy, Busy}
 use Rattle.carbons.proofs.TokenLaws.{values-at}
-use Rattle.fragment.proofs.RangeLaws.{or-left, or-right, zero-false}
+use Rattle.fragment.proofs.RangeLaws.{or-left, or-right}
+use Rattle.carbons.proofs.Loads.{not-busy}
 
 -- ---- no mark is a bridge
 
@@ -103,7 +104,7 @@ ring-bridge {rs} {bs} {c} {ks} k b h g free e =
 pub no-bridge : {acyl : Bool} {gs : List Mod} {rs : List Closed} {bs : List DbPos} {c : ℕ} {ks us : List ℕ} (k : ℕ) → BondsBy bs rs c ks → Busy acyl gs rs us
     → c ≤ 255 → k ≤ c → getD us k 0 ≡ 0 → getD ks k 0 ≡ 79 → ⊥
 no-bridge {acyl} {gs} {rs} k b u h g z e =
-    ring-bridge k b h g (ring-free acyl gs rs k (zero-false (busyAt acyl gs rs k) (sym (u .at k (omega arith)) ∙ z))) e
+    ring-bridge k b h g (ring-free acyl gs rs k (not-busy k u (omega arith) z)) e
 
 -- no ring at all
 pub bare-bridge : {bs : List DbPos} {c : ℕ} {ks : List ℕ} (k : ℕ) → BondsBy bs [] c ks → c ≤ 255 → k ≤ c → getD ks k 0 ≡ 79 → ⊥

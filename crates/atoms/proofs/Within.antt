@@ -15,11 +15,11 @@ use Rattle.reading.specs.Chain.{Carbon, chainEnd}
 use Rattle.chain.specs.Lists.{valuesFrom}
 use Rattle.drawable.specs.Drawn.{Drawn, groupsDrawn}
 use Rattle.fragment.specs.Text.{carbonOf}
-use Rattle.carbons.specs.ByCarbon.{busyAt, BondsBy, Busy}
+use Rattle.carbons.specs.ByCarbon.{BondsBy, Busy}
 use Rattle.carbons.specs.Tokens.{ChainTokens, TokensOf}
 use Rattle.carbons.proofs.Left.{left-less}
 use Rattle.carbons.proofs.TokenLaws.{length-values}
-use Rattle.fragment.proofs.RangeLaws.{zero-false}
+use Rattle.carbons.proofs.Loads.{not-busy}
 use Rattle.atoms.specs.Atoms.{Counts, carbonSize, starts, literalOf, indices, ups, IdleFour, LiteralNumbers}
 use Rattle.atoms.specs.Index.{indexFrom}
 use Rattle.atoms.proofs.Runs.{Bares, bares-starts, bares-end, starts-append, end-append, indices-small, one-written}
@@ -98,7 +98,7 @@ module _ {first at : ℕ} {cs : List Carbon} {xs ys : List ℕ} {p next : ℕ} (
   is-bare : BondsBy bs rs c ks → Busy acyl gs rs us → c ≤ 255 → (j : ℕ) → j ≤ c → getD us j 0 ≡ 0 → (carbonOf acyl ks gs j .parts ≡ []) × (carbonOf acyl ks gs j .bridge ≡ false)
   unfolding carbonOf
   is-bare b u h j l z =
-      (empty-parts acyl gs rs j (zero-false (busyAt acyl gs rs j) (sym (u .at j (omega arith)) ∙ z)), ne-eqb (getD ks j 0) 79 (no-bridge j b u h l z))
+      (empty-parts acyl gs rs j (not-busy j u (omega arith) z), ne-eqb (getD ks j 0) 79 (no-bridge j b u h l z))
 
   pub within-four : {zs : List ℕ} {q : ℕ} → p + 4 < 2 ^ 64 → BondsBy bs rs c ks → Busy acyl gs rs us → c ≤ 255 → last ≤ c → IdleFour us k last → Written ys p (ups next 4) zs q
       → Within first cs xs at zs q (next + 4) (valuesFrom (carbonOf acyl ks gs) (k + 4) (suc last - (k + 4)))

@@ -15,7 +15,8 @@ use Rattle.chain.specs.Features.{drawnCount}
 use Rattle.chain.specs.Bonds.{bridged}
 use Rattle.chain.specs.Drawing.{branches, carbonAtoms, flexibleAtom, atomsEnd}
 use Rattle.chain.specs.Drawing as draw
-use Rattle.drawable.specs.Drawn.{Drawn, groupsDrawn, Draws}
+use Rattle.drawable.specs.Drawn.{Drawn, groupsDrawn, ringsDrawn, Draws}
+use Rattle.carbons.specs.ByCarbon.{loadAt}
 use Rattle.carbons.specs.Tokens.{ChainTokens}
 use Rattle.atoms.specs.declared.Numbers.{Numbers}
 use Rattle.atoms.specs.declared.ChainAtoms.{ChainAtoms}
@@ -34,6 +35,12 @@ bridgedAt b = eqb b bridged
 -- the atoms of C k with what it carries and its bridge, the bond after it being b
 unfoldable pub carbonSize : Bool → List Mod → ℕ → ℕ → ℕ
 carbonSize acyl gs b k = carbonEnd 0 (record { before = 0; parts = carbonylOf acyl k ++ branches (sitting k gs); bridge = bridgedAt b })
+
+-- n is the number of atoms of C k of x with what it carries beside a bridge, and it carries something
+pub record Loaded (x : Drawn) (k n : ℕ) : Type 0 where
+  pub is : n ≡ loadAt (x .acyl) (groupsDrawn x) (ringsDrawn x) k
+  pub some : n ≡ 0 → ⊥
+  pub few : n ≤ 92
 
 unfoldable pub bareSize : ℕ → ℕ
 bareSize b = carbonEnd 0 (record { before = 0; parts = []; bridge = bridgedAt b })

@@ -1,5 +1,5 @@
 // The atoms of a chain: the index of each carbon, written into a lent slice; and, counted from its first, the atoms of the flexible tail and of
-// the floating groups, and how many there are in all. The groups are gone through only at carbons that carry one.
+// the floating groups, and how many there are in all. The atoms of a carbon that carries anything are counted before, and lent.
 use carbons::CARBON_ROOM;
 use drawable::Shape;
 use record::MAX_CARBONS;
@@ -11,17 +11,13 @@ ghost use lib.ListN.{length};
 ghost use Rattle.emit.specs.Text.{Written};
 ghost use Rattle.reading.specs.Chain.{partsEnd, bridgeEnd, floatEnd};
 ghost use Rattle.chain.specs.Drawing.{branchPart, branches};
-ghost use Rattle.drawable.specs.Drawn.{groupsIn, floatsPart, drawnOf, bondsDrawn, ringsDrawn, Says};
-ghost use Rattle.fragment.specs.Text.{sitting, carbonylOf};
+ghost use Rattle.drawable.specs.Drawn.{groupsIn, floatsPart, drawnOf, bondsDrawn, groupsDrawn, ringsDrawn, Says};
+ghost use Rattle.fragment.specs.Text.{carbonylOf};
 ghost use Rattle.carbons.specs.ByCarbon.{BondsBy};
 ghost use Rattle.carbons.specs.Tokens.{tokens, TokensOf, Bare};
-ghost use Rattle.atoms.specs.Atoms.{Counts, carbonSize, bareSize, bridgedAt, tailCount, Roomy, IdleFour, indices, ups, LiteralNumbers, TailNumbers, AtomsOf};
+ghost use Rattle.atoms.specs.Atoms.{Counts, carbonSize, bareSize, bridgedAt, tailCount, Loaded, Roomy, IdleFour, indices, ups, LiteralNumbers, TailNumbers, AtomsOf};
 ghost use Rattle.atoms.specs.Index.{inRoom, indexFrom};
 ghost use Rattle.atoms.specs.Sum.{sumOf};
-
-// The atoms of the branch of each row of the group table, alone: the code lays out a whole table each time it looks into one. One computed
-// test ties them to the table.
-const BRANCH_ATOMS: [u8; 17] = [2, 1, 1, 1, 1, 1, 3, 2, 1, 2, 1, 1, 1, 2, 5, 5, 3];
 
 fn wide(n: u8) -> u16
     ensures { λ r. ⌜ r ≡ n ⌝ }
@@ -33,31 +29,7 @@ fn wide(n: u8) -> u16
 pub fn branch_atoms(row: u8) -> u16
     ensures { λ r. ⌜ Counts 5 (branchPart row .size) r ⌝ }
 {
-    if row < groups::ROW_COUNT {
-        let at = row as usize;
-        return wide(BRANCH_ATOMS[at]);
-    }
-    0
-}
-
-// The atoms of the groups of carbon k.
-fn group_atoms(groups: &[u64], count: usize, k: u32) -> u16
-    requires { ⌜ length (now groups) ≤ 18 ⌝ }
-    ensures { λ r. ⌜ Counts 90 (partsEnd 0 (branches (sitting k (groupsIn count (now (groups .entry)))))) r ⌝ }
-{
-    let n = drawable::groups_len(groups, count);
-    let mut sum = 0;
-    let mut i = 0;
-    while i < n {
-        let g = drawable::nth_group(groups, count, i);
-        if g.pos == k {
-            sum += branch_atoms(g.row);
-            i += 1;
-            continue;
-        }
-        i += 1;
-    }
-    sum
+    wide(carbons::row_atoms(row))
 }
 
 // The doubly bonded O of an acyl C1.
@@ -90,14 +62,12 @@ fn bare_atoms(bond: u8) -> u16
     1 + bridge_atoms(bond)
 }
 
-// A carbon, what it carries, and its bridge.
-fn busy_atoms(acyl: bool, groups: &[u64], count: usize, k: u16, bond: u8) -> u16
-    requires { ⌜ length (now groups) ≤ 18 ⌝ }
-    ensures { λ r. ⌜ Counts 93 (carbonSize acyl (groupsIn count (now (groups .entry))) bond k) r ⌝ }
+// A carbon with what it carries, which is counted, and its bridge.
+fn busy_atoms(x: Shape, part: &[u64], k: u16, load: u8, bond: u8) -> u16
+    requires { ⌜ Loaded (drawnOf x (now part)) k load ⌝ }
+    ensures { λ r. ⌜ Counts 93 (carbonSize (x .acyl) (groupsDrawn (drawnOf x (now (part .entry)))) bond k) r ⌝ }
 {
-    let a = carbonyl_atoms(acyl, k);
-    let b = group_atoms(groups, count, k as u32);
-    1 + a + b + bridge_atoms(bond)
+    wide(load) + bridge_atoms(bond)
 }
 
 // Counts below this leave room for those of a chain.
@@ -218,8 +188,7 @@ fn number_within<'a>(
             k += 1;
             continue;
         }
-        let groups = drawable::groups_part(part);
-        next += busy_atoms(x.acyl, groups, x.group_count, k, bonds[i]);
+        next += busy_atoms(x, part, k, busy[i], bonds[i]);
         k += 1;
     }
     Numbers {
@@ -229,7 +198,7 @@ fn number_within<'a>(
     }
 }
 
-// The literal carbons one by one, where some indices may fall past the end or be too large: of what a chain has only its groups are looked at.
+// The literal carbons one by one, where some indices may fall past the end or be too large.
 fn number_each<'a>(
     index: &mut [u16],
     at: usize,
@@ -244,7 +213,6 @@ fn number_each<'a>(
     requires { ⌜ TokensOf (drawnOf x (now part)) (tokens from last (now bonds) (now busy)) ⌝ }
     ensures { λ r. ⌜ LiteralNumbers first (drawnOf x (now (part .entry))) (tokens from last (now (bonds .entry)) (now (busy .entry))) (now (index .entry)) at (now (index .exit)) r ⌝ }
 {
-    let groups = drawable::groups_part(part);
     let mut p = at;
     let mut count = 0;
     let mut next = 0;
@@ -259,7 +227,7 @@ fn number_each<'a>(
             k += 1;
             continue;
         }
-        next += busy_atoms(x.acyl, groups, x.group_count, k, bond);
+        next += busy_atoms(x, part, k, busy[i], bond);
         k += 1;
     }
     Numbers { at: p, count, next }
@@ -413,7 +381,7 @@ pub struct ChainAtoms {
 }
 
 // The indices of the drawn carbons of a chain whose first atom is given, written at a place. What is known of each carbon is lent: its first
-// drawn and its last literal carbon, the bonds, and whether a carbon is busy.
+// drawn and its last literal carbon, the bonds, and the atoms of those that carry anything.
 pub fn number_chain<'a>(
     index: &mut [u16],
     at: usize,

@@ -14,13 +14,12 @@ use Rattle.record.specs.declared.Geometry.{Geometry}
 use Rattle.record.specs.declared.Geometry.the-variants.{Unstated, Cis, Trans}
 use Rattle.record.specs.declared.Bridge.the-variants.{Epoxide, Carbocycle}
 use Rattle.record.specs.declared.DbPos.{DbPos}
-use Rattle.record.specs.declared.Mod.{Mod}
 use Rattle.record.specs.declared.Ring.{Ring}
 use Rattle.chain.specs.Lists.{anyOf}
 use Rattle.chain.specs.Refusals.{isEpoxide}
 use Rattle.chain.specs.Bonds.{openMark, opensDown, closeMark, closeByte, markBond, markFrom, geometryAt, plainBond, bridged, double}
-use Rattle.drawable.specs.Drawn.{Length, noBond, noGroup, noRing}
-use Rattle.carbons.specs.ByCarbon.{geometryByte, geometryOf, doubleAt, bridgeAt, groupOn, ringOn, risesFrom, SetWhere, Geometries, Marks}
+use Rattle.drawable.specs.Drawn.{Length, noBond, noRing}
+use Rattle.carbons.specs.ByCarbon.{geometryByte, geometryOf, doubleAt, bridgeAt, ringOn, risesFrom, SetWhere, Geometries, Marks}
 use Rattle.carbons.proofs.Fronts.{next-of, back-one, none-left}
 
 -- ---- a store
@@ -29,7 +28,7 @@ pub set-past : (xs : List ℕ) (p v : ℕ) → length xs ≤ p → xs ≡ set xs
 set-past xs p v h = sym (set-out xs p v h)
 
 -- what stands at k after a store at p
-stored : (xs : List ℕ) (p v k : ℕ) → k < length xs → getD (set xs p v) k 0 ≡ cond (eqb p k) v (getD xs k 0)
+pub stored : (xs : List ℕ) (p v k : ℕ) → k < length xs → getD (set xs p v) k 0 ≡ cond (eqb p k) v (getD xs k 0)
 stored xs p v k h = go (eqb p k) refl
   where
     go : (b : Bool) → eqb p k ≡ b → getD (set xs p v) k 0 ≡ cond b v (getD xs k 0)
@@ -71,10 +70,6 @@ module _ {room n : ℕ} (ks : List ℕ) where
   unfolding bridgeAt
   bridges-none s = where-none 79 ks (λ k. rw (none-left s n (omega arith)))
 
-  pub groups-none : {gs : List Mod} → Length room gs n → SetWhere (groupOn (drop n gs)) 1 ks ks
-  unfolding groupOn
-  groups-none s = where-none 1 ks (λ k. rw (none-left s n (omega arith)))
-
   pub rings-none : {rs : List Ring} → Length room rs n → SetWhere (ringOn (drop n rs)) 1 ks ks
   unfolding ringOn
   rings-none s = where-none 1 ks (λ k. rw (none-left s n (omega arith)))
@@ -96,11 +91,6 @@ module _ {room n : ℕ} {ks js : List ℕ} (i : ℕ) (h : 0 < i) (m : i ≤ n) w
   unfolding bridgeAt
   bridge-not x s w e g = where-same w (λ k. rw (back-one s noRing x i e h m, g))
 
-  pub group-set : {is : List ℕ} {gs : List Mod} (g : Mod) → Length room gs n → SetWhere (groupOn (drop i gs)) 1 ks js → g ≡ getD gs (i - 1) noGroup
-      → is ≡ set js (g .pos) 1 → SetWhere (groupOn (drop (i - 1) gs)) 1 ks is
-  unfolding groupOn
-  group-set g s w e f = rw f (where-one (g .pos) w (λ k. rw (back-one s noGroup g i e h m)))
-
   pub ring-set : {rs : List Ring} {mid is : List ℕ} (x : Ring) → Length room rs n → SetWhere (ringOn (drop i rs)) 1 ks js → x ≡ getD rs (i - 1) noRing
       → mid ≡ set js (x .end) 1 → is ≡ set mid (x .start) 1 → SetWhere (ringOn (drop (i - 1) rs)) 1 ks is
   unfolding ringOn
@@ -121,9 +111,6 @@ module _ {ks js : List ℕ} (i : ℕ) (h : i ≤ 0) where
 
   pub bridges-all : (rs : List Ring) → SetWhere (bridgeAt (drop i rs)) 79 ks js → SetWhere (bridgeAt rs) 79 ks js
   bridges-all rs w = rw (drop-none i h rs) at w
-
-  pub groups-all : (gs : List Mod) → SetWhere (groupOn (drop i gs)) 1 ks js → SetWhere (groupOn gs) 1 ks js
-  groups-all gs w = rw (drop-none i h gs) at w
 
   pub rings-all : (rs : List Ring) → SetWhere (ringOn (drop i rs)) 1 ks js → SetWhere (ringOn rs) 1 ks js
   rings-all rs w = rw (drop-none i h rs) at w

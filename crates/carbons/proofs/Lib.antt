@@ -1,4 +1,5 @@
 pub mod Fronts
 pub mod Left
 pub mod BondLaws
+pub mod Loads
 pub mod TokenLaws

@@ -7,24 +7,25 @@ use native.Mathlib.Omega.{arith}
 use mathlib.Core.Path.{_≡_, refl, sym, ap, _∙_}
 use mathlib.Core.Bool.{Bool, true, false, cond, _||_, _&&_}
 use mathlib.Core.List.{List, [], _∷_}
-use lib.Dec.{eqb, ltb}
+use lib.Dec.{eqb, ltb, leb}
 use lib.ListN.{length, take, drop, getD, set, replicate, getD-replicate, length-set, length-replicate}
 use lib.Seq.{take-set-lt, take-set-le, getD-take, take-suc, ext-getD, length-take-le}
-use borrow.Author.Tests.{lt-ltb, le-ltb, eq-eqb, ne-eqb, ltb-true, ltb-false, eqb-true, eqb-false}
+use borrow.Author.Tests.{lt-ltb, le-ltb, eq-eqb, ne-eqb, ltb-true, ltb-false, leb-true, leb-false, eqb-true, eqb-false}
 use Rattle.record.specs.declared.Geometry.{Geometry}
 use Rattle.record.specs.declared.Geometry.the-variants.{Unstated, Cis, Trans}
 use Rattle.record.specs.declared.DbPos.{DbPos}
-use Rattle.record.specs.declared.Mod.{Mod}
 use Rattle.record.specs.declared.Ring.{Ring}
 use Rattle.chain.specs.Lists.{anyOf, valuesFrom}
 use Rattle.chain.specs.Features.{literalEnd}
 use Rattle.chain.specs.Bonds.{openMark, opensDown, closeMark, closeByte, markBond, markFrom, geometryAt, plainBond, plainBonds}
 use Rattle.drawable.specs.declared.Shape.{Shape}
 use Rattle.drawable.specs.Drawn.{Drawn, bondsIn, groupsIn, ringsIn, bondsPart, groupsPart, ringsPart, drawnOf, bondsDrawn, groupsDrawn, ringsDrawn, SaysUpTo}
+use Rattle.drawable.proofs.Parts.{groups-few}
 use Rattle.reach.proofs.Ends.{literal-whole}
 use Rattle.carbons.specs.Tokens.{tokens, TokensOf, Bare}
-use Rattle.carbons.specs.ByCarbon.{doubleAt, bridgeAt, groupOn, ringOn, carbonylOn, busyAt, SetWhere, PlainBonds, BondsBy, Busy}
+use Rattle.carbons.specs.ByCarbon.{doubleAt, bridgeAt, ringOn, carbonylOn, loadAt, SetWhere, Added, PlainBonds, BondsBy, Busy}
 use Rattle.carbons.proofs.BondLaws.{where-none, where-one, length-marks}
+use Rattle.carbons.proofs.Loads.{past, groups-held, load-is, load-few}
 
 -- ---- values
 
@@ -129,39 +130,58 @@ bonds-marked {bs} {rs} {ks} {js} c m w e v =
 
 -- ---- busy carbons
 
-pub carbonyl-set : {ks js : List ℕ} (acyl : Bool) → acyl ≡ true → js ≡ set ks 1 1 → SetWhere (carbonylOn acyl) 1 ks js
+pub carbonyl-set : {ks js : List ℕ} (acyl : Bool) → acyl ≡ true → js ≡ set ks 1 2 → SetWhere (carbonylOn acyl) 2 ks js
 unfolding carbonylOn
-carbonyl-set {ks} acyl e f = rw (e, f) (where-one 1 (where-none {test = λ (k : ℕ). false} 1 ks (λ k. refl)) (λ k. or-false (eqb 1 k)))
+carbonyl-set {ks} acyl e f = rw (e, f) (where-one 1 (where-none {test = λ (k : ℕ). false} 2 ks (λ k. refl)) (λ k. or-false (eqb 1 k)))
   where
     or-false : (b : Bool) → b ≡ (b || false)
     or-false true = refl
     or-false false = refl
 
-pub carbonyl-none : {ks : List ℕ} (acyl : Bool) → acyl ≡ false → SetWhere (carbonylOn acyl) 1 ks ks
+pub carbonyl-none : {ks : List ℕ} (acyl : Bool) → acyl ≡ false → SetWhere (carbonylOn acyl) 2 ks ks
 unfolding carbonylOn
-carbonyl-none {ks} acyl e = rw e (where-none 1 ks (λ k. refl))
+carbonyl-none {ks} acyl e = rw e (where-none 2 ks (λ k. refl))
 
-pub busy-all : {acyl : Bool} {gs : List Mod} {rs : List Ring} {zs ks js is : List ℕ} → zs ≡ replicate 256 0 → SetWhere (ringOn rs) 1 zs ks → SetWhere (groupOn gs) 1 ks js
-    → SetWhere (carbonylOn acyl) 1 js is → Busy acyl gs rs is
-unfolding busyAt
-busy-all {acyl} {gs} {rs} {zs} {ks} {js} {is} e u v w =
-    record {
-      size = w .size ∙ m;
-      at = λ k h.
-          let z : k < length zs = omega (arith, noughts e) in
-          w .at k (omega (arith, m)) ∙ (rw (v .at k (omega (arith, l)), u .at k z, e, getD-replicate {A = ℕ} 256 k 0 0 h) (go (carbonylOn acyl k) (groupOn gs k) (ringOn rs k)));
-    }
+ends-at : (acyl : Bool) (rs : List Ring) {zs ks js : List ℕ} → zs ≡ replicate 256 0 → SetWhere (ringOn rs) 1 zs ks → SetWhere (carbonylOn acyl) 2 ks js
+    → (k : ℕ) → k < 256 → getD js k 0 ≡ cond (carbonylOn acyl k) 2 (cond (ringOn rs k) 1 0)
+ends-at acyl rs {zs} {ks} e u v k h =
+    let z : k < length zs = omega (arith, noughts e) in
+    let l : length ks ≡ 256 = u .size ∙ noughts e in
+    v .at k (omega (arith, l)) ∙ (rw (u .at k z, e, getD-replicate {A = ℕ} 256 k 0 0 h))
+
+-- no carbon has more than two atoms before its groups are added
+pub ends-small : (acyl : Bool) (rs : List Ring) {zs ks js : List ℕ} → zs ≡ replicate 256 0 → SetWhere (ringOn rs) 1 zs ks → SetWhere (carbonylOn acyl) 2 ks js
+    → (k : ℕ) → getD js k 0 ≤ 2
+ends-small acyl rs {zs} {ks} {js} e u v k = go (leb (suc k) 256) refl
   where
     l : length ks ≡ 256
     l = u .size ∙ noughts e
 
-    m : length js ≡ 256
-    m = v .size ∙ l
+    own : (a b : Bool) → cond a 2 (cond b 1 0) ≤ 2
+    own true b = omega arith
+    own false true = omega arith
+    own false false = omega arith
 
-    go : (a b c : Bool) → _≡_ {A = ℕ} (cond a 1 (cond b 1 (cond c 1 0))) (cond (a || (b || c)) 1 0)
-    go true b c = refl
-    go false true c = refl
-    go false false c = refl
+    go : (b : Bool) → leb (suc k) 256 ≡ b → getD js k 0 ≤ 2
+    go true f =
+        let h : k < 256 = leb-true (suc k) 256 f in
+        rw (ends-at acyl rs e u v k h) (own (carbonylOn acyl k) (ringOn rs k))
+    go false f = rw (past 0 js k (omega (arith, v .size, l, leb-false (suc k) 256 f))) (omega arith)
+
+pub busy-all : {acyl : Bool} {rs : List Ring} {zs ks js is : List ℕ} (n : ℕ) (l : List ℕ) → zs ≡ replicate 256 0 → length l ≤ 18 → SetWhere (ringOn rs) 1 zs ks
+    → SetWhere (carbonylOn acyl) 2 ks js → Added (groupsIn n l) js is → Busy acyl (groupsIn n l) rs is
+busy-all {acyl} {rs} {zs} {ks} {js} {is} n l e f u v w =
+    record {
+      size = w .size ∙ m;
+      at = at;
+      few = λ k h. rw (at k h) (load-few acyl (groupsIn n l) rs k (groups-held n l f));
+    }
+  where
+    m : length js ≡ 256
+    m = v .size ∙ (u .size ∙ noughts e)
+
+    at : (k : ℕ) → k < 256 → getD is k 0 ≡ loadAt acyl (groupsIn n l) rs k
+    at k h = w .at k (omega (arith, m)) ∙ (rw (ends-at acyl rs e u v k h) (load-is acyl (groupsIn n l) rs k))
 
 -- ---- all of it
 
@@ -177,6 +197,10 @@ tokens-say {x} {e = e} {l} b u f s m =
       busy = u;
     }
 
+-- groups that stand in the part of a chain
+pub groups-short : {gs : List ℕ} (l : List ℕ) → gs ≡ groupsPart l → length gs ≤ 18
+groups-short l e = rw e (groups-few l)
+
 -- where the lists stand in the part of a chain
 pub tokens-are : {x : Shape} (l : List ℕ) {ds gs rs bs us : List ℕ} {f e m : ℕ} → rs ≡ ringsPart l → ds ≡ bondsPart l
     → BondsBy (bondsIn (x .«bond_count») ds) (ringsIn (x .«ring_count») rs) (x .carbon) bs → gs ≡ groupsPart l
@@ -186,24 +210,28 @@ tokens-are l a b v c w f s m = tokens-say (rw (a, b) at v) (rw (a, c) at w) f s 
 
 -- ---- a bare chain
 
--- which of its carbons carry something
-busyNumber : Drawn → ℕ → ℕ
-busyNumber x k = cond (busyAt (x .acyl) (groupsDrawn x) (ringsDrawn x) k) 1 0
+-- the atoms of its carbons that carry something
+loadNumber : Drawn → ℕ → ℕ
+loadNumber x k = loadAt (x .acyl) (groupsDrawn x) (ringsDrawn x) k
 
 pub busyList : Drawn → List ℕ
-busyList x = valuesFrom (busyNumber x) 0 256
+busyList x = valuesFrom (loadNumber x) 0 256
 
-busy-list : (x : Drawn) → Busy (x .acyl) (groupsDrawn x) (ringsDrawn x) (busyList x)
-unfolding busyList busyNumber
-busy-list x =
+busy-list : (x : Drawn) → length (groupsDrawn x) ≤ 18 → Busy (x .acyl) (groupsDrawn x) (ringsDrawn x) (busyList x)
+unfolding busyList loadNumber
+busy-list x f =
     record {
-      size = length-values (busyNumber x) 0 256;
-      at = λ k h. rw (zero-add k) at (values-at (busyNumber x) 0 256 k 0 h);
+      size = length-values (loadNumber x) 0 256;
+      at = at;
+      few = λ k h. rw (at k h) (load-few (x .acyl) (groupsDrawn x) (ringsDrawn x) k f);
     }
+  where
+    at : (k : ℕ) → k < 256 → getD (busyList x) k 0 ≡ loadAt (x .acyl) (groupsDrawn x) (ringsDrawn x) k
+    at k h = rw (zero-add k) at (values-at (loadNumber x) 0 256 k 0 h)
 
 pub bare-tokens : {x : Drawn} {bs : List ℕ} → Bare x → BondsBy (bondsDrawn x) (ringsDrawn x) (x .carbon) bs → TokensOf x (tokens (x .first) (x .carbon) bs (busyList x))
 bare-tokens {x} e b =
-    record { first = omega (arith, e .first); room = e .room; last = λ h. literal-whole x (e .unlocated) .says; bonds = b; busy = busy-list x }
+    record { first = omega (arith, e .first); room = e .room; last = λ h. literal-whole x (e .unlocated) .says; bonds = b; busy = busy-list x (rw (e .groups) (omega arith)) }
 
 bare-plain : {bs : List DbPos} {zs ks : List ℕ} → zs ≡ replicate 256 0 → SetWhere (doubleAt bs) 61 zs ks → PlainBonds bs [] ks
 unfolding bridgeAt anyOf

@@ -1,11 +1,12 @@
 -- What arrays by carbon hold: the bonds of a chain, the geometry stated at each, and which carbons carry anything. Assumes nothing.
-use Prim.Native.Nat.{ℕ, suc, _<_, _≤_}
+use Prim.Native.Nat.{ℕ, suc, _+_, _<_, _≤_, max}
 use Prim.Native.Char.{code}
 use mathlib.Core.Path.{_≡_}
 use mathlib.Core.Bool.{Bool, true, cond, _||_, _&&_}
 use mathlib.Core.List.{List, [], _∷_}
 use lib.Dec.{eqb, ltb}
 use lib.ListN.{length, getD, take}
+use Rattle.groups.specs.Groups.{entryAt}
 use Rattle.record.specs.declared.Geometry.{Geometry}
 use Rattle.record.specs.declared.Geometry.the-variants.{Unstated, Cis, Trans}
 use Rattle.record.specs.declared.DbPos.{DbPos}
@@ -58,10 +59,30 @@ unfoldable pub busyAt : Bool → List Mod → List Ring → ℕ → Bool
 unfolding carbonylOn groupOn ringOn
 busyAt acyl gs rs k = carbonylOn acyl k || (groupOn gs k || ringOn rs k)
 
+-- n is the number of atoms of the branch of a row of the group table
+pub record RowAtoms (row n : ℕ) : Type 0 where
+  pub is : n ≡ entryAt row .atoms
+  pub few : n ≤ 5
+
+-- the atoms of the groups that sit at k
+unfoldable pub groupAtoms : List Mod → ℕ → ℕ
+groupAtoms [] k = 0
+groupAtoms (g ∷ gs) k = cond (eqb (g .pos) k) (entryAt (g .row) .atoms) 0 + groupAtoms gs k
+
+-- the atoms of C k with what it carries beside a bridge; 0 if that is nothing
+unfoldable pub loadAt : Bool → List Mod → List Ring → ℕ → ℕ
+unfolding carbonylOn busyAt groupAtoms
+loadAt acyl gs rs k = cond (busyAt acyl gs rs k) (suc (cond (carbonylOn acyl k) 1 0 + groupAtoms gs k)) 0
+
 -- an array by carbon with v where a test passes, elsewhere as it was
 pub record SetWhere (test : ℕ → Bool) (v : ℕ) (before after : List ℕ) : Type 0 where
   pub size : length after ≡ length before
   pub at : (k : ℕ) → k < length before → getD after k 0 ≡ cond (test k) v (getD before k 0)
+
+-- the atoms of groups added to an array by carbon, and the carbon itself where nothing stood
+pub record Added (gs : List Mod) (before after : List ℕ) : Type 0 where
+  pub size : length after ≡ length before
+  pub at : (k : ℕ) → k < length before → getD after k 0 ≡ cond (groupOn gs k) (max (getD before k 0) 1 + groupAtoms gs k) (getD before k 0)
 
 -- the geometry stated at each carbon
 pub record Geometries (bs : List DbPos) (geoms : List ℕ) : Type 0 where
@@ -82,7 +103,8 @@ pub record BondsBy (bs : List DbPos) (rs : List Ring) (c : ℕ) (bonds : List �
   pub size : length bonds ≡ 256
   pub are : c ≤ 255 → take (suc c) bonds ≡ markFrom c bs 1 c (plainBonds bs rs c)
 
--- whether C k carries anything beside a bridge: 1 or 0
+-- the atoms of each carbon that carries anything beside a bridge
 pub record Busy (acyl : Bool) (gs : List Mod) (rs : List Ring) (busy : List ℕ) : Type 0 where
   pub size : length busy ≡ 256
-  pub at : (k : ℕ) → k < 256 → getD busy k 0 ≡ cond (busyAt acyl gs rs k) 1 0
+  pub at : (k : ℕ) → k < 256 → getD busy k 0 ≡ loadAt acyl gs rs k
+  pub few : (k : ℕ) → k < 256 → getD busy k 0 ≤ 92

@@ -7,7 +7,7 @@ use Rattle.chain.specs.Features.{literalEnd}
 use Rattle.drawable.specs.Drawn.{Drawn, bondsDrawn, groupsDrawn, floatsDrawn, ringsDrawn, Says}
 use Rattle.carbons.specs.ByCarbon.{BondsBy, Busy}
 
--- the bond after each carbon, whether a carbon carries anything (1) or not (0), the first drawn carbon and the last literal one
+-- the bond after each carbon, the atoms of each that carries anything, the first drawn carbon and the last literal one
 pub record ChainTokens : Type 0 where
   pub first : ℕ
   pub last : ℕ

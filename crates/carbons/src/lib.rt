@@ -1,15 +1,15 @@
-// The bonds of a chain in an array by carbon, with their marks, and which carbons carry anything. The groups and rings are gone through once;
+// The bonds of a chain in an array by carbon, with their marks, and the atoms of the carbons that carry anything. The groups and rings are gone through once;
 // after that each carbon is looked up.
 use drawable::Shape;
 use record::Bridge;
 use record::Geometry;
 ghost use mathlib.Core.Path.{_≡_};
 ghost use mathlib.Core.Bool.{true};
-ghost use Prim.Native.Nat.{_≤_, _<_, min, max};
-ghost use lib.ListN.{length, set, replicate};
+ghost use Prim.Native.Nat.{ℕ, _+_, _≤_, _<_, min, max};
+ghost use lib.ListN.{length, getD, set, replicate};
 ghost use Rattle.chain.specs.Bonds.{openMark, closeMark, markBond, closeByte, markFrom, bridged, double};
 ghost use Rattle.drawable.specs.Drawn.{bondsIn, groupsIn, ringsIn, drawnOf, bondsDrawn, ringsDrawn};
-ghost use Rattle.carbons.specs.ByCarbon.{geometryByte, geometryOf, doubleAt, bridgeAt, groupOn, ringOn, carbonylOn, risesFrom, SetWhere, Geometries, Marks, PlainBonds, BondsBy, Busy};
+ghost use Rattle.carbons.specs.ByCarbon.{geometryByte, geometryOf, doubleAt, bridgeAt, ringOn, carbonylOn, risesFrom, RowAtoms, SetWhere, Added, Geometries, Marks, PlainBonds, BondsBy, Busy};
 ghost use Rattle.carbons.specs.Tokens.{tokens, TokensOf, Bare};
 
 // Carbons 0 to 255.
@@ -223,15 +223,51 @@ fn mark_rising(bonds: &mut [u8], doubles: &[u64], count: usize, carbon: usize)
     }
 }
 
-// The carbons that have a group.
-fn set_groups(busy: &mut [u8], groups: &[u64], count: usize)
-    ensures { λ _. ⌜ SetWhere (groupOn (groupsIn count (now (groups .entry)))) 1 (now (busy .entry)) (now (busy .exit)) ⌝ }
+// The atoms of the branch of each row of the group table, alone: the code lays out a whole table each time it looks into one. One computed
+// test ties them to the table.
+const ROW_ATOMS: [u8; 17] = [2, 1, 1, 1, 1, 1, 3, 2, 1, 2, 1, 1, 1, 2, 5, 5, 3];
+
+// The atoms of the branch of a row.
+pub fn row_atoms(row: u8) -> u8
+    ensures { λ r. ⌜ RowAtoms row r ⌝ }
+{
+    if row < groups::ROW_COUNT {
+        let at = row as usize;
+        return ROW_ATOMS[at];
+    }
+    0
+}
+
+fn one_at_least(n: u8) -> u8
+    ensures { λ r. ⌜ r ≡ max n 1 ⌝ }
+{
+    if n == 0 {
+        return 1;
+    }
+    n
+}
+
+// Atoms that a carbon carries, added to those that it has: the first of them to the carbon itself.
+fn add_at(xs: &mut [u8], p: usize, n: u8)
+    requires { ⌜ getD (now xs) p 0 + n ≤ 254 ⌝ }
+    ensures { λ _. ⌜ now (xs .exit) ≡ set (now (xs .entry)) p (max (getD (now (xs .entry)) p 0) 1 + n) ⌝ }
+{
+    if p < xs.len() {
+        let own = one_at_least(xs[p]);
+        xs[p] = own + n;
+    }
+}
+
+// The carbons that have a group, and its atoms.
+fn add_groups(busy: &mut [u8], groups: &[u64], count: usize)
+    requires { ⌜ ((k : ℕ) → getD (now busy) k 0 ≤ 2) × (length (now groups) ≤ 18) ⌝ }
+    ensures { λ _. ⌜ Added (groupsIn count (now (groups .entry))) (now (busy .entry)) (now (busy .exit)) ⌝ }
 {
     let mut i = drawable::groups_len(groups, count);
     while 0 < i {
         i -= 1;
         let g = drawable::nth_group(groups, count, i);
-        set_at(busy, g.pos as usize, 1);
+        add_at(busy, g.pos as usize, row_atoms(g.row));
     }
 }
 
@@ -248,12 +284,12 @@ fn set_rings(busy: &mut [u8], rings: &[u64], count: usize)
     }
 }
 
-// On an acyl chain C1 has a doubly bonded O.
+// On an acyl chain C1 has a doubly bonded O: two atoms.
 fn set_carbonyl(busy: &mut [u8], acyl: bool)
-    ensures { λ _. ⌜ SetWhere (carbonylOn acyl) 1 (now (busy .entry)) (now (busy .exit)) ⌝ }
+    ensures { λ _. ⌜ SetWhere (carbonylOn acyl) 2 (now (busy .entry)) (now (busy .exit)) ⌝ }
 {
     if acyl {
-        set_at(busy, 1, 1);
+        set_at(busy, 1, 2);
         return;
     }
 }
@@ -314,7 +350,7 @@ fn marked_bonds<'a>(
     mark_any(bonds, doubles, bond_count, last);
 }
 
-// The carbons that carry anything beside a bridge, in an array of noughts.
+// The carbons that carry anything beside a bridge, and their atoms, in an array of noughts.
 fn busy_carbons<'a>(
     busy: &mut [u8],
     acyl: bool,
@@ -324,11 +360,12 @@ fn busy_carbons<'a>(
     ring_count: usize,
 )
     requires { ⌜ now busy ≡ replicate 256 0 ⌝ }
+    requires { ⌜ length (now groups) ≤ 18 ⌝ }
     ensures { λ _. ⌜ Busy acyl (groupsIn «group_count» (now (groups .entry))) (ringsIn «ring_count» (now (rings .entry))) (now (busy .exit)) ⌝ }
 {
     set_rings(busy, rings, ring_count);
-    set_groups(busy, groups, group_count);
     set_carbonyl(busy, acyl);
+    add_groups(busy, groups, group_count);
 }
 
 // The bonds of a bare chain with their marks, in an array of noughts: there is no bridge among them.
@@ -353,7 +390,7 @@ pub struct Span {
     pub last: u16,
 }
 
-// What is known of each carbon, into two arrays of noughts: the bond after it, and whether it carries anything (1) or not (0).
+// What is known of each carbon, into two arrays of noughts: the bond after it, and its atoms if it carries anything.
 pub fn chain_tokens(x: Shape, part: &[u64], bonds: &mut [u8], busy: &mut [u8]) -> Span
     requires { ⌜ now bonds ≡ replicate 256 0 ⌝ }
     requires { ⌜ now busy ≡ replicate 256 0 ⌝ }

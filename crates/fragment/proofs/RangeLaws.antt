@@ -5,7 +5,7 @@ use native.Mathlib.Nat.{add-zero, suc-add}
 use native.Mathlib.Numerals.{add-one}
 use native.Mathlib.Omega.{arith}
 use mathlib.Core.Path.{_≡_, refl, sym, ap, _∙_}
-use mathlib.Core.Bool.{Bool, true, false, cond, _||_}
+use mathlib.Core.Bool.{Bool, true, false, _||_}
 use mathlib.Core.List.{List, [], _∷_, _++_, append-nil, append-assoc}
 use lib.Dec.{eqb}
 use lib.ListN.{length, getD}
@@ -24,6 +24,7 @@ use Rattle.backbone.specs.Text.{carbonText, bridgeText}
 use Rattle.runs.specs.Links.{linkText, linksText, Run}
 use Rattle.fragment.specs.Text.{featuresText, carbonOf, carbonsText}
 use Rattle.carbons.specs.ByCarbon.{groupOn, ringOn, carbonylOn, busyAt, Busy}
+use Rattle.carbons.proofs.Loads.{not-busy}
 use Rattle.carbons.proofs.Left.{Left, left-less, left-same, left-none, written-three}
 use Rattle.branches.proofs.Laws.{parts-cons}
 use Rattle.backbone.proofs.Laws.{carbon-shown}
@@ -80,10 +81,6 @@ empty-features acyl gs rs l k e =
     let a : carbonylOn acyl k ≡ false = or-left (carbonylOn acyl k) (groupOn gs k || ringOn rs k) e in
     let b : (groupOn gs k || ringOn rs k) ≡ false = or-right (carbonylOn acyl k) (groupOn gs k || ringOn rs k) e in
     rw (no-labels k l rs (or-right (groupOn gs k) (ringOn rs k) b), no-carbonyl acyl k a, no-groups k gs (or-left (groupOn gs k) (ringOn rs k) b))
-
-pub zero-false : (b : Bool) → _≡_ {A = ℕ} (cond b 1 0) 0 → b ≡ false
-zero-false false e = refl
-zero-false true e = absurd (omega arith)
 
 -- ---- one carbon of the chain
 
@@ -177,7 +174,7 @@ module _ {xs ys ts : List ℕ} {at p : ℕ} (acyl : Bool) (ks : List ℕ) (gs : 
       let y : k + (c - (k + 1)) ≡ c - 1 = omega (arith, r .low) in
       let x : suc (c - 1) ≡ c = omega (arith, r .low) in
       let e : (j : ℕ) → k ≤ j → j ≤ k + (c - (k + 1)) → featuresText acyl gs rs l j ≡ []
-      = λ j a d. empty-features acyl gs rs l j (zero-false (busyAt acyl gs rs j) (sym (b .at j (omega (arith, r .low, r .high))) ∙ r .free j a (omega (arith, r .low)))) in
+      = λ j a d. empty-features acyl gs rs l j (not-busy j b (omega (arith, r .low, r .high)) (r .free j a (omega (arith, r .low)))) in
       left-less _ m v (rw z (carbons-run acyl ks gs rs l k (c - (k + 1)) (suc last - c) e ∙ (rw (y, x, add-one k) (simp append-assoc)))) (r .text)
 
   pub carbons-end : last < k → Written xs at ts ys p

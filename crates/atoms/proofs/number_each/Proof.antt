@@ -9,18 +9,15 @@ use Rattle.drawable.specs.Drawn.{drawnOf, groupsDrawn}
 use Rattle.carbons.specs.Tokens.{tokens}
 use Rattle.fragment.specs.Text.{carbonOf}
 use Rattle.atoms.specs.Atoms.{literalOf}
-use Rattle.atoms.proofs.AtomLaws.{groups-short, counts-there, Numbering, numbering-none, number-busy, number-bare, numbers-literal, numbers-size}
+use Rattle.atoms.proofs.AtomLaws.{loaded, Numbering, numbering-none, number-busy, number-bare, numbers-literal, numbers-size}
 use Rattle.atoms.proofs.number_each.Statement.{statement}
 use Rattle.atoms.proofs.number_each.Tie as tie
 
 abbrev Inv-loop : tie.InvT-loop
-Inv-loop index₀ at first x part from last bonds busy groups p₀ count₀ next₀ k₀ index p count next k = (length bonds ≡ 256) × (length busy ≡ 256) × (1 ≤ k) × (count + (suc last - k) ≡ suc last - from) × Numbering first (literalOf (drawnOf x part) (tokens from last bonds busy)) index₀ at index p count next (valuesFrom (carbonOf (x .acyl) bonds (groupsDrawn (drawnOf x part))) k (suc last - k))
+Inv-loop index₀ at first x part from last bonds busy p₀ count₀ next₀ k₀ index p count next k = (length bonds ≡ 256) × (length busy ≡ 256) × (1 ≤ k) × (count + (suc last - k) ≡ suc last - from) × Numbering first (literalOf (drawnOf x part) (tokens from last bonds busy)) index₀ at index p count next (valuesFrom (carbonOf (x .acyl) bonds (groupsDrawn (drawnOf x part))) k (suc last - k))
 
 abbrev μ-loop : tie.MeasureT-loop
-μ-loop index₀ at first x part from last bonds busy groups p₀ count₀ next₀ k₀ index p count next k = suc last - k
-
-groups-part-requires : tie.Need-groups-part-requires Inv-loop μ-loop
-groups-part-requires c κs = search needs
+μ-loop index₀ at first x part from last bonds busy p₀ count₀ next₀ k₀ index p count next k = suc last - k
 
 loop-holds : tie.Need-loop-holds Inv-loop μ-loop
 unfolding literalOf
@@ -60,7 +57,7 @@ loop-again : tie.Need-loop-again Inv-loop μ-loop
 loop-again c =
     let put = c .before .before .before .before .before in
     let turn = put .before .before .before .before .before in
-    let start = turn .before .before .before .before .before .before in (
+    let start = turn .before .before .before .before .before in (
       search needs,
       search needs,
       omega arith,
@@ -68,8 +65,14 @@ loop-again c =
       search (number-bare, arith, start .good .0 .0, start .pre .busy, put .put-index .ensures, put .before .to-index .ensures, c .bare-atoms .ensures, turn .loop .inv .4),
     )
 
+shared-slice-read-busy-atoms : tie.Need-shared-slice-read-busy-atoms Inv-loop μ-loop
+shared-slice-read-busy-atoms c = search needs
+
 busy-atoms-requires : tie.Need-busy-atoms-requires Inv-loop μ-loop
-busy-atoms-requires c κs = search groups-short
+busy-atoms-requires c κs =
+    let test = c .before .before .before .before .before .before .before .before .before in
+    let start = test .before .before .before .before .before .before in
+    loaded _ (start .pre) (test .loop-test .taken) (c .before .if1 .left)
 
 add-next-2 : tie.Need-add-next-2 Inv-loop μ-loop
 add-next-2 c = search needs
@@ -82,14 +85,14 @@ loop-less-2 c = search needs
 
 loop-again-2 : tie.Need-loop-again-2 Inv-loop μ-loop
 loop-again-2 c =
-    let put = c .before .before .before .before .before in
+    let put = c .before .before .before .before .before .before in
     let turn = put .before .before .before .before .before in
-    let start = turn .before .before .before .before .before .before in (
+    let start = turn .before .before .before .before .before in (
       search needs,
       search needs,
       omega arith,
       omega arith,
-      number-busy _ _ _ [] _ _ (turn .loop .inv .4) _ _ (start .good .0 .0) (omega arith) (put .before .to-index .ensures) (put .put-index .ensures) (counts-there _ _ _ _ _ _ _ (turn .before .groups-part .ensures) (c .busy-atoms .ensures)),
+      number-busy _ _ _ [] _ _ (turn .loop .inv .4) _ _ (start .good .0 .0) (omega arith) (put .before .to-index .ensures) (put .put-index .ensures) (c .busy-atoms .ensures),
     )
 
 same-length : tie.Need-same-length Inv-loop μ-loop
@@ -104,7 +107,6 @@ number-each-spec =
     (tie.spec
     Inv-loop
     μ-loop
-    groups-part-requires
     loop-holds
     cast-i
     shared-slice-read-bond
@@ -117,6 +119,7 @@ number-each-spec =
     add-k
     loop-less
     loop-again
+    shared-slice-read-busy-atoms
     busy-atoms-requires
     add-next-2
     add-k-2

@@ -10,7 +10,7 @@ use Rattle.drawable.specs.Drawn.{drawnOf, groupsDrawn}
 use Rattle.carbons.specs.Tokens.{tokens}
 use Rattle.fragment.specs.Text.{carbonOf}
 use Rattle.atoms.specs.Atoms.{literalOf}
-use Rattle.atoms.proofs.AtomLaws.{groups-short, counts-there}
+use Rattle.atoms.proofs.AtomLaws.{loaded}
 use Rattle.atoms.proofs.Within.{Within, four-place, within-none, within-size, within-four, within-bare, within-busy, within-literal}
 use Rattle.atoms.proofs.number_within.Statement.{statement}
 use Rattle.atoms.proofs.number_within.Tie as tie
@@ -96,14 +96,17 @@ loop-again-2 c =
       within-bare _ _ _ _ _ _ _ _ _ (turn .loop .inv .6) (start .good .0 .0) (omega arith) (omega arith) (omega arith) (start .pre .1 .bonds) (start .pre .1 .busy) (start .pre .0 .own) (start .pre .0 .literal) (omega arith) (c .if2 .taken),
     )
 
-groups-part-requires : tie.Need-groups-part-requires Inv-loop μ-loop
-groups-part-requires c κs = search needs
-
 shared-slice-read-busy-atoms : tie.Need-shared-slice-read-busy-atoms Inv-loop μ-loop
 shared-slice-read-busy-atoms c = search needs
 
+shared-slice-read-busy-atoms-2 : tie.Need-shared-slice-read-busy-atoms-2 Inv-loop μ-loop
+shared-slice-read-busy-atoms-2 c = search needs
+
 busy-atoms-requires : tie.Need-busy-atoms-requires Inv-loop μ-loop
-busy-atoms-requires c κs = search groups-short
+busy-atoms-requires c κs =
+    let test = c .before .before .before .before .before .before in
+    let start = test .before .before .before .before .before .before in
+    loaded _ (start .pre .1) (test .loop-test .taken) (c .before .before .if2 .left)
 
 add-next-3 : tie.Need-add-next-3 Inv-loop μ-loop
 add-next-3 c = search needs
@@ -116,8 +119,7 @@ loop-less-3 c = search needs
 
 loop-again-3 : tie.Need-loop-again-3 Inv-loop μ-loop
 loop-again-3 c =
-    let part = c .before .before in
-    let turn = part .before .before .before .before .before .before in
+    let turn = c .before .before .before .before .before .before .before .before in
     let start = turn .before .before .before .before .before in (
       search needs,
       search needs,
@@ -125,14 +127,14 @@ loop-again-3 c =
       omega arith,
       omega arith,
       omega arith,
-      within-busy _ _ [] _ [] [] 0 _ _ (turn .loop .inv .6) (start .good .0 .0) (omega arith) (omega arith) _ (omega arith) (omega arith) (counts-there _ _ _ _ _ _ _ (part .groups-part .ensures) (c .busy-atoms .ensures)),
+      within-busy _ _ [] _ [] [] 0 _ _ (turn .loop .inv .6) (start .good .0 .0) (omega arith) (omega arith) _ (omega arith) (omega arith) (c .busy-atoms .ensures),
     )
-
-sub-t25 : tie.Need-sub-t25 Inv-loop μ-loop
-sub-t25 c = search needs
 
 sub-t26 : tie.Need-sub-t26 Inv-loop μ-loop
 sub-t26 c = search needs
+
+sub-t27 : tie.Need-sub-t27 Inv-loop μ-loop
+sub-t27 c = search needs
 
 same-length : tie.Need-same-length Inv-loop μ-loop
 same-length c = search within-size
@@ -162,14 +164,14 @@ number-within-spec =
     add-k-2
     loop-less-2
     loop-again-2
-    groups-part-requires
     shared-slice-read-busy-atoms
+    shared-slice-read-busy-atoms-2
     busy-atoms-requires
     add-next-3
     add-k-3
     loop-less-3
     loop-again-3
-    sub-t25
     sub-t26
+    sub-t27
     same-length
     returns)

@@ -1,4 +1,4 @@
-use Rattle.carbons.proofs.TokenLaws.{tokens-are}
+use Rattle.carbons.proofs.TokenLaws.{tokens-are, groups-short}
 use borrow.Author.Needs.{needs}
 use Rattle.carbons.proofs.chain_tokens.Statement.{statement}
 use Rattle.carbons.proofs.chain_tokens.Tie as tie
@@ -16,7 +16,7 @@ groups-part-requires : tie.Need-groups-part-requires
 groups-part-requires c κs = search needs
 
 busy-carbons-requires : tie.Need-busy-carbons-requires
-busy-carbons-requires c κs = search needs
+busy-carbons-requires c κs = (search needs, search groups-short)
 
 from-one-requires : tie.Need-from-one-requires
 from-one-requires c κs = search needs
