@@ -128,14 +128,14 @@ fn has_room(room: usize, at: usize, first: u32, carbon: u16, last: u16) -> bool
 }
 
 // Whether the four carbons from k on are literal and carry nothing.
-fn idle_four(busy: &[u8], k: u16, last: u16) -> bool
+fn idle_four(busy: &[u8], k: usize, last: usize) -> bool
     requires { ⌜ (length (now busy) ≡ 256) × (k ≤ last) × (last ≤ 255) ⌝ }
     ensures { λ r. ⌜ (r ≡ true → IdleFour (now (busy .entry)) k last) ⌝ }
 {
     if k + 3 > last {
         return false;
     }
-    if runs::word(busy, k as usize) == 0 {
+    if runs::word(busy, k) == 0 {
         return true;
     }
     false
@@ -172,23 +172,23 @@ fn number_within<'a>(
 {
     let mut p = at;
     let mut next = first;
-    let mut k = from;
-    while k <= last {
-        if idle_four(busy, k, last) {
+    let end = last as usize;
+    let mut k = from as usize;
+    while k <= end {
+        if idle_four(busy, k, end) {
             p = put_four(index, p, next);
             next += 4;
             k += 4;
             continue;
         }
-        let i = k as usize;
         index[p] = next;
         p += 1;
-        if busy[i] == 0 {
+        if busy[k] == 0 {
             next += 1;
             k += 1;
             continue;
         }
-        next += busy_atoms(x, part, k, busy[i], bonds[i]);
+        next += busy_atoms(x, part, k as u16, busy[k], bonds[k]);
         k += 1;
     }
     Numbers {

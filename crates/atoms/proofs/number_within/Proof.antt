@@ -16,10 +16,10 @@ use Rattle.atoms.proofs.number_within.Statement.{statement}
 use Rattle.atoms.proofs.number_within.Tie as tie
 
 abbrev Inv-loop : tie.InvT-loop
-Inv-loop index₀ at first x part from last bonds busy p₀ next₀ k₀ index p next k = (length bonds ≡ 256) × (length busy ≡ 256) × (length index ≡ length index₀) × (1 ≤ from) × (from ≤ k) × (p + from ≡ at + k) × Within first (literalOf (drawnOf x part) (tokens from last bonds busy)) index₀ at index p next (valuesFrom (carbonOf (x .acyl) bonds (groupsDrawn (drawnOf x part))) k (suc last - k))
+Inv-loop index₀ at first x part from last bonds busy p₀ next₀ end k₀ index p next k = (length bonds ≡ 256) × (length busy ≡ 256) × (length index ≡ length index₀) × (1 ≤ from) × (from ≤ k) × (p + from ≡ at + k) × Within first (literalOf (drawnOf x part) (tokens from last bonds busy)) index₀ at index p next (valuesFrom (carbonOf (x .acyl) bonds (groupsDrawn (drawnOf x part))) k (suc last - k))
 
 abbrev μ-loop : tie.MeasureT-loop
-μ-loop index₀ at first x part from last bonds busy p₀ next₀ k₀ index p next k = suc last - k
+μ-loop index₀ at first x part from last bonds busy p₀ next₀ end k₀ index p next k = suc last - k
 
 loop-holds : tie.Need-loop-holds Inv-loop μ-loop
 unfolding literalOf
@@ -59,9 +59,6 @@ loop-again c =
       within-four _ _ _ _ _ _ _ _ _ (turn .loop .inv .6) (start .good .0 .0) (omega arith) (omega arith) (omega arith) (start .pre .1 .bonds) (start .pre .1 .busy) (start .pre .0 .own) (start .pre .0 .literal) idle (put .put-four .ensures),
     )
 
-cast-i : tie.Need-cast-i Inv-loop μ-loop
-cast-i c = search needs
-
 mul-index : tie.Need-mul-index Inv-loop μ-loop
 mul-index c = search needs
 
@@ -95,6 +92,9 @@ loop-again-2 c =
       omega arith,
       within-bare _ _ _ _ _ _ _ _ _ (turn .loop .inv .6) (start .good .0 .0) (omega arith) (omega arith) (omega arith) (start .pre .1 .bonds) (start .pre .1 .busy) (start .pre .0 .own) (start .pre .0 .literal) (omega arith) (c .if2 .taken),
     )
+
+cast-busy-atoms : tie.Need-cast-busy-atoms Inv-loop μ-loop
+cast-busy-atoms c = search needs
 
 shared-slice-read-busy-atoms : tie.Need-shared-slice-read-busy-atoms Inv-loop μ-loop
 shared-slice-read-busy-atoms c = search needs
@@ -130,11 +130,11 @@ loop-again-3 c =
       within-busy _ _ [] _ [] [] 0 _ _ (turn .loop .inv .6) (start .good .0 .0) (omega arith) (omega arith) _ (omega arith) (omega arith) (c .busy-atoms .ensures),
     )
 
-sub-t26 : tie.Need-sub-t26 Inv-loop μ-loop
-sub-t26 c = search needs
-
 sub-t27 : tie.Need-sub-t27 Inv-loop μ-loop
 sub-t27 c = search needs
+
+sub-t28 : tie.Need-sub-t28 Inv-loop μ-loop
+sub-t28 c = search needs
 
 same-length : tie.Need-same-length Inv-loop μ-loop
 same-length c = search within-size
@@ -155,7 +155,6 @@ number-within-spec =
     add-k
     loop-less
     loop-again
-    cast-i
     mul-index
     slice-write-index
     add-p
@@ -164,6 +163,7 @@ number-within-spec =
     add-k-2
     loop-less-2
     loop-again-2
+    cast-busy-atoms
     shared-slice-read-busy-atoms
     shared-slice-read-busy-atoms-2
     busy-atoms-requires
@@ -171,7 +171,7 @@ number-within-spec =
     add-k-3
     loop-less-3
     loop-again-3
-    sub-t26
     sub-t27
+    sub-t28
     same-length
     returns)
