@@ -25,11 +25,12 @@ module _ (xs : List ℕ) (at n : ℕ) (room : at + 5 ≤ length xs) (g : length 
   stored-one h = record { text = written-small n h (stored xs at (48 + n) (at + 1) (omega arith) g refl); next = omega arith }
 
   module _ (tens : ℕ) (e : tens ≡ n / 10) (h : 10 ≤ n) where
-    pub stored-two : n < 100 → Near 5 xs at (decimal n) (set (set xs at (48 + tens)) (at + 1) (48 + n % 10)) (at + 2)
+    pub stored-two : n < 100 → Near 5 xs at (decimal n) (set (set xs at (48 + tens)) (at + 1) (48 + (n - tens * 10))) (at + 2)
     stored-two k =
         let l = length-set xs at (48 + n / 10) in
+        let d : n - tens * 10 ≡ n % 10 = omega (arith, e) in
         record {
-          text = (rw e (written-two n g h k (stored xs at (48 + n / 10) (at + 1) (omega arith) g refl)
+          text = (rw (d, e) (written-two n g h k (stored xs at (48 + n / 10) (at + 1) (omega arith) g refl)
               (stored (set xs at (48 + n / 10)) (at + 1) (48 + n % 10) (at + 2) (omega (arith, l)) (omega (arith, l)) (omega arith))));
           next = omega arith;
         }

@@ -49,7 +49,7 @@ fn put_each(out: &mut [u8], at: usize, indices: &[u16]) -> usize
     p
 }
 
-// A number where there is room for five digits.
+// A number where there is room for five digits. The second of two digits is what the tens leave: no division of its own.
 fn store_number(out: &mut [u8], at: usize, n: u16) -> usize
     requires { ⌜ at + 5 ≤ length (now out) ⌝ }
     ensures { λ r. ⌜ Near 5 (now (out .entry)) at (decimal n) (now (out .exit)) r ⌝ }
@@ -61,7 +61,7 @@ fn store_number(out: &mut [u8], at: usize, n: u16) -> usize
     let tens = n / 10;
     if n < 100 {
         out[at] = (48 + tens) as u8;
-        out[at + 1] = (48 + n % 10) as u8;
+        out[at + 1] = (48 + (n - tens * 10)) as u8;
         return at + 2;
     }
     if n < 1000 {

@@ -32,6 +32,12 @@ cast-out-2 c = search needs
 slice-write-out-2 : tie.Need-slice-write-out-2
 slice-write-out-2 c = search needs
 
+mul-out : tie.Need-mul-out
+mul-out c = search needs
+
+sub-out : tie.Need-sub-out
+sub-out c = search needs
+
 add-out-3 : tie.Need-add-out-3
 add-out-3 c = search needs
 
@@ -117,6 +123,8 @@ store-number-spec =
     add-out-2
     cast-out-2
     slice-write-out-2
+    mul-out
+    sub-out
     add-out-3
     cast-out-3
     add-out-4
