@@ -15,7 +15,9 @@ use Rattle.emit.specs.Text.{Written}
 use Rattle.emit.proofs.Laws.{written-append, written-nil}
 use Rattle.form.specs.Parts.{partsAt}
 use Rattle.form.proofs.Laws.{parts-last, parts-more}
+use Rattle.sheet.specs.Cells.{LineCut}
 use Rattle.sheet.specs.Sheet.{requestOf}
+use Rattle.cells.specs.declared.Line.{Line}
 use Rattle.header.specs.declared.Plan.{Plan}
 use Rattle.tally.specs.declared.Counts.{Counts}
 use Rattle.beginning.specs.declared.Answered.{Answered}
@@ -148,18 +150,17 @@ turn-full b₀ text xs is os at ys js ps b t p limit h g =
 
 -- ---- the rows of a text, counted where the counts stand
 
-module _ (plan : Plan) (ts₀ text xs is os : List ℕ) (at : ℕ) (ys js ps ts t : List ℕ) (p n : ℕ) (h : Turned (among plan ts₀) text xs is os at ys js ps (among plan ts) t p)
-    (f : Place t (indexOf 10 t) n) where
-  pub rows-more : (zs ks qs us : List ℕ) (a : Answered) → length os < 2 ^ 64 → (n ≡ length t → ⊥)
+module _ (plan : Plan) (ts₀ text xs is os : List ℕ) (at : ℕ) (ys js ps ts t : List ℕ) (p : ℕ) (h : Turned (among plan ts₀) text xs is os at ys js ps (among plan ts) t p) where
+  pub rows-more : (n : ℕ) → Place t (indexOf 10 t) n → (zs ks qs us : List ℕ) (a : Answered) → length os < 2 ^ 64 → (n ≡ length t → ⊥)
       → RowAnswered (requestOf plan (take (n - 0) t)) ys js ps p zs ks qs a → us ≡ withAnswer ts (a .number)
       → Turned (among plan ts₀) text xs is os at zs ks qs (among plan us) (take (length t - (n + 1)) (drop (n + 1) t)) (a .next)
-  rows-more zs ks qs us a g d w e =
+  rows-more n f zs ks qs us a g d w e =
       turn-more (among plan ts₀) text xs is os at ys js ps (among plan ts) t p n h f (among plan us) zs ks qs (a .next) g d
       (row-counted (among plan ts) (take (n - 0) t) ys js ps p zs ks qs a (counting us) w (ap counting e))
 
-  pub rows-last : (limit : ℕ) → n ≡ length t
+  pub rows-last : (starts : List ℕ) (l : Line) → LineCut t starts l → (limit : ℕ) → l .end ≡ length t
       → LinesAnswered (among plan ts₀) text xs is os at limit ys js ps (passedIn plan ts (record { used = length text - length t; next = p; whole = true }))
-  rows-last limit e = turn-last (among plan ts₀) text xs is os at ys js ps (among plan ts) t p n h f limit e
+  rows-last starts l f limit e = turn-last (among plan ts₀) text xs is os at ys js ps (among plan ts) t p (l .end) h (f .end) limit e
 
 pub rows-full : (plan : Plan) (ts₀ text xs is os : List ℕ) (at : ℕ) (ys js ps ts t : List ℕ) (p limit : ℕ)
     → Turned (among plan ts₀) text xs is os at ys js ps (among plan ts) t p → limit < p

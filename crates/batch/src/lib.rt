@@ -76,6 +76,41 @@ fn draw_row(
     forward::draw(class, swap, tail, count, sn1, sn2, sn3, sn4, line, index)
 }
 
+// A row that is cut into so many cells: its answer, written at a place of the output.
+fn answer_cut(
+    plan: Plan,
+    row: &[u8],
+    cells: usize,
+    starts: &[usize],
+    line: &mut [u8],
+    index: &mut [u16],
+    out: &mut [u8],
+    at: usize,
+) -> Answered
+    requires { ⌜ Cut (now row) (now starts) cells ⌝ }
+    ensures { λ r. ⌜ RowAnswered (requestOf plan (now (row .entry))) (now (line .entry)) (now (index .entry)) (now (out .entry)) at (now (line .exit)) (now (index .exit)) (now (out .exit)) r ⌝ }
+{
+    let asked = sheet::read_cut(plan, row, cells, starts);
+    if !asked.readable {
+        return put_unreadable(out, at);
+    }
+    let answer = draw_row(
+        plan,
+        row,
+        cells,
+        starts,
+        asked.swap,
+        asked.count,
+        line,
+        index,
+    );
+    let next = put_answer(out, at, answer, line, index);
+    Answered {
+        number: answer.number,
+        next,
+    }
+}
+
 // A row of the sheet: its answer, written at a place of the output.
 pub fn answer_row(
     plan: Plan,
@@ -89,25 +124,7 @@ pub fn answer_row(
 {
     let mut starts = [0usize; sheet::STARTS];
     let cells = sheet::cut(row, &mut starts);
-    let asked = sheet::read_cut(plan, row, cells, &starts);
-    if !asked.readable {
-        return put_unreadable(out, at);
-    }
-    let answer = draw_row(
-        plan,
-        row,
-        cells,
-        &starts,
-        asked.swap,
-        asked.count,
-        line,
-        index,
-    );
-    let next = put_answer(out, at, answer, line, index);
-    Answered {
-        number: answer.number,
-        next,
-    }
+    answer_cut(plan, row, cells, &starts, line, index, out, at)
 }
 
 // A batch after some lines, how much of their text they are, the place after what was written, and whether no LF is left in the text.
@@ -170,8 +187,8 @@ struct Passed {
     whole: bool,
 }
 
-// The rows of a text that end in LF, one by one, until what is written passes a limit. The answers are counted where the counts stand: no batch
-// is handed from row to row.
+// The rows of a text that end in LF, one by one, until what is written passes a limit. A row is cut while its LF is looked for, and the answers
+// are counted where the counts stand: no batch is handed from row to row.
 fn answer_rows(
     plan: Plan,
     times: &mut [u64],
@@ -187,7 +204,9 @@ fn answer_rows(
     let mut t = text;
     let mut p = at;
     while p <= limit {
-        let n = scan::find(t, b'\n');
+        let mut starts = [0usize; sheet::STARTS];
+        let found = sheet::cut_line(t, &mut starts);
+        let n = found.end;
         if n == t.len() {
             return Passed {
                 used: text.len() - t.len(),
@@ -196,7 +215,7 @@ fn answer_rows(
             };
         }
         let rest = &t[n + 1..];
-        let answered = answer_row(plan, &t[0..n], line, index, out, p);
+        let answered = answer_cut(plan, &t[0..n], found.cells, &starts, line, index, out, p);
         count_in(times, answered.number);
         p = answered.next;
         t = rest;

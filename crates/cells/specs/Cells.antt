@@ -7,6 +7,8 @@ use lib.ListN.{length, getD, take, drop}
 use Rattle.header.specs.declared.Plan.{Plan}
 use Rattle.header.specs.Header.{cellsOf}
 use Rattle.cellwords.specs.Words.{lastNonblank}
+use Rattle.scan.specs.Part.{part, Place, indexOf}
+use Rattle.cells.specs.declared.Line.{Line}
 
 -- a cell by its place; "a name left out counts as blank (no bytes)"
 unfoldable pub cellAt : ℕ → List (List ℕ) → List ℕ
@@ -36,3 +38,8 @@ pub record Between (row starts : List ℕ) (k : ℕ) : Type 0 where
 pub record Cut (row starts : List ℕ) (n : ℕ) : Type 0 where
   pub count : n ≡ length (cellsOf row)
   pub cells : (k : ℕ) → k + 1 < length starts → k < n → Between row starts k
+
+-- the line that a text begins with, up to its LF or to the end, is cut
+pub record LineCut (text starts : List ℕ) (r : Line) : Type 0 where
+  pub end : Place text (indexOf 10 text) (r .end)
+  pub cut : Cut (part 0 (r .end) text) starts (r .cells)

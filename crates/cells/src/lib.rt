@@ -8,7 +8,7 @@ use header::Plan;
 ghost use mathlib.Core.Path.{_≡_};
 ghost use lib.ListN.{set};
 ghost use Rattle.header.specs.Header.{cellsOf};
-ghost use Rattle.cells.specs.Cells.{cellAt, cellOf, Cut};
+ghost use Rattle.cells.specs.Cells.{cellAt, cellOf, Cut, LineCut};
 
 // Room for where each cell of a row of all columns starts, and for one place more.
 pub const STARTS: usize = 8;
@@ -40,6 +40,47 @@ pub fn cut(row: &[u8], starts: &mut [usize]) -> usize
             return n;
         }
         t = &t[end + 1..];
+    }
+}
+
+// A line that is cut: how many cells it has, and where it ends.
+pub struct Line {
+    pub cells: usize,
+    pub end: usize,
+}
+
+// The line that a text begins with, up to its LF or to the end, cut as a row is. Nearly every byte is above tab and LF, which one look tells.
+pub fn cut_line(text: &[u8], starts: &mut [usize]) -> Line
+    ensures { λ r. ⌜ LineCut (now (text .entry)) (now (starts .exit)) r ⌝ }
+{
+    keep(starts, 0, 0);
+    let mut i = 0;
+    let mut n = 0;
+    while i < text.len() {
+        let b = text[i];
+        if b'\n' < b {
+            i += 1;
+            continue;
+        }
+        if b == b'\t' {
+            i += 1;
+            n += 1;
+            keep(starts, n, i);
+            continue;
+        }
+        if b == b'\n' {
+            keep(starts, n + 1, i + 1);
+            return Line {
+                cells: n + 1,
+                end: i,
+            };
+        }
+        i += 1;
+    }
+    keep(starts, n + 1, i + 1);
+    Line {
+        cells: n + 1,
+        end: i,
     }
 }
 

@@ -8,6 +8,7 @@ pub use cells::STARTS;
 pub use cells::Swap;
 pub use cells::cell_of;
 pub use cells::cut;
+pub use cells::cut_line;
 pub use cells::swap_of;
 pub use cells::token_count;
 pub use header::CLASS;

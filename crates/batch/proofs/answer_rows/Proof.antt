@@ -17,11 +17,14 @@ abbrev μ-loop : tie.MeasureT-loop
 loop-holds : tie.Need-loop-holds Inv-loop μ-loop
 loop-holds c = (search (turn-start, arith), omega arith, omega arith, refl, refl, refl, refl)
 
-find-requires : tie.Need-find-requires Inv-loop μ-loop
-find-requires c κs = search needs
+slice-aggregate-cut-line : tie.Need-slice-aggregate-cut-line Inv-loop μ-loop
+slice-aggregate-cut-line c = search needs
 
-sub-t18 : tie.Need-sub-t18 Inv-loop μ-loop
-sub-t18 c = search needs
+cut-line-requires : tie.Need-cut-line-requires Inv-loop μ-loop
+cut-line-requires c κs = search needs
+
+sub-t22 : tie.Need-sub-t22 Inv-loop μ-loop
+sub-t22 c = search needs
 
 same-length : tie.Need-same-length Inv-loop μ-loop
 same-length c = search needs
@@ -50,17 +53,20 @@ part-rest-start c = search needs
 part-rest-end : tie.Need-part-rest-end Inv-loop μ-loop
 part-rest-end c = search needs
 
-sub-answer-row : tie.Need-sub-answer-row Inv-loop μ-loop
-sub-answer-row c = search needs
+sub-answer-cut : tie.Need-sub-answer-cut Inv-loop μ-loop
+sub-answer-cut c = search needs
 
-part-answer-row-start : tie.Need-part-answer-row-start Inv-loop μ-loop
-part-answer-row-start c = search needs
+part-answer-cut-start : tie.Need-part-answer-cut-start Inv-loop μ-loop
+part-answer-cut-start c = search needs
 
-part-answer-row-end : tie.Need-part-answer-row-end Inv-loop μ-loop
-part-answer-row-end c = search needs
+part-answer-cut-end : tie.Need-part-answer-cut-end Inv-loop μ-loop
+part-answer-cut-end c = search needs
 
-answer-row-requires : tie.Need-answer-row-requires Inv-loop μ-loop
-answer-row-requires c κs = search needs
+slice-aggregate-answer-cut : tie.Need-slice-aggregate-answer-cut Inv-loop μ-loop
+slice-aggregate-answer-cut c = search needs
+
+answer-cut-requires : tie.Need-answer-cut-requires Inv-loop μ-loop
+answer-cut-requires c κs = search needs
 
 count-in-requires : tie.Need-count-in-requires Inv-loop μ-loop
 count-in-requires c κs = search needs
@@ -71,8 +77,8 @@ loop-less c = search needs
 loop-again : tie.Need-loop-again Inv-loop μ-loop
 loop-again c = (search rows-more, omega arith, search needs, search needs, search needs, search needs, search needs)
 
-sub-t36 : tie.Need-sub-t36 Inv-loop μ-loop
-sub-t36 c = search needs
+sub-t42 : tie.Need-sub-t42 Inv-loop μ-loop
+sub-t42 c = search needs
 
 same-length-5 : tie.Need-same-length-5 Inv-loop μ-loop
 same-length-5 c = search needs
@@ -96,8 +102,9 @@ answer-rows-spec =
     Inv-loop
     μ-loop
     loop-holds
-    find-requires
-    sub-t18
+    slice-aggregate-cut-line
+    cut-line-requires
+    sub-t22
     same-length
     same-length-2
     same-length-3
@@ -107,14 +114,15 @@ answer-rows-spec =
     sub-rest
     part-rest-start
     part-rest-end
-    sub-answer-row
-    part-answer-row-start
-    part-answer-row-end
-    answer-row-requires
+    sub-answer-cut
+    part-answer-cut-start
+    part-answer-cut-end
+    slice-aggregate-answer-cut
+    answer-cut-requires
     count-in-requires
     loop-less
     loop-again
-    sub-t36
+    sub-t42
     same-length-5
     same-length-6
     same-length-7
