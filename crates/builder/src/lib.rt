@@ -25,15 +25,16 @@ pub struct Variables(pub u32);
 
 pub struct Labels(pub u32);
 
-// The place in the line; the counters; the places in the slices of the indices and of the rows; and how many chains stand there. Where each
-// of them stands is noted in a lent array.
+// The places in the slice of the indices, in the line and in the slice of the rows; the counters; and how many chains stand there. Where each of
+// them stands is noted in a lent array. What a text leaves as it is does not stand side by side: two such fields are copied as one, and that
+// waits for the stores of both.
 pub struct Builder {
-    pub at: usize,
-    pub atoms: Atoms,
-    pub variables: Variables,
-    pub labels: Labels,
     pub used: usize,
+    pub at: usize,
     pub rows: usize,
+    pub variables: Variables,
+    pub atoms: Atoms,
+    pub labels: Labels,
     pub count: usize,
 }
 

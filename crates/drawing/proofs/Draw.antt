@@ -38,18 +38,18 @@ module _ {c : Class} {swap : Bool} {t : List ℕ} {k : ℕ} {x : Chains} where
 
   module _ {vs zs ns js rs ss os ps : List ℕ} {r : Line} where
     line-is : LineBuilt c swap t k x (rooms vs ns rs os) (rooms zs js ss ps) r → (ds : List Chain) → Ready c t k x ds → Roomy (placed c t ds) (rooms vs ns rs os)
-        → LineIs c swap t ds (rooms vs ns rs os) (rooms zs js ss ps) (r .builder)
+        → LineIs c swap t ds (rooms vs ns rs os) (rooms zs js ss ps) r
     line-is h ds w m = h .line ds (w .tail) (w .stood) (w .fits) (w .told) m
 
-    built : LineBuilt c swap t k x (rooms vs ns rs os) (rooms zs js ss ps) r → (ds : List Chain) → LineIs c swap t ds (rooms vs ns rs os) (rooms zs js ss ps) (r .builder)
-        → Built c swap t ds vs zs (r .builder .at) (r .builder .count) (chainsIn ps) (r .order) (r .sites) js (r .builder .used)
+    built : LineBuilt c swap t k x (rooms vs ns rs os) (rooms zs js ss ps) r → (ds : List Chain) → LineIs c swap t ds (rooms vs ns rs os) (rooms zs js ss ps) r
+        → Built c swap t ds vs zs (r .at) (r .count) (chainsIn ps) (r .order) (r .sites) js (r .used)
     built h ds i = record { text = i .text; places = i .chains; order = h .order; sites = h .sites; index = i .index }
 
     -- the indices are built in room of their own, and are then put in order
     pub drawn-some : (ls : Lists) {is qs : List ℕ} {d : ℕ} → LineBuilt c swap t k x (rooms vs ns rs os) (rooms zs js ss ps) r → 255 * min (x .count) 4 ≤ length ns → length rs ≡ 64
         → length vs < 2 ^ 63 → ShortIs c swap t k x (length vs) (length is) false → ListsHeld (listsAt (chainsIn ps) (placesIn (r .order))) ls
         → Written is 0 (indicesAt (chainsIn ps) js (placesIn (r .order))) qs d
-        → ChainsDrawn c swap t k x vs is zs qs (record { number = 0; token = 0; length = r .builder .at; lists = ls; sites = r .sites })
+        → ChainsDrawn c swap t k x vs is zs qs (record { number = 0; token = 0; length = r .at; lists = ls; sites = r .sites })
     drawn-some ls h n m u f g p =
         record {
           drawn = λ ds w.
@@ -60,7 +60,7 @@ module _ {c : Class} {swap : Bool} {t : List ℕ} {k : ℕ} {x : Chains} where
     -- one chain: its indices are the list, and are built in their slice too
     pub drawn-one : (ls : Lists) → x .count ≡ 1 → LineBuilt c swap t k x (rooms vs ns rs os) (rooms zs js ss ps) r → length rs ≡ 16 → length vs < 2 ^ 63
         → ShortIs c swap t k x (length vs) (length ns) false → ListsHeld (listsAt (chainsIn ps) (placesIn (r .order))) ls
-        → ChainsDrawn c swap t k x vs ns zs js (record { number = 0; token = 0; length = r .builder .at; lists = ls; sites = r .sites })
+        → ChainsDrawn c swap t k x vs ns zs js (record { number = 0; token = 0; length = r .at; lists = ls; sites = r .sites })
     drawn-one ls e h m u f g =
         record {
           drawn = λ ds w.

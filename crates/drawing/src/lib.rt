@@ -57,14 +57,13 @@ fn draw_one(
         shapes,
         lists,
     );
-    let b = built.builder;
     let order = built.order;
     let sites = built.sites;
     let listed = listing::lists_by_sn(&notes, order);
     Answer {
         number: 0,
         token: 0,
-        length: b.at,
+        length: built.at,
         lists: listed,
         sites,
     }
@@ -103,7 +102,6 @@ fn draw_some(
         shapes,
         lists,
     );
-    let b = built.builder;
     let order = built.order;
     let sites = built.sites;
     let listed = listing::lists_by_sn(&notes, order);
@@ -111,7 +109,7 @@ fn draw_some(
     Answer {
         number: 0,
         token: 0,
-        length: b.at,
+        length: built.at,
         lists: listed,
         sites,
     }

@@ -73,7 +73,7 @@ line-is c swap t ds s numbers rows n m h w e f =
 -- THE LINE of a class: its text, and what follows it
 pub line-built : {c : Class} {swap : Bool} {t : List ℕ} {k : ℕ} {x : Chains} {xs ys zs is js rs ss ns ms : List ℕ} {b q : Builder} {o : Rising} {s : Sites} → Short (rooms xs is rs ns)
     → ClassBuilt c t k x (rooms xs is rs ns) (rooms ys js ss ms) b → InOrder (take (b .count) (chainsIn ms)) o → SitesHeld (sitesAt (chainsIn ms) (placesIn o)) s
-    → Finished swap s js ss ms ys b zs q → LineBuilt c swap t k x (rooms xs is rs ns) (rooms zs js ss ms) (record { builder = q; order = o; sites = s })
+    → Finished swap s js ss ms ys b zs q → LineBuilt c swap t k x (rooms xs is rs ns) (rooms zs js ss ms) (record { at = q .at; used = q .used; count = q .count; order = o; sites = s })
 unfolding placed textOf placedIn
 line-built {c} {swap} {t} {k} {x} {xs} {ys} {zs} {is} {js} {rs} {ss} {ns} {ms} {b} {q} {o} {s} g w i h f =
     record {
@@ -90,7 +90,7 @@ line-built {c} {swap} {t} {k} {x} {xs} {ys} {zs} {is} {js} {rs} {ss} {ns} {ms} {
     few = few-sites (chainsIn ms) (b .count) o s i h
 
     line : (ds : List Chain) → (hasTail c ≡ true → TailOf t k) → StoodIn c ds x → FitsAll t ds (elements c) → Each Told (placed c t ds)
-        → Roomy (placed c t ds) (rooms xs is rs ns) → LineIs c swap t ds (rooms xs is rs ns) (rooms zs js ss ms) q
+        → Roomy (placed c t ds) (rooms xs is rs ns) → LineIs c swap t ds (rooms xs is rs ns) (rooms zs js ss ms) (record { at = q .at; used = q .used; count = q .count; order = o; sites = s })
     line ds a d e p m =
         let u = w .built ds a d e in
         let own : Written is 0 (gathered indicesOf (placed c t ds)) js (b .used) = rw (index-lists (placed c t ds) p) at (u .index) in

@@ -17,15 +17,14 @@ use Rattle.placed.specs.Notes.{chainsIn}
 use Rattle.placed.specs.Fragment.{noted, rowsOf, gathered, Told}
 use Rattle.listing.specs.Order.{InOrder}
 use Rattle.listing.specs.Sites.{allSiteList, SitesAre}
-use Rattle.builder.specs.declared.Builder.{Builder}
 use Rattle.builder.specs.Build.{Rooms, Sizes}
 use Rattle.templates.specs.Templates.{FitsAll, TailOf}
 use Rattle.templates.specs.Classes.{StoodIn}
 use Rattle.lines.specs.declared.Line.{Line}
 
--- the chains of a builder, in the order of the text, by what is noted of them
-abbrev pub chainsOf : Builder → List ℕ → List Placed
-chainsOf b ns = take (b .count) (chainsIn ns)
+-- the chains of a line, in the order of the text, by what is noted of them
+abbrev pub chainsOf : Line → List ℕ → List Placed
+chainsOf r ns = take (r .count) (chainsIn ns)
 
 -- there is room for the indices and rows of some chains
 pub record Roomy (ps : List request.Placed) (xs : Rooms) : Type 0 where
@@ -33,17 +32,17 @@ pub record Roomy (ps : List request.Placed) (xs : Rooms) : Type 0 where
   pub rows : length (gathered rowsOf ps) ≤ length (xs .rows)
 
 -- the line is written from the first place on; its chains are noted, and their indices end to end in the slice
-pub record LineIs (c : Class) (swap : Bool) (t : List ℕ) (ds : List Chain) (xs ys : Rooms) (b : Builder) : Type 0 where
-  pub text : Written (xs .text) 0 (lineOf c swap t ds) (ys .text) (b .at)
-  pub chains : chainsOf b (ys .notes) ≡ map noted (placed c t ds)
-  pub used : b .used ≡ length (gathered indicesOf (placed c t ds))
-  pub index : take (b .used) (ys .index) ≡ gathered indicesOf (placed c t ds)
-  pub indices : Written (xs .index) 0 (gathered indicesOf (placed c t ds)) (ys .index) (b .used)
+pub record LineIs (c : Class) (swap : Bool) (t : List ℕ) (ds : List Chain) (xs ys : Rooms) (r : Line) : Type 0 where
+  pub text : Written (xs .text) 0 (lineOf c swap t ds) (ys .text) (r .at)
+  pub chains : chainsOf r (ys .notes) ≡ map noted (placed c t ds)
+  pub used : r .used ≡ length (gathered indicesOf (placed c t ds))
+  pub index : take (r .used) (ys .index) ≡ gathered indicesOf (placed c t ds)
+  pub indices : Written (xs .index) 0 (gathered indicesOf (placed c t ds)) (ys .index) (r .used)
 
 -- the line of a class
 pub record LineBuilt (c : Class) (swap : Bool) (t : List ℕ) (k : ℕ) (x : Chains) (xs ys : Rooms) (r : Line) : Type 0 where
   pub sizes : Sizes xs ys
-  pub order : InOrder (chainsOf (r .builder) (ys .notes)) (r .order)
-  pub sites : SitesAre (allSiteList (chainsOf (r .builder) (ys .notes))) (r .sites)
+  pub order : InOrder (chainsOf r (ys .notes)) (r .order)
+  pub sites : SitesAre (allSiteList (chainsOf r (ys .notes))) (r .sites)
   pub line : (ds : List Chain) → (hasTail c ≡ true → TailOf t k) → StoodIn c ds x → FitsAll t ds (elements c) → Each Told (placed c t ds)
-      → Roomy (placed c t ds) xs → LineIs c swap t ds xs ys (r .builder)
+      → Roomy (placed c t ds) xs → LineIs c swap t ds xs ys r

@@ -1,5 +1,4 @@
 // The line of a class: its template, and what follows the text. The chains are put in order by sn once; their sites are made once.
-use builder::Builder;
 use listing::Rising;
 use listing::Sites;
 use placed::NOTE_ROOM;
@@ -9,9 +8,12 @@ ghost use Rattle.shapes.specs.Shapes.{chainsKept};
 ghost use Rattle.builder.specs.Build.{rooms};
 ghost use Rattle.lines.specs.Line.{LineBuilt};
 
-// A line that is written: where its builder stands, the places of its chains by rising sn, and its sites.
+// A line that is written: its length, how many indices its chains have, how many chains there are, their places by rising sn, and its sites.
+// The builder itself is left behind: what comes back is only what is asked for.
 pub struct Line {
-    pub builder: Builder,
+    pub at: usize,
+    pub used: usize,
+    pub count: usize,
     pub order: Rising,
     pub sites: Sites,
 }
@@ -47,9 +49,11 @@ pub fn build_line(
     );
     let order = listing::by_sn(notes, b.count);
     let sites = listing::sites_by_sn(notes, order);
-    let builder = b.finish(out, swap, sites, index, rows, notes);
+    let c = b.finish(out, swap, sites, index, rows, notes);
     Line {
-        builder,
+        at: c.at,
+        used: c.used,
+        count: c.count,
         order,
         sites,
     }

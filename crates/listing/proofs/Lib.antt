@@ -1,3 +1,3 @@
 pub mod PlacedLaws
-pub mod SitesLaws
 pub mod ListsLaws
+pub mod SitesLaws

@@ -53,7 +53,7 @@ list-here ps k p d m h e = lists-more ps (k ∷ 0 ∷ 0 ∷ 0 ∷ []) 0 1 0 (rep
 pub list-past : (ps : List Placed) (k : ℕ) → length ps ≡ 4 → 4 ≤ k → Filled noList (listsAt ps (k ∷ [])) 0 (replicate 4 noList)
 list-past ps k m h = lists-past ps (k ∷ 0 ∷ 0 ∷ 0 ∷ []) 0 1 0 (replicate 4 noList) m refl (omega arith) (omega arith) h (lists-first ps)
 
-first-alone : (l : List ℕ) → 0 < length l → take 1 l ≡ getD l 0 0 ∷ []
+pub first-alone : (l : List ℕ) → 0 < length l → take 1 l ≡ getD l 0 0 ∷ []
 first-alone [] h = absurd (omega arith)
 first-alone (x ∷ l) h = refl
 
@@ -72,7 +72,7 @@ lists-here ps a b x y d m h g e f =
     let one : Filled noList (listsAt ps (a ∷ [])) 1 (x ∷ noList ∷ noList ∷ noList ∷ []) = rw e (list-here ps a (getD ps a d) d m h refl) in
     rw f (lists-more ps (a ∷ b ∷ 0 ∷ 0 ∷ []) 1 2 1 (x ∷ noList ∷ noList ∷ noList ∷ []) (getD ps b d) d m refl (omega arith) (omega arith) g (omega arith) refl one)
 
-first-two : (l : List ℕ) → 1 < length l → take 2 l ≡ getD l 0 0 ∷ getD l 1 0 ∷ []
+pub first-two : (l : List ℕ) → 1 < length l → take 2 l ≡ getD l 0 0 ∷ getD l 1 0 ∷ []
 first-two [] h = absurd (omega arith)
 first-two (x ∷ []) h = absurd (omega arith)
 first-two (x ∷ y ∷ l) h = refl

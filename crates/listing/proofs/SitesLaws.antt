@@ -38,6 +38,7 @@ use Rattle.rising.proofs.Sorted.{picked-sorted}
 use Rattle.listing.specs.declared.Sites.{Sites}
 use Rattle.listing.specs.Sites.{noSite, siteIn, hasSite, siteList, sitesAt, allSiteList, SitesAre, SitesHeld}
 use Rattle.listing.proofs.PlacedLaws.{each-all, Sited, sns-told, places-few, sites-placed}
+use Rattle.listing.proofs.ListsLaws.{first-alone, first-two}
 
 -- what is counted are the sites, as far as there is room
 pub sites-held : {l : List Site} {r : Sites} → SitesAre l r → take (r .count) (r .items) ≡ take 4 l
@@ -149,6 +150,51 @@ module _ (ps : List Placed) (l : List ℕ) (i n : ℕ) where
 pub sites-first : (ps : List Placed) → Filled noSite (sitesAt ps []) 0 (replicate 4 noSite)
 unfolding sitesAt gathered picked
 sites-first ps = filled-none noSite noSite
+
+-- ---- the site of one chain
+
+module _ (ps : List Placed) (k : ℕ) where
+  pub site-here : (p d : Placed) (s : Site) (b : Bool) → length ps ≡ 4 → k < 4 → p ≡ getD ps k d → s ≡ record { sn = p .sn; atom = p .site } → b ≡ hasSite (p .role) → b ≡ true
+      → Filled noSite (sitesAt ps (k ∷ [])) 1 (s ∷ noSite ∷ noSite ∷ noSite ∷ [])
+  site-here p d s b m h e z f g =
+      rw z (sites-more ps (k ∷ 0 ∷ 0 ∷ 0 ∷ []) 0 1 0 (replicate 4 noSite) p d b m refl (omega arith) (omega arith) h (omega arith) e (sites-first ps) f g)
+
+  pub site-lacks : (p d : Placed) (b : Bool) → length ps ≡ 4 → k < 4 → p ≡ getD ps k d → b ≡ hasSite (p .role) → b ≡ false → Filled noSite (sitesAt ps (k ∷ [])) 0 (replicate 4 noSite)
+  site-lacks p d b m h e f g = sites-base ps (k ∷ 0 ∷ 0 ∷ 0 ∷ []) 0 1 0 (replicate 4 noSite) p d b m refl (omega arith) (omega arith) h e (sites-first ps) f g
+
+  pub site-past : length ps ≡ 4 → 4 ≤ k → Filled noSite (sitesAt ps (k ∷ [])) 0 (replicate 4 noSite)
+  site-past m h = sites-past ps (k ∷ 0 ∷ 0 ∷ 0 ∷ []) 0 1 0 (replicate 4 noSite) m refl (omega arith) (omega arith) h (sites-first ps)
+
+pub site-alone : (ps : List Placed) (l : List ℕ) (n count q : ℕ) (xs : List Site) → length l ≡ 4 → n ≡ min count 4 → n ≡ 1 → Filled noSite (sitesAt ps (getD l 0 0 ∷ [])) q xs
+    → Filled noSite (sitesAt ps (take count l)) q xs
+site-alone ps l n count q xs k e f h = rw (← take-places l 4 count n k e, f, first-alone l (omega arith)) h
+
+-- ---- the sites of two chains
+
+module _ (ps : List Placed) (a b : ℕ) (p q d : Placed) (u v : Bool) where
+  pub sites-both : (s t : Site) → length ps ≡ 4 → a < 4 → b < 4 → p ≡ getD ps a d → q ≡ getD ps b d → s ≡ record { sn = p .sn; atom = p .site } → t ≡ record { sn = q .sn; atom = q .site }
+      → u ≡ hasSite (p .role) → v ≡ hasSite (q .role) → u ≡ true → v ≡ true → Filled noSite (sitesAt ps (a ∷ b ∷ [])) 2 (s ∷ t ∷ noSite ∷ noSite ∷ [])
+  sites-both s t m h g e f x y i j k l =
+      rw y (sites-more ps (a ∷ b ∷ 0 ∷ 0 ∷ []) 1 2 1 (s ∷ noSite ∷ noSite ∷ noSite ∷ []) q d v m refl (omega arith) (omega arith) g (omega arith) f (site-here ps a p d s u m h e x i k) j l)
+
+  pub sites-lower : (s : Site) → length ps ≡ 4 → a < 4 → b < 4 → p ≡ getD ps a d → q ≡ getD ps b d → s ≡ record { sn = p .sn; atom = p .site }
+      → u ≡ hasSite (p .role) → v ≡ hasSite (q .role) → u ≡ true → v ≡ false → Filled noSite (sitesAt ps (a ∷ b ∷ [])) 1 (s ∷ noSite ∷ noSite ∷ noSite ∷ [])
+  sites-lower s m h g e f x i j k l =
+      sites-base ps (a ∷ b ∷ 0 ∷ 0 ∷ []) 1 2 1 (s ∷ noSite ∷ noSite ∷ noSite ∷ []) q d v m refl (omega arith) (omega arith) g f (site-here ps a p d s u m h e x i k) j l
+
+  pub sites-upper : (t : Site) → length ps ≡ 4 → a < 4 → b < 4 → p ≡ getD ps a d → q ≡ getD ps b d → t ≡ record { sn = q .sn; atom = q .site }
+      → u ≡ hasSite (p .role) → v ≡ hasSite (q .role) → u ≡ false → v ≡ true → Filled noSite (sitesAt ps (a ∷ b ∷ [])) 1 (t ∷ noSite ∷ noSite ∷ noSite ∷ [])
+  sites-upper t m h g e f y i j k l =
+      rw y (sites-more ps (a ∷ b ∷ 0 ∷ 0 ∷ []) 1 2 0 (replicate 4 noSite) q d v m refl (omega arith) (omega arith) g (omega arith) f (site-lacks ps a p d u m h e i k) j l)
+
+  pub sites-neither : length ps ≡ 4 → a < 4 → b < 4 → p ≡ getD ps a d → q ≡ getD ps b d
+      → u ≡ hasSite (p .role) → v ≡ hasSite (q .role) → u ≡ false → v ≡ false → Filled noSite (sitesAt ps (a ∷ b ∷ [])) 0 (replicate 4 noSite)
+  sites-neither m h g e f i j k l =
+      sites-base ps (a ∷ b ∷ 0 ∷ 0 ∷ []) 1 2 0 (replicate 4 noSite) q d v m refl (omega arith) (omega arith) g f (site-lacks ps a p d u m h e i k) j l
+
+pub sites-pair : (ps : List Placed) (l : List ℕ) (n count q : ℕ) (xs : List Site) → length l ≡ 4 → n ≡ min count 4 → n ≡ 2 → Filled noSite (sitesAt ps (getD l 0 0 ∷ getD l 1 0 ∷ [])) q xs
+    → Filled noSite (sitesAt ps (take count l)) q xs
+sites-pair ps l n count q xs k e f h = rw (← take-places l 4 count n k e, f, first-two l (omega arith)) h
 
 -- the sites of the chains that are in order
 pub sites-in-order : (l : List Placed) (count : ℕ) (o : Rising) (r : Sites) → InOrder (take count l) o → SitesHeld (sitesAt l (placesIn o)) r → SitesAre (allSiteList (take count l)) r

@@ -61,17 +61,17 @@ module _ (c : Class) (swap : Bool) (t : List ℕ) (ds : List Chain) where
 
 module _ {c : Class} {swap : Bool} {t : List ℕ} {k : ℕ} {x : Chains} {vs zs ns js rs ss os ps : List ℕ} {r : Line} where
   measured : LineBuilt c swap t k x (rooms vs ns rs os) (rooms zs js ss ps) r → length ns ≡ 1020 → length rs ≡ 64 → (ds : List Chain) → Ready c t k x ds
-      → LineIs c swap t ds (rooms vs ns rs os) (rooms zs js ss ps) (r .builder)
+      → LineIs c swap t ds (rooms vs ns rs os) (rooms zs js ss ps) r
   measured h n m ds w =
       h .line ds (w .tail) (w .stood) (w .fits) (w .told) (record { index = omega (arith, n, w .index, w .tokens); rows = omega (arith, m, w .rows, w .tokens) })
 
-  pub short-line : {n m : ℕ} → LineBuilt c swap t k x (rooms vs ns rs os) (rooms zs js ss ps) r → length ns ≡ 1020 → length rs ≡ 64 → n < r .builder .at
+  pub short-line : {n m : ℕ} → LineBuilt c swap t k x (rooms vs ns rs os) (rooms zs js ss ps) r → length ns ≡ 1020 → length rs ≡ 64 → n < r .at
       → ShortIs c swap t k x n m true
   short-line {n} {m} h e f l =
       record { is = λ ds w. sym (short-by-line c swap t ds n m (omega (arith, l, measured h e f ds w .text .next, least (length (lineOf c swap t ds))))) }
 
   pub short-index : {n m : ℕ} → LineBuilt c swap t k x (rooms vs ns rs os) (rooms zs js ss ps) r → length ns ≡ 1020 → length rs ≡ 64 → n < 2 ^ 63
-      → r .builder .at ≤ n → ShortIs c swap t k x n m (ltb m (r .builder .used))
+      → r .at ≤ n → ShortIs c swap t k x n m (ltb m (r .used))
   short-index {n} {m} h e f u l =
       record {
         is = λ ds w.

@@ -63,11 +63,10 @@ fn is_measured_short(
         shapes,
         lists,
     );
-    let b = built.builder;
-    if line.len() < b.at {
+    if line.len() < built.at {
         return true;
     }
-    index.len() < b.used
+    index.len() < built.used
 }
 
 // Whether a slice is too short for a request. Of both only the lengths are looked at.

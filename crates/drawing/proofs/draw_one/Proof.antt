@@ -22,7 +22,7 @@ same-length-2 c = search needs
 
 returns : tie.Need-returns
 returns c =
-    let built = c .before .before .before .before .before .before .before .before .before .before in
+    let built = c .before .before .before .before .before .before .before .before .before in
     let start = built .before .before .before .before .before .before .before .before .before in
     drawn-one _ (start .pre .0) (built .build-line .ensures) refl (omega (arith, start .good .0 .1)) (start .pre .1) (c .lists-by-sn .ensures)
 

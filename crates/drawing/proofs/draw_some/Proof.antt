@@ -30,7 +30,7 @@ returns : tie.Need-returns
 returns c =
     let written = c .before .before in
     let listed = written .before .before .before .before in
-    let built = listed .before .before .before .before .before .before .before .before .before .before in
+    let built = listed .before .before .before .before .before .before .before .before .before in
     let start = built .before .before .before .before .before .before .before .before .before .before in
     drawn-some _ (built .build-line .ensures) (start .pre .0) refl (omega (arith, start .good .0 .1)) (start .pre .1) (listed .lists-by-sn .ensures) (written .write-indices .ensures)
 

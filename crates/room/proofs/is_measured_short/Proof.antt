@@ -18,10 +18,10 @@ build-line-requires : tie.Need-build-line-requires
 build-line-requires c κs = search needs
 
 returns : tie.Need-returns
-returns c = short-line (c .before .before .before .before .before .before .build-line .ensures) refl refl (c .if1 .taken)
+returns c = short-line (c .before .before .before .before .before .build-line .ensures) refl refl (c .if1 .taken)
 
 returns-2 : tie.Need-returns-2
-returns-2 c = short-index (c .before .before .before .before .before .before .before .build-line .ensures) refl refl (omega (arith, c .before .before .before .before .before .before .before .before .before .before .before .before .before .before .before .before .good .0 .1)) (c .before .if1 .left)
+returns-2 c = short-index (c .before .before .before .before .before .before .build-line .ensures) refl refl (omega (arith, c .before .before .before .before .before .before .before .before .before .before .before .before .before .before .before .good .0 .1)) (c .before .if1 .left)
 
 pub is-measured-short-spec : {M : Type 1} → statement M
 is-measured-short-spec =
