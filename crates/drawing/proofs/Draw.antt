@@ -1,6 +1,6 @@
 -- Laws of the drawing's ways out: a slice is too short, or line and indices are built where they are to stand.
 -- Assumes nothing.
-use Prim.Native.Nat.{ℕ, _*_, _≤_, _<_, _^_, min}
+use Prim.Native.Nat.{ℕ, _*_, _≤_, _<_, _^_}
 use native.Mathlib.Omega.{arith}
 use mathlib.Core.Path.{_≡_, sym, _∙_}
 use mathlib.Core.Bool.{Bool, true, false}
@@ -9,6 +9,7 @@ use lib.ListN.{length}
 use Rattle.emit.specs.Text.{Written}
 use Rattle.record.specs.Chain.{Chain}
 use Rattle.drawable.specs.Chains.{Chains}
+use Rattle.shapes.specs.Shapes.{chainsKept}
 use Rattle.template.specs.declared.Class.{Class}
 use Rattle.template.specs.Request.{placed, indicesOf, indexOf}
 use Rattle.builder.specs.Build.{rooms}
@@ -16,17 +17,20 @@ use Rattle.placed.specs.Notes.{chainsIn}
 use Rattle.placed.specs.Fragment.{gathered}
 use Rattle.rising.specs.Order.{placesIn}
 use Rattle.listing.specs.declared.Lists.{Lists}
+use Rattle.listing.proofs.PlacedLaws.{all-each}
 use Rattle.listing.specs.Lists.{listsAt, ListsHeld}
 use Rattle.indices.specs.Index.{indicesAt}
 use Rattle.lines.specs.declared.Line.{Line}
 use Rattle.lines.specs.Line.{Roomy, LineIs, LineBuilt}
+use Rattle.longest.specs.Covered.{Slight}
+use Rattle.longest.proofs.Stood.{slight-placed}
 use Rattle.answer.specs.declared.Answer.{Answer}
 use Rattle.answer.specs.Answer.{refusal}
 use Rattle.room.specs.Ready.{Ready, ShortIs}
 use Rattle.room.proofs.Index.{index-length, index-alone}
 use Rattle.room.proofs.Laws.{index-room}
 use Rattle.drawing.specs.Built.{Built}
-use Rattle.drawing.specs.Draw.{ChainsDrawn}
+use Rattle.drawing.specs.Draw.{ChainsDrawn, IndexRoom}
 use Rattle.drawing.proofs.Answered.{short-answer, answered, indices-written}
 
 module _ {c : Class} {swap : Bool} {t : List ℕ} {k : ℕ} {x : Chains} where
@@ -46,14 +50,14 @@ module _ {c : Class} {swap : Bool} {t : List ℕ} {k : ℕ} {x : Chains} where
     built h ds i = record { text = i .text; places = i .chains; order = h .order; sites = h .sites; index = i .index }
 
     -- the indices are built in room of their own, and are then put in order
-    pub drawn-some : (ls : Lists) {is qs : List ℕ} {d : ℕ} → LineBuilt c swap t k x (rooms vs ns rs os) (rooms zs js ss ps) r → 255 * min (x .count) 4 ≤ length ns → length rs ≡ 64
+    pub drawn-some : (ls : Lists) {is qs : List ℕ} {d : ℕ} → LineBuilt c swap t k x (rooms vs ns rs os) (rooms zs js ss ps) r → IndexRoom c t k x (length ns) → length rs ≡ 64
         → length vs < 2 ^ 63 → ShortIs c swap t k x (length vs) (length is) false → ListsHeld (listsAt (chainsIn ps) (placesIn (r .order))) ls
         → Written is 0 (indicesAt (chainsIn ps) js (placesIn (r .order))) qs d
         → ChainsDrawn c swap t k x vs is zs qs (record { number = 0; token = 0; length = r .at; lists = ls; sites = r .sites })
     drawn-some ls h n m u f g p =
         record {
           drawn = λ ds w.
-              let b = built h ds (line-is h ds w (record { index = omega (arith, n, w .index, w .tokens); rows = omega (arith, m, w .rows, w .tokens) })) in
+              let b = built h ds (line-is h ds w (record { index = n .room ds w; rows = omega (arith, m, w .rows, w .tokens) })) in
               answered b ls u (sym (f .is ds w)) g (indices-written b p) (b .text .elements);
         }
 
@@ -69,3 +73,12 @@ module _ {c : Class} {swap : Bool} {t : List ℕ} {k : ℕ} {x : Chains} where
               let same : indexOf c t ds ≡ gathered indicesOf (placed c t ds) = index-alone c t ds (omega (arith, e, w .few)) in
               answered (built h ds i) ls u (sym (f .is ds w)) g (rw same (i .indices .elements)) (i .text .elements);
         }
+
+-- room for four of the longest chains
+pub long-room : {c : Class} {t : List ℕ} {k : ℕ} {x : Chains} → IndexRoom c t k x 1020
+long-room = record { room = λ ds w. omega (arith, w .index, w .tokens) }
+
+-- room for four chains of which none is long
+pub slight-room : {c : Class} {t : List ℕ} {k count : ℕ} {ns : List ℕ} (l : List ℕ) → Slight 30 count ns → IndexRoom c t k (chainsKept count ns l) 128
+slight-room {c} {t} {k} {count} {ns} l h =
+    record { room = λ ds w. omega (arith, w .lists 30 (all-each (λ p. p .chain .carbon ≤ 30) (placed c t ds) (slight-placed 30 c t ds count ns l (w .stood) h)), w .tokens) }

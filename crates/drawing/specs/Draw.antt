@@ -1,10 +1,13 @@
 -- What the drawing leaves, with the chains of the tokens at hand. Assumes nothing.
-use Prim.Native.Nat.{ℕ}
+use Prim.Native.Nat.{ℕ, _≤_}
 use mathlib.Core.Bool.{Bool}
 use mathlib.Core.List.{List}
+use lib.ListN.{length}
 use Rattle.record.specs.Chain.{Chain}
 use Rattle.drawable.specs.Chains.{Chains}
 use Rattle.template.specs.declared.Class.{Class}
+use Rattle.template.specs.Request.{placed, indicesOf}
+use Rattle.placed.specs.Fragment.{gathered}
 use Rattle.judge.specs.Verdict.{Drawable}
 use Rattle.answer.specs.declared.Answer.{Answer}
 use Rattle.answer.specs.Answer.{Answers}
@@ -13,3 +16,7 @@ use Rattle.room.specs.Ready.{Ready}
 -- the answer to every request whose chains these are
 pub record ChainsDrawn (c : Class) (swap : Bool) (t : List ℕ) (k : ℕ) (x : Chains) (xs is ys js : List ℕ) (a : Answer) : Type 0 where
   pub drawn : (ds : List Chain) → Ready c t k x ds → Answers (Drawable c ds) swap t xs is ys js a
+
+-- n numbers are room for the indices of every request whose chains these are
+pub record IndexRoom (c : Class) (t : List ℕ) (k : ℕ) (x : Chains) (n : ℕ) : Type 0 where
+  pub room : (ds : List Chain) → Ready c t k x ds → length (gathered indicesOf (placed c t ds)) ≤ n

@@ -10,17 +10,17 @@ use shapes::SHAPE_ROOM;
 use template::Class;
 ghost use mathlib.Core.Path.{_≡_};
 ghost use mathlib.Core.Bool.{false};
-ghost use Prim.Native.Nat.{_*_, _≤_, min};
 ghost use lib.ListN.{length};
 ghost use Rattle.shapes.specs.Shapes.{chainsKept};
+ghost use Rattle.longest.specs.Covered.{Slight};
 ghost use Rattle.room.specs.Ready.{ShortIs};
-ghost use Rattle.drawing.specs.Draw.{ChainsDrawn};
+ghost use Rattle.drawing.specs.Draw.{ChainsDrawn, IndexRoom};
 
 // A slice is shorter than needed.
 pub const SHORT_SLICE: u16 = 41;
 
-// Room for the indices of two chains.
-const PAIR_ROOM: usize = 510;
+// Room for the indices of four chains that are not long, with some to spare: near the end of the slice a chain is written the slow way.
+const SLIGHT_ROOM: usize = 128;
 
 // Room for the rows of the floating groups of one chain.
 const ROW_MOST: usize = 16;
@@ -75,15 +75,15 @@ fn draw_some(
     line: &mut [u8],
     index: &mut [u16],
     numbers: &mut [u16],
+    count: usize,
+    shapes: &[u64; SHAPE_ROOM],
     class: Class,
     swap: bool,
     tail: &[u8],
     tail_atoms: u16,
-    count: usize,
-    shapes: &[u64; SHAPE_ROOM],
     lists: &[u64],
 ) -> Answer
-    requires { ⌜ 255 * min count 4 ≤ length (now numbers) ⌝ }
+    requires { ⌜ IndexRoom class (now tail) «tail_atoms» (chainsKept count (now shapes) (now lists)) (length (now numbers)) ⌝ }
     requires { ⌜ ShortIs class swap (now tail) «tail_atoms» (chainsKept count (now shapes) (now lists)) (length (now line)) (length (now index)) false ⌝ }
     ensures { λ r. ⌜ ChainsDrawn class swap (now (tail .entry)) «tail_atoms» (chainsKept count (now (shapes .entry)) (now (lists .entry))) (now (line .entry)) (now (index .entry)) (now (line .exit)) (now (index .exit)) r ⌝ }
 {
@@ -115,8 +115,8 @@ fn draw_some(
     }
 }
 
-// The numbers have room for two chains, or for four.
-fn draw_pair(
+// Chains of which none is long take little room.
+fn draw_slight(
     line: &mut [u8],
     index: &mut [u16],
     class: Class,
@@ -127,26 +127,27 @@ fn draw_pair(
     shapes: &[u64; SHAPE_ROOM],
     lists: &[u64],
 ) -> Answer
-    requires { ⌜ count ≤ 2 ⌝ }
+    requires { ⌜ Slight 30 count (now shapes) ⌝ }
     requires { ⌜ ShortIs class swap (now tail) «tail_atoms» (chainsKept count (now shapes) (now lists)) (length (now line)) (length (now index)) false ⌝ }
     ensures { λ r. ⌜ ChainsDrawn class swap (now (tail .entry)) «tail_atoms» (chainsKept count (now (shapes .entry)) (now (lists .entry))) (now (line .entry)) (now (index .entry)) (now (line .exit)) (now (index .exit)) r ⌝ }
 {
-    let mut numbers = [0u16; PAIR_ROOM];
+    let mut numbers = [0u16; SLIGHT_ROOM];
     draw_some(
         line,
         index,
         &mut numbers,
+        count,
+        shapes,
         class,
         swap,
         tail,
         tail_atoms,
-        count,
-        shapes,
         lists,
     )
 }
 
-fn draw_four(
+// Others have room for four of the longest.
+fn draw_long(
     line: &mut [u8],
     index: &mut [u16],
     class: Class,
@@ -165,12 +166,12 @@ fn draw_four(
         line,
         index,
         &mut numbers,
+        count,
+        shapes,
         class,
         swap,
         tail,
         tail_atoms,
-        count,
-        shapes,
         lists,
     )
 }
@@ -216,8 +217,8 @@ pub fn draw_chains(
             lists,
         );
     }
-    if count <= 2 {
-        return draw_pair(
+    if longest::are_slight(count, shapes) {
+        return draw_slight(
             line,
             index,
             class,
@@ -229,7 +230,7 @@ pub fn draw_chains(
             lists,
         );
     }
-    draw_four(
+    draw_long(
         line,
         index,
         class,

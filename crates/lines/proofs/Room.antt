@@ -1,7 +1,8 @@
--- The room that the indices and rows of an accepted request take: no more chains than tokens, each with at most 255 indices and 16 floating
+-- The room that the indices and rows of an accepted request take: no more chains than tokens, each with no more indices than carbons and 16 floating
 -- groups.
 -- Assumes nothing.
 use Prim.Native.Nat.{ℕ, suc, _+_, _*_, _≤_}
+use native.Mathlib.Nat.{mul-le-mul-right}
 use native.Mathlib.Omega.{arith}
 use mathlib.Core.Path.{_≡_, refl, ap, _∙_}
 use mathlib.Core.Bool.{Bool, true, false, cond}
@@ -10,9 +11,10 @@ use lib.Dec.{eqb, leb}
 use lib.ListN.{length, length-append}
 use Rattle.record.specs.declared.Mod.{Mod}
 use Rattle.record.specs.Chain.{Chain}
-use Rattle.reading.proofs.PartingLaws.{All}
+use Rattle.reading.proofs.PartingLaws.{All, all-map}
 use Rattle.chain.specs.Features.{unlocated, floating}
-use Rattle.chain.proofs.Accepted.{Drawable}
+use Rattle.chain.proofs.Accepted.{Drawable, carbon-most}
+use Rattle.chain.proofs.Lists.{all-both}
 use Rattle.drawable.proofs.Lists.{length-only}
 use Rattle.branches.specs.Text.{rowsIn}
 use Rattle.template.specs.declared.Class.{Class}
@@ -21,7 +23,7 @@ use Rattle.template.specs.Request.{Placed, placedFrom, placed, insertBySn, bySn
 use Rattle.template.specs.Promise.{namesOf, chainsFrom}
 use Rattle.template.proofs.Placing.{variablesTo}
 use Rattle.template.proofs.Notes.{placing-drawable}
-use Rattle.template.proofs.Theorem.{Accepted, promise, drawn-request, indices-few}
+use Rattle.template.proofs.Theorem.{Accepted, promise, drawn-request, indices-most}
 use Rattle.placed.specs.Fragment.{rowsOf, gathered}
 
 rows-few : (p : Placed) → Drawable (p .role) (p .chain) → length (rowsOf p) ≤ 16
@@ -32,11 +34,14 @@ rows-few p a = omega (arith, same (floating (p .chain)), length-only (λ (g : Mo
     same [] = refl
     same (g ∷ gs) = ap suc (same gs)
 
-gathered-most : (f : Placed → List ℕ) (m : ℕ) → ((p : Placed) → Drawable (p .role) (p .chain) → length (f p) ≤ m) → (ps : List Placed) → All (λ p. Drawable (p .role) (p .chain)) ps
-    → length (gathered f ps) ≤ length ps * m
+gathered-most : (f : Placed → List ℕ) (m : ℕ) (ps : List Placed) → All (λ p. length (f p) ≤ m) ps → length (gathered f ps) ≤ length ps * m
 unfolding gathered
-gathered-most f m h [] a = omega arith
-gathered-most f m h (p ∷ ps) a = omega (arith, length-append (f p) (gathered f ps), h p (a .0), gathered-most f m h ps (a .1))
+gathered-most f m [] a = omega arith
+gathered-most f m (p ∷ ps) a = omega (arith, length-append (f p) (gathered f ps), a .0, gathered-most f m ps (a .1))
+
+-- the more places, the more room
+more-places : (k m n r : ℕ) → k ≤ n → r ≤ k * m → r ≤ n * m
+more-places k m n r h g = omega (arith, g, mul-le-mul-right m h)
 
 -- ---- no more chains are placed than there are tokens
 
@@ -79,8 +84,19 @@ module _ (c : Class) (t : List ℕ) (ds : List Chain) (a : Accepted c t ds) wher
   unfolding placed
   drawable = let st = drawn-request c t ds a in placing-drawable 0 (length (st .rows)) 0 (variablesTo ds 0 (elements c)) (placedFrom t ds 0 0 (elements c)) (st .placing)
 
-  pub index-room : length (gathered indicesOf (placed c t ds)) ≤ 255 * length ds
-  index-room = omega (arith, gathered-most indicesOf 255 indices-few (placed c t ds) drawable, places-most c t ds a)
+  -- the indices, where no chain has more than m carbons
+  pub index-room : (m : ℕ) → All (λ p. p .chain .carbon ≤ m) (placed c t ds) → length (gathered indicesOf (placed c t ds)) ≤ length ds * m
+  index-room m h =
+      let few : All (λ p. length (indicesOf p) ≤ m) (placed c t ds) =
+      all-map {P = λ p. Drawable (p .role) (p .chain) × (p .chain .carbon ≤ m)} (λ p q. omega (arith, indices-most p (q .0), q .1)) (placed c t ds)
+      (all-both (λ p. Drawable (p .role) (p .chain)) (λ p. p .chain .carbon ≤ m) (placed c t ds) drawable h) in
+      more-places (length (placed c t ds)) m (length ds) _ (places-most c t ds a) (gathered-most indicesOf m (placed c t ds) few)
 
-  pub rows-room : length (gathered rowsOf (placed c t ds)) ≤ 16 * length ds
-  rows-room = omega (arith, gathered-most rowsOf 16 rows-few (placed c t ds) drawable, places-most c t ds a)
+  -- none has more than 255
+  pub carbons-few : All (λ p. p .chain .carbon ≤ 255) (placed c t ds)
+  carbons-few = all-map {P = λ p. Drawable (p .role) (p .chain)} (λ p q. carbon-most (p .role) (p .chain) q) (placed c t ds) drawable
+
+  pub rows-room : length (gathered rowsOf (placed c t ds)) ≤ length ds * 16
+  rows-room =
+      more-places (length (placed c t ds)) 16 (length ds) _ (places-most c t ds a)
+      (gathered-most rowsOf 16 (placed c t ds) (all-map {P = λ p. Drawable (p .role) (p .chain)} rows-few (placed c t ds) drawable))

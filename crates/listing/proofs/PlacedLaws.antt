@@ -25,7 +25,7 @@ use Rattle.template.proofs.Templates.{snsOf, fitting}
 use Rattle.template.proofs.Sorted.{sns-placed, length-placed}
 use Rattle.placed.specs.Fragment.{siteOr}
 
-all-each : {A : Type 0} (P : A → Type 0) (l : List A) → All P l → Each P l
+pub all-each : {A : Type 0} (P : A → Type 0) (l : List A) → All P l → Each P l
 all-each P [] h = tt
 all-each P (x ∷ l) h = (h .0, all-each P l (h .1))
 

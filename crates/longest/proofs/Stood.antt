@@ -3,30 +3,35 @@ use Prim.Native.Nat.{ℕ, zero, suc, _+_, _*_, _≤_, _<_, min}
 use native.Mathlib.Nat.{mul-le-mul-right}
 use native.Mathlib.Omega.{arith}
 use mathlib.Core.Path.{_≡_, refl, sym, ap}
-use mathlib.Core.Bool.{Bool, true}
+use mathlib.Core.Bool.{Bool, true, false, not}
 use mathlib.Core.Option.{Option, none, some}
 use mathlib.Core.List.{List, [], _∷_}
 use lib.ListN.{length, take, drop, getD, length-take, length-map}
+use borrow.Author.Tests.{not-false}
 use Rattle.record.specs.Chain.{Chain}
 use Rattle.codes.specs.Codes.{groupIn, ringIn}
 use Rattle.reading.proofs.Part.{none≢some}
+use Rattle.reading.proofs.PartingLaws.{All}
+use Rattle.chain.proofs.Lists.{all-append}
 use Rattle.chain.specs.declared.Role.{Role}
+use Rattle.chain.specs.declared.Role.the-variants.{Slot}
 use Rattle.chain.specs.Features.{groupsOn, floating}
 use Rattle.drawable.specs.declared.Shape.{Shape}
 use Rattle.drawable.specs.Drawn.{Drawn, drawnOf, groupsIn, ringsIn, groupsPart, floatsPart, ringsPart}
 use Rattle.drawable.specs.Chains.{drawnIn, itemsOf}
 use Rattle.shapes.specs.Shapes.{noShape, shapesIn, chainsKept}
+use Rattle.shapes.proofs.Laws.{shape-past}
 use Rattle.template.specs.declared.Class.{Class}
-use Rattle.template.specs.Template.{roleOf, hasTail}
-use Rattle.template.specs.Request.{chainAt, nonempty, placed, lineOf}
+use Rattle.template.specs.Template.{Element, fixed, tail, slot, chain, elements, roleOf, hasTail}
+use Rattle.template.specs.Request.{chainAt, nonempty, fixedPieces, tailPart, atomsOfPieces, siteOf, place, atomsAfter, variablesAfter, placedFrom, placed, lineOf}
 use Rattle.template.specs.Promise.{Each}
-use Rattle.placed.specs.Fragment as place
+use Rattle.placed.specs.Fragment as fragment
 use Rattle.shapes.specs.Sn.{drawnAt, IsDrawn}
 use Rattle.placed.specs.Fragment.{Carries, Stood}
 use Rattle.templates.specs.Templates.{TailOf}
 use Rattle.templates.specs.Classes.{StoodIn}
 use Rattle.longest.specs.Longest.{textMost, drawnMost, sitesMost, numbersMost, chainMost, chainMostOf, mostAt, lineMost}
-use Rattle.longest.specs.Covered.{shapeMost, ChainCovered, Covered}
+use Rattle.longest.specs.Covered.{shapeMost, ChainCovered, Covered, SlightAt, Slight}
 use Rattle.longest.proofs.Chains.{Modest}
 use Rattle.longest.proofs.Line.{line-most}
 
@@ -98,6 +103,7 @@ record Numbered (ns : List ℕ) (count i : ℕ) (r : Role) (d : Chain) : Type 0 
   counted : i < count
   modest : Modest r d
   covered : chainMost r d ≤ shapeMost (getD (shapesIn ns) i noShape)
+  carbon : d .carbon ≡ getD (shapesIn ns) i noShape .carbon
 
 module _ (ρ : ℕ → Role) (ds : List Chain) (count : ℕ) (ns l : List ℕ) (h : Stood ρ ds (chainsKept count ns l)) where
   told : (i : ℕ) (d : Chain) → nonempty (suc i) ds ≡ some d → Numbered ns count i (ρ (suc i)) d
@@ -117,7 +123,7 @@ module _ (ρ : ℕ → Role) (ds : List Chain) (count : ℕ) (ns l : List ℕ) (
       go (some y) q p =
           let x = getD (shapesIn ns) i noShape in
           let z : Carries r d (drawnOf x (p .1 .0)) = carried (drawnOf x (p .1 .0)) (rw q (sym (p .1 .1))) in
-          record { counted = p .0; modest = modest r d x (p .1 .0) z; covered = chain-covered r d x (p .1 .0) z }
+          record { counted = p .0; modest = modest r d x (p .1 .0) z; covered = chain-covered r d x (p .1 .0) z; carbon = sym (z .draws .carbon) }
 
   -- an sn is never 0
   no-chain : (ds : List Chain) (d : Chain) → nonempty zero ds ≡ some d → ⊥
@@ -128,6 +134,10 @@ module _ (ρ : ℕ → Role) (ds : List Chain) (count : ℕ) (ns l : List ℕ) (
   all-modest : (sn : ℕ) (d : Chain) → nonempty sn ds ≡ some d → Modest (ρ sn) d
   all-modest zero d e = absurd (no-chain ds d e)
   all-modest (suc i) d e = told i d e .modest
+
+  all-slight : (m : ℕ) → Slight m count ns → (sn : ℕ) (d : Chain) → nonempty sn ds ≡ some d → d .carbon ≤ m
+  all-slight m g zero d e = absurd (no-chain ds d e)
+  all-slight m g (suc i) d e = let z = told i d e in omega (arith, z .carbon, g .all i (z .counted))
 
 -- ---- what the functions answer
 
@@ -153,7 +163,7 @@ pub line-covered : (t : List ℕ) (k count : ℕ) (ns : List ℕ) (a b c d : ℕ
 unfolding lineMost mostAt
 line-covered t k count ns a b c d p q r s = record { covers = go }
   where
-    go : (x : Class) (swap : Bool) (ds : List Chain) (l : List ℕ) → (hasTail x ≡ true → TailOf t k) → StoodIn x ds (chainsKept count ns l) → Each place.Told (placed x t ds)
+    go : (x : Class) (swap : Bool) (ds : List Chain) (l : List ℕ) → (hasTail x ≡ true → TailOf t k) → StoodIn x ds (chainsKept count ns l) → Each fragment.Told (placed x t ds)
         → length (lineOf x swap t ds) ≤ 120 + length t + k + (a + b + c + d)
     go x swap ds l h g m =
         omega (
@@ -164,3 +174,47 @@ line-covered t k count ns a b c d p q r s = record { covers = go }
           r .covers (roleOf x) ds l g,
           s .covers (roleOf x) ds l g,
         )
+
+-- ---- chains of which none is long
+
+-- one past those that count
+pub past-slight : (m count i : ℕ) (ns : List ℕ) → count ≤ i → SlightAt m count ns i
+past-slight m count i ns g = λ h. absurd (omega arith)
+
+-- one that counts
+pub there-slight : (m count i : ℕ) (ns : List ℕ) (x : Shape) → x ≡ getD (shapesIn ns) i noShape → x .carbon ≤ m → SlightAt m count ns i
+there-slight m count i ns x e g = λ h. rw (← e) g
+
+-- all four places
+pub slight : {m count : ℕ} {ns : List ℕ} {a b c d : Bool} → (a ≡ true → SlightAt m count ns 0) → not a ≡ false → (b ≡ true → SlightAt m count ns 1) → not b ≡ false
+    → (c ≡ true → SlightAt m count ns 2) → not c ≡ false → (d ≡ true → SlightAt m count ns 3) → not d ≡ false → Slight m count ns
+slight {m} {count} {ns} {a} {b} {c} {d} p q r s t u v w = record { all = go }
+  where
+    go : (i : ℕ) → SlightAt m count ns i
+    go zero = p (not-false a q)
+    go (suc zero) = r (not-false b s)
+    go (suc (suc zero)) = t (not-false c u)
+    go (suc (suc (suc zero))) = v (not-false d w)
+    go (suc (suc (suc (suc i)))) = λ h. rw (← shape-past ns (suc (suc (suc (suc i)))) noShape (omega arith) refl) (omega arith)
+
+-- the chains of a template are those of the tokens
+slight-place : (m sn : ℕ) (r : Role) (s : Option ℕ) (n v : ℕ) (o : Option Chain) → ((d : Chain) → o ≡ some d → d .carbon ≤ m) → All (λ p. p .chain .carbon ≤ m) (place sn r s n v o)
+slight-place m sn r s n v none h = tt
+slight-place m sn r s n v (some d) h = (h d refl, tt)
+
+slight-from : (m : ℕ) (t : List ℕ) (ds : List Chain) → ((sn : ℕ) (d : Chain) → nonempty sn ds ≡ some d → d .carbon ≤ m) → (n v : ℕ) (es : List Element) → All (λ p. p .chain .carbon ≤ m) (placedFrom t ds n v es)
+unfolding placedFrom
+slight-from m t ds h n v [] = tt
+slight-from m t ds h n v (fixed b ∷ es) = slight-from m t ds h (n + atomsOfPieces (fixedPieces b)) v es
+slight-from m t ds h n v (tail ∷ es) = slight-from m t ds h (n + tailPart t .size) v es
+slight-from m t ds h n v (slot sn ∷ es) =
+    all-append (λ p. p .chain .carbon ≤ m) (place sn Slot (siteOf Slot n) (suc n) v (nonempty sn ds)) _ (slight-place m sn Slot (siteOf Slot n) (suc n) v (nonempty sn ds) (h sn))
+    (slight-from m t ds h (atomsAfter Slot (suc n) (nonempty sn ds)) (variablesAfter v (nonempty sn ds)) es)
+slight-from m t ds h n v (chain sn r ∷ es) =
+    all-append (λ p. p .chain .carbon ≤ m) (place sn r (siteOf r n) n v (nonempty sn ds)) _ (slight-place m sn r (siteOf r n) n v (nonempty sn ds) (h sn))
+    (slight-from m t ds h (atomsAfter r n (nonempty sn ds)) (variablesAfter v (nonempty sn ds)) es)
+
+pub slight-placed : (m : ℕ) (c : Class) (t : List ℕ) (ds : List Chain) (count : ℕ) (ns l : List ℕ) → StoodIn c ds (chainsKept count ns l) → Slight m count ns
+    → All (λ p. p .chain .carbon ≤ m) (placed c t ds)
+unfolding placed
+slight-placed m c t ds count ns l h g = slight-from m t ds (all-slight (roleOf c) ds count ns l h m g) 0 0 (elements c)

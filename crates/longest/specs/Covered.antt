@@ -1,13 +1,13 @@
 -- What the contracts of `longest` cite: a number that no line of some chains is longer than. Assumes nothing.
-use Prim.Native.Nat.{ℕ, suc, _≤_, min}
+use Prim.Native.Nat.{ℕ, suc, _≤_, _<_, min}
 use mathlib.Core.Path.{_≡_}
 use mathlib.Core.Bool.{Bool, true}
 use mathlib.Core.List.{List}
-use lib.ListN.{length}
+use lib.ListN.{length, getD}
 use Rattle.record.specs.Chain.{Chain}
 use Rattle.chain.specs.declared.Role.{Role}
 use Rattle.drawable.specs.declared.Shape.{Shape}
-use Rattle.shapes.specs.Shapes.{chainsKept}
+use Rattle.shapes.specs.Shapes.{noShape, shapesIn, chainsKept}
 use Rattle.template.specs.declared.Class.{Class}
 use Rattle.template.specs.Template.{hasTail}
 use Rattle.template.specs.Request.{nonempty, placed, lineOf}
@@ -36,3 +36,11 @@ pub record ChainCovered (count : ℕ) (ns : List ℕ) (i r : ℕ) : Type 0 where
 pub record Covered (t : List ℕ) (k count : ℕ) (ns : List ℕ) (r : ℕ) : Type 0 where
   pub covers : (c : Class) (swap : Bool) (ds : List Chain) (l : List ℕ) → (hasTail c ≡ true → TailOf t k) → StoodIn c ds (chainsKept count ns l)
       → Each Told (placed c t ds) → length (lineOf c swap t ds) ≤ r
+
+-- the chain at a place has at most m carbons, if it counts
+abbrev pub SlightAt : ℕ → ℕ → List ℕ → ℕ → Type 0
+SlightAt m count ns i = i < count → getD (shapesIn ns) i noShape .carbon ≤ m
+
+-- so have all chains that count
+pub record Slight (m count : ℕ) (ns : List ℕ) : Type 0 where
+  pub all : (i : ℕ) → SlightAt m count ns i

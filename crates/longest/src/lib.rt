@@ -3,9 +3,10 @@
 use drawable::Shape;
 use shapes::SHAPE_ROOM;
 ghost use mathlib.Core.Path.{_≡_};
+ghost use mathlib.Core.Bool.{true};
 ghost use Prim.Native.Nat.{_≤_, min};
 ghost use Rattle.longest.specs.Longest.{drawnMost, textMost, sitesMost};
-ghost use Rattle.longest.specs.Covered.{shapeMost, Bounded, ChainCovered, Covered};
+ghost use Rattle.longest.specs.Covered.{shapeMost, Bounded, ChainCovered, Covered, SlightAt, Slight};
 
 // The most groups with a position that a chain has room for, and the most without one.
 const GROUP_ROOM: usize = 18;
@@ -66,6 +67,42 @@ fn chain_most(count: usize, i: usize, shapes: &[u64; SHAPE_ROOM]) -> usize
         return 0;
     }
     shape_most(shapes::shape_in(shapes, i))
+}
+
+// A chain with more carbons than this is long.
+pub const SLIGHT_CARBONS: u16 = 30;
+
+// Whether the chain at a place is not long; one past those that count is none.
+fn slight_at(count: usize, i: usize, shapes: &[u64; SHAPE_ROOM]) -> bool
+    ensures { λ r. ⌜ (r ≡ true → SlightAt 30 count (now (shapes .entry)) i) ⌝ }
+{
+    if count <= i {
+        return true;
+    }
+    let x = shapes::shape_in(shapes, i);
+    if x.carbon > SLIGHT_CARBONS {
+        return false;
+    }
+    true
+}
+
+// Whether no chain is long, as in nearly every request: then little room is needed for their indices.
+pub fn are_slight(count: usize, shapes: &[u64; SHAPE_ROOM]) -> bool
+    ensures { λ r. ⌜ (r ≡ true → Slight 30 count (now (shapes .entry))) ⌝ }
+{
+    if !slight_at(count, 0, shapes) {
+        return false;
+    }
+    if !slight_at(count, 1, shapes) {
+        return false;
+    }
+    if !slight_at(count, 2, shapes) {
+        return false;
+    }
+    if !slight_at(count, 3, shapes) {
+        return false;
+    }
+    true
 }
 
 // A line of any class: the tail and its atoms, what the templates have of their own, and the chains.

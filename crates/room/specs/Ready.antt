@@ -16,8 +16,8 @@ use Rattle.templates.specs.Templates.{FitsAll, TailOf}
 use Rattle.templates.specs.Classes.{StoodIn}
 use Rattle.answer.specs.Answer.{short}
 
--- the chains ds of a class are x, with their tail of k atoms; there are no more of them than tokens, with at most so many indices and floating
--- groups
+-- the chains ds of a class are x, with their tail of k atoms; there are no more of them than tokens, with at most so many floating groups, and no
+-- more indices than carbons
 pub record Ready (c : Class) (t : List ℕ) (k : ℕ) (x : Chains) (ds : List Chain) : Type 0 where
   pub tail : hasTail c ≡ true → TailOf t k
   pub stood : StoodIn c ds x
@@ -26,6 +26,7 @@ pub record Ready (c : Class) (t : List ℕ) (k : ℕ) (x : Chains) (ds : List Ch
   pub tokens : x .count ≤ 4
   pub few : length (placed c t ds) ≤ x .count
   pub index : length (gathered indicesOf (placed c t ds)) ≤ 255 * x .count
+  pub lists : (m : ℕ) → Each (λ p. p .chain .carbon ≤ m) (placed c t ds) → length (gathered indicesOf (placed c t ds)) ≤ x .count * m
   pub rows : length (gathered rowsOf (placed c t ds)) ≤ 16 * x .count
 
 -- whether a slice is too short, for every such request and slices of these lengths

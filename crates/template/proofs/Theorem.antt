@@ -355,18 +355,21 @@ promise c swap t ds a =
 
 -- ---- how large its numbers are
 
--- a chain lists at most 255 carbons
-pub indices-few : (p : Placed) → Drawable (p .role) (p .chain) → length (indicesOf p) ≤ 255
+-- a chain lists no more carbons than it has
+pub indices-most : (p : Placed) → Drawable (p .role) (p .chain) → length (indicesOf p) ≤ p .chain .carbon
 unfolding indicesOf
-indices-few p a =
+indices-most p a =
     omega (
       arith,
       heads-number (p .role) (carbonAtoms (p .role) (p .chain) (p .first)),
       carbon-atoms-count (p .role) (p .chain) (p .first),
       first-one (p .role),
       drawn-most (p .role) (p .chain) a,
-      carbon-most (p .role) (p .chain) a,
     )
+
+-- and those are at most 255
+pub indices-few : (p : Placed) → Drawable (p .role) (p .chain) → length (indicesOf p) ≤ 255
+indices-few p a = omega (arith, indices-most p a, carbon-most (p .role) (p .chain) a)
 
 -- every index is below 4000, so that it has 16 bits to spare
 pub indices-small : (c : Class) (t : List ℕ) (ds : List Chain) → Accepted c t ds → All (λ p. All (λ i. i < 4000) (indicesOf p)) (placed c t ds)

@@ -30,8 +30,11 @@ same-length-4 c = search needs
 returns-2 : tie.Need-returns-2
 returns-2 c = search needs
 
-draw-pair-requires : tie.Need-draw-pair-requires
-draw-pair-requires c κs = (c .before .before .if3 .taken, long-slices (c .before .before .before .before .before .is-short .ensures) (c .before .before .before .before .if1 .left))
+are-slight-requires : tie.Need-are-slight-requires
+are-slight-requires c κs = search needs
+
+draw-slight-requires : tie.Need-draw-slight-requires
+draw-slight-requires c κs = (c .before .before .before .are-slight .ensures (c .before .before .if3 .taken), long-slices (c .before .before .before .before .before .before .is-short .ensures) (c .before .before .before .before .before .if1 .left))
 
 same-length-5 : tie.Need-same-length-5
 same-length-5 c = search needs
@@ -42,8 +45,8 @@ same-length-6 c = search needs
 returns-3 : tie.Need-returns-3
 returns-3 c = search needs
 
-draw-four-requires : tie.Need-draw-four-requires
-draw-four-requires c κs = long-slices (c .before .before .before .before .before .is-short .ensures) (c .before .before .before .before .if1 .left)
+draw-long-requires : tie.Need-draw-long-requires
+draw-long-requires c κs = long-slices (c .before .before .before .before .before .before .is-short .ensures) (c .before .before .before .before .before .if1 .left)
 
 same-length-7 : tie.Need-same-length-7
 same-length-7 c = search needs
@@ -67,11 +70,12 @@ draw-chains-spec =
     same-length-3
     same-length-4
     returns-2
-    draw-pair-requires
+    are-slight-requires
+    draw-slight-requires
     same-length-5
     same-length-6
     returns-3
-    draw-four-requires
+    draw-long-requires
     same-length-7
     same-length-8
     returns-4)

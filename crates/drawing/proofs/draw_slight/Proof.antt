@@ -1,13 +1,13 @@
-use native.Mathlib.Omega.{arith}
+use Rattle.drawing.proofs.Draw.{slight-room}
 use borrow.Author.Needs.{needs}
-use Rattle.drawing.proofs.draw_pair.Statement.{statement}
-use Rattle.drawing.proofs.draw_pair.Tie as tie
+use Rattle.drawing.proofs.draw_slight.Statement.{statement}
+use Rattle.drawing.proofs.draw_slight.Tie as tie
 
 slice-aggregate-draw-some : tie.Need-slice-aggregate-draw-some
 slice-aggregate-draw-some c = search needs
 
 draw-some-requires : tie.Need-draw-some-requires
-draw-some-requires c κs = (omega arith, search needs)
+draw-some-requires c κs = (search slight-room, search needs)
 
 same-length : tie.Need-same-length
 same-length c = search needs
@@ -18,7 +18,7 @@ same-length-2 c = search needs
 returns : tie.Need-returns
 returns c = search needs
 
-pub draw-pair-spec : {M : Type 1} → statement M
-draw-pair-spec =
+pub draw-slight-spec : {M : Type 1} → statement M
+draw-slight-spec =
     tie.close
     (tie.spec slice-aggregate-draw-some draw-some-requires same-length same-length-2 returns)
