@@ -202,14 +202,19 @@ fn token_at<'a>(i: usize, sn1: &'a [u8], sn2: &'a [u8], sn3: &'a [u8], sn4: &'a 
 }
 
 // A token where it stands as a role says. Its chain is drawn before its kind is known to fit: most do. Its rings are read into their room of
-// the part, its other lists into arrays of their own, from which they are laid into the part as they are drawn.
-fn see(role: Role, token: &[u8], part: &mut [u64]) -> Seen
+// the part, its other lists into lent arrays, from which they are laid into the part as they are drawn: what those held before is not asked,
+// so that they are filled once for all tokens.
+fn see(
+    role: Role,
+    token: &[u8],
+    bonds: &mut [u64; MAX_BONDS],
+    groups: &mut [u64; GROUP_ROOM],
+    part: &mut [u64],
+) -> Seen
     requires { ⌜ length (now part) ≡ 77 ⌝ }
     ensures { λ r. ⌜ SeenIs role (sightOf r (now (part .exit))) (tokenOf (now (token .entry))) ⌝ }
 {
-    let mut bonds = [0u64; MAX_BONDS];
-    let mut groups = [0u64; GROUP_ROOM];
-    let read = token::parse_token(token, &mut bonds, &mut groups, &mut part[69..77]);
+    let read = token::parse_token(token, bonds, groups, &mut part[69..77]);
     let prefix = read.prefix;
     let counts = read.counts;
     let shape = fitted::drawn_as(
@@ -217,9 +222,9 @@ fn see(role: Role, token: &[u8], part: &mut [u64]) -> Seen
         prefix,
         read.carbon,
         read.unlocated,
-        &bonds,
+        bonds,
         counts.bonds,
-        &groups,
+        groups,
         counts.groups,
         counts.rings,
         part,
@@ -241,6 +246,8 @@ fn look<'a>(
     sn2: &'a [u8],
     sn3: &'a [u8],
     sn4: &'a [u8],
+    bonds: &mut [u64; MAX_BONDS],
+    groups: &mut [u64; GROUP_ROOM],
     part: &mut [u64],
 ) -> Seen
     requires { ⌜ i < 4 ⌝ }
@@ -248,7 +255,7 @@ fn look<'a>(
     ensures { λ r. ⌜ SeenIs (roleOf class (i + 1)) (sightOf r (now (part .exit))) (tokenOf (getD (now (sn1 .entry) ∷ now (sn2 .entry) ∷ now (sn3 .entry) ∷ now (sn4 .entry) ∷ []) i [])) ⌝ }
 {
     let role = class::role_of(class, i + 1);
-    see(role, token_at(i, sn1, sn2, sn3, sn4), part)
+    see(role, token_at(i, sn1, sn2, sn3, sn4), bonds, groups, part)
 }
 
 // The tokens of a class, of which there are as many as it takes.
@@ -267,12 +274,24 @@ fn judge_tokens<'a>(
     requires { ⌜ 77 * count ≤ length (now lists) ⌝ }
     ensures { λ r. ⌜ JudgedIs r count (now (shapes .exit)) (now (lists .exit)) (now (tail .entry)) (judgeRead class (now (tail .entry)) (tokensOf (tokens count (now (sn1 .entry)) (now (sn2 .entry)) (now (sn3 .entry)) (now (sn4 .entry))))) ⌝ }
 {
+    let mut bonds = [0u64; MAX_BONDS];
+    let mut groups = [0u64; GROUP_ROOM];
     let mut faults = Faults::new();
     let mut i = 0;
     while i < count {
         let from = CHAIN_ROOM * i;
         let to = from + CHAIN_ROOM;
-        let seen = look(class, i, sn1, sn2, sn3, sn4, &mut lists[from..to]);
+        let seen = look(
+            class,
+            i,
+            sn1,
+            sn2,
+            sn3,
+            sn4,
+            &mut bonds,
+            &mut groups,
+            &mut lists[from..to],
+        );
         shapes::keep_shape(shapes, i, seen.shape);
         i += 1;
         // It leaves the faults as they are, and they are not copied.

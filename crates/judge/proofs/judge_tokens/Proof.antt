@@ -13,10 +13,10 @@ use Rattle.judge.proofs.judge_tokens.Statement.{statement}
 use Rattle.judge.proofs.judge_tokens.Tie as tie
 
 abbrev Inv-loop : tie.InvT-loop
-Inv-loop class tail count sn1 sn2 sn3 sn4 shapes₀ lists₀ faults₀ i₀ shapes lists faults i = Met class faults (take i (itemsOf (shapesIn shapes) lists)) (tokensOf (take i (sn1 ∷ sn2 ∷ sn3 ∷ sn4 ∷ []))) × (i ≤ count) × (count ≤ 4) × (77 * count ≤ length lists) × (length lists ≡ length lists₀)
+Inv-loop class tail count sn1 sn2 sn3 sn4 shapes₀ lists₀ bonds₀ groups₀ faults₀ i₀ shapes lists bonds groups faults i = Met class faults (take i (itemsOf (shapesIn shapes) lists)) (tokensOf (take i (sn1 ∷ sn2 ∷ sn3 ∷ sn4 ∷ []))) × (i ≤ count) × (count ≤ 4) × (77 * count ≤ length lists) × (length lists ≡ length lists₀)
 
 abbrev μ-loop : tie.MeasureT-loop
-μ-loop class tail count sn1 sn2 sn3 sn4 shapes₀ lists₀ faults₀ i₀ shapes lists faults i = count - i
+μ-loop class tail count sn1 sn2 sn3 sn4 shapes₀ lists₀ bonds₀ groups₀ faults₀ i₀ shapes lists bonds groups faults i = count - i
 
 new-requires : tie.Need-new-requires Inv-loop μ-loop
 new-requires c κs = search needs
@@ -59,7 +59,7 @@ loop-less c = search needs
 
 loop-again : tie.Need-loop-again Inv-loop μ-loop
 loop-again c =
-    (met-clear _ _ _ _ _ _ _ _ _ _ _ _ _ _ (c .before .before .before .before .before .before .before .before .before .loop .inv .3) (c .before .before .before .before .before .before .before .before .loop-test .taken) (c .before .before .before .before .before .before .before .before .before .loop .inv .2) (c .before .before .before .before .before .lists .given .0) (c .before .before .before .before .before .before .look .ensures) (c .before .nothing-due .ensures) (c .if1 .taken) (c .before .before .keep-shape .ensures) (c .before .before .before .before .before .before .before .before .before .loop .inv .0), omega arith, search needs, search needs, search needs)
+    (met-clear _ _ _ _ _ _ _ _ _ _ _ _ _ _ (c .before .before .before .before .before .before .before .before .before .before .before .loop .inv .3) (c .before .before .before .before .before .before .before .before .before .before .loop-test .taken) (c .before .before .before .before .before .before .before .before .before .before .before .loop .inv .2) (c .before .before .before .before .before .lists .given .0) (c .before .before .before .before .before .before .look .ensures) (c .before .nothing-due .ensures) (c .if1 .taken) (c .before .before .keep-shape .ensures) (c .before .before .before .before .before .before .before .before .before .before .before .loop .inv .0), omega arith, search needs, search needs, search needs)
 
 join-requires : tie.Need-join-requires Inv-loop μ-loop
 join-requires c κs = search needs
@@ -69,7 +69,7 @@ loop-less-2 c = search needs
 
 loop-again-2 : tie.Need-loop-again-2 Inv-loop μ-loop
 loop-again-2 c =
-    (met-next _ _ _ _ _ _ _ _ _ _ _ _ _ _ (c .before .before .before .before .before .before .before .before .before .before .loop .inv .3) (c .before .before .before .before .before .before .before .before .before .loop-test .taken) (c .before .before .before .before .before .before .before .before .before .before .loop .inv .2) (c .before .before .before .before .before .before .lists .given .0) (c .before .before .before .before .before .before .before .look .ensures) (c .join .ensures) (c .before .before .before .keep-shape .ensures) (c .before .before .before .before .before .before .before .before .before .before .loop .inv .0), omega arith, search needs, search needs, search needs)
+    (met-next _ _ _ _ _ _ _ _ _ _ _ _ _ _ (c .before .before .before .before .before .before .before .before .before .before .before .before .loop .inv .3) (c .before .before .before .before .before .before .before .before .before .before .before .loop-test .taken) (c .before .before .before .before .before .before .before .before .before .before .before .before .loop .inv .2) (c .before .before .before .before .before .before .lists .given .0) (c .before .before .before .before .before .before .before .look .ensures) (c .join .ensures) (c .before .before .before .keep-shape .ensures) (c .before .before .before .before .before .before .before .before .before .before .before .before .loop .inv .0), omega arith, search needs, search needs, search needs)
 
 tail-atoms-requires : tie.Need-tail-atoms-requires Inv-loop μ-loop
 tail-atoms-requires c κs = search needs

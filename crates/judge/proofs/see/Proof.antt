@@ -4,12 +4,6 @@ use borrow.Author.Needs.{needs}
 use Rattle.judge.proofs.see.Statement.{statement}
 use Rattle.judge.proofs.see.Tie as tie
 
-slice-aggregate-parse-token : tie.Need-slice-aggregate-parse-token
-slice-aggregate-parse-token c = search needs
-
-slice-aggregate-parse-token-2 : tie.Need-slice-aggregate-parse-token-2
-slice-aggregate-parse-token-2 c = search needs
-
 sub-parse-token : tie.Need-sub-parse-token
 sub-parse-token c = search needs
 
@@ -21,12 +15,6 @@ part-parse-token-end c = search needs
 
 parse-token-requires : tie.Need-parse-token-requires
 parse-token-requires c κs = search needs
-
-slice-aggregate-drawn-as : tie.Need-slice-aggregate-drawn-as
-slice-aggregate-drawn-as c = search needs
-
-slice-aggregate-drawn-as-2 : tie.Need-slice-aggregate-drawn-as-2
-slice-aggregate-drawn-as-2 c = search needs
 
 drawn-as-requires : tie.Need-drawn-as-requires
 drawn-as-requires c κs = search needs
@@ -47,9 +35,9 @@ returns : tie.Need-returns
 returns c =
     looked _ _ _ _ _ _ (c .before .before .before .before .before .before .before .before .before .before .before .before .before .before .before .before .before .before .before .before .before .before .args .part .now) _ _ _ _ _ _ _
     (c .before .before .before .before .before .before .before .before .before .before .before .before .before .before .before .before .before .before .before .before .before .before .pre)
-    (c .before .before .before .before .before .before .before .before .before .before .before .before .before .part .given .0)
-    (omega arith)
-    (omega arith)
+    (c .before .before .before .before .before .before .before .before .before .before .before .before .before .before .before .part .given .0)
+    (omega (arith, c .before .before .before .before .before .before .before .before .before .before .before .before .before .before .before .before .before .before .before .parse-token-arg .given))
+    (omega (arith, c .before .before .before .before .before .before .before .before .before .before .before .before .before .before .before .before .before .before .parse-token-arg2 .given))
     (c .before .before .before .before .before .before .before .before .before .before .before .before .before .before .before .before .parse-token .ensures)
     (c .before .before .before .before .before .before .before .drawn-as .ensures)
     (c .before .before .before .before .kind-refusal .ensures)
@@ -60,14 +48,10 @@ pub see-spec : {M : Type 1} → statement M
 see-spec =
     tie.close
     (tie.spec
-    slice-aggregate-parse-token
-    slice-aggregate-parse-token-2
     sub-parse-token
     part-parse-token-start
     part-parse-token-end
     parse-token-requires
-    slice-aggregate-drawn-as
-    slice-aggregate-drawn-as-2
     drawn-as-requires
     kind-refusal-requires
     place-refusal-requires
