@@ -69,10 +69,10 @@ pub record LiteralNumbers (first : ℕ) (x : Drawn) (t : ChainTokens) (xs : List
   pub room : n .count ≤ 255
   pub few : n .next ≤ 93 * n .count
 
--- from `at` on there is room for the indices of as many carbons as a chain can have, no index of a chain whose first atom is the one given
--- reaches the largest number, and the last literal carbon is one of the chain's
+-- from `at` on there is room for the indices of the chain's carbons, no index of a chain whose first atom is the one given reaches the largest
+-- number, and the last literal carbon is one of the chain's
 pub record Roomy (room at first carbon last : ℕ) : Type 0 where
-  pub fits : at + maxCarbons ≤ room
+  pub fits : at + carbon ≤ room
   pub small : first < firstRoom
   pub own : carbon ≤ maxCarbons
   pub literal : last ≤ carbon

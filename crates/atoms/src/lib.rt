@@ -103,16 +103,16 @@ struct Numbers {
 // First atoms below this leave room for the indices of a chain.
 const FIRST_ROOM: u32 = 40000;
 
-// Whether there is room from a place on for the indices of as many carbons as a chain can have, none of them can be too large, and the last
-// literal carbon is one of the chain's: then they are stored without a look at the end of the slice or at the largest number.
+// Whether there is room from a place on for the indices of the chain's carbons, none of them can be too large, and the last literal carbon is
+// one of the chain's: then they are stored without a look at the end of the slice or at the largest number.
 fn has_room(room: usize, at: usize, first: u32, carbon: u16, last: u16) -> bool
     ensures { λ r. ⌜ (r ≡ true → Roomy room at first carbon last) ⌝ }
 {
-    let most = MAX_CARBONS as usize;
-    if room < most {
+    let n = carbon as usize;
+    if room < n {
         return false;
     }
-    if room - most < at {
+    if room - n < at {
         return false;
     }
     if first >= FIRST_ROOM {

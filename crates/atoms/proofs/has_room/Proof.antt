@@ -3,9 +3,6 @@ use mathlib.Core.Bool.{false≢true}
 use Rattle.atoms.proofs.has_room.Statement.{statement}
 use Rattle.atoms.proofs.has_room.Tie as tie
 
-cast-most : tie.Need-cast-most
-cast-most c = search needs
-
 returns : tie.Need-returns
 returns c = λ e. absurd (false≢true e)
 
@@ -25,4 +22,4 @@ returns-6 : tie.Need-returns-6
 returns-6 c = λ e. search needs
 
 pub has-room-spec : {M : Type 1} → statement M
-has-room-spec = tie.close (tie.spec cast-most returns returns-2 returns-3 returns-4 returns-5 returns-6)
+has-room-spec = tie.close (tie.spec returns returns-2 returns-3 returns-4 returns-5 returns-6)
