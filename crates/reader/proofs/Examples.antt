@@ -3,23 +3,14 @@
 use Prim.Native.Nat.{ℕ}
 use mathlib.Core.Path.{_≡_, refl}
 use mathlib.Core.List.{List, [], _∷_}
-use Rattle.part.specs.Part.{firstByte, endingAfter, ending, trimmed}
-use Rattle.reader.specs.declared.NextByte.the-variants.{Found, End}
-use Rattle.reader.specs.Reading.{placeIn, byteFrom, partFrom, restFrom}
+use Rattle.part.specs.Part.{firstByte}
+use Rattle.reader.specs.Reading.{placeIn, partFrom}
 
 abbrev bytes : List ℕ
 bytes = 97 ∷ 59 ∷ 32 ∷ 98 ∷ 32 ∷ []
-
-pub bytes-read : (byteFrom bytes 0 ≡ Found 97 1) × (byteFrom bytes 4 ≡ Found 32 5) × (byteFrom bytes 5 ≡ End) × (byteFrom bytes 9 ≡ End)
-unfolding byteFrom
-bytes-read = (refl, refl, refl, refl)
 
 -- the last part has no `;` behind it, so the next place is 6, past the end
 pub parts-read : (partFrom 59 bytes 0 ≡ record { from = 0; to = 1; next = 2 }) × (partFrom 59 bytes 2 ≡ record { from = 2; to = 5; next = 6 })
     × (partFrom 59 bytes 5 ≡ record { from = 5; to = 5; next = 6 }) × (partFrom 59 bytes 9 ≡ record { from = 5; to = 5; next = 6 })
 unfolding partFrom placeIn firstByte
 parts-read = (refl, refl, refl, refl)
-
-pub rests-read : (restFrom bytes 1 ≡ 59 ∷ 32 ∷ 98 ∷ []) × (restFrom bytes 2 ≡ 98 ∷ []) × (restFrom bytes 4 ≡ []) × (restFrom bytes 9 ≡ [])
-unfolding restFrom placeIn trimmed firstByte ending endingAfter
-rests-read = (refl, refl, refl, refl)

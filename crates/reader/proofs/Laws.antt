@@ -1,19 +1,17 @@
--- Laws of places, bytes and parts: one for each way out, and what callers use of a part.
+-- Laws of places and parts: one for each way out, and what callers use of a part.
 -- Assumes nothing.
 use Prim.Native.Nat.{ℕ, _+_, _-_, _≤_, _<_}
 use native.Mathlib.Omega.{arith}
 use mathlib.Core.Path.{_≡_, refl, sym, ap, _∙_}
 use mathlib.Core.Bool.{Bool, true, false, cond}
 use mathlib.Core.List.{List}
-use lib.ListN.{length, take, drop, getD, length-drop}
+use lib.ListN.{length, take, drop, length-drop}
 use lib.Dec.{eqb, ltb}
 use borrow.Author.Tests.{lt-ltb, le-ltb, ltb-false}
-use Rattle.part.specs.Part.{Place, indexOf, trimmed}
+use Rattle.part.specs.Part.{Place, indexOf}
 use Rattle.part.proofs.Laws.{to-end, first-within}
-use Rattle.reader.specs.declared.NextByte.{NextByte}
-use Rattle.reader.specs.declared.NextByte.the-variants.{Found, End}
 use Rattle.reader.specs.declared.Part.{Part}
-use Rattle.reader.specs.Reading.{placeIn, byteFrom, partOf, partFrom, restFrom}
+use Rattle.reader.specs.Reading.{placeIn, partOf, partFrom}
 
 -- ---- a place
 
@@ -25,17 +23,7 @@ pub place-here : (s : List ℕ) (at : ℕ) → at ≤ length s → Place s (plac
 unfolding placeIn
 place-here s at h = record { is = sym (rw (le-ltb (length s) at h)); within = h }
 
--- ---- a byte
-
-pub byte-here : (s : List ℕ) (at : ℕ) → at < length s → Found (getD s at 0) (at + 1) ≡ byteFrom s at
-unfolding byteFrom
-byte-here s at h = sym (rw (lt-ltb at (length s) h))
-
-pub byte-end : (s : List ℕ) (at : ℕ) → length s ≤ at → End ≡ byteFrom s at
-unfolding byteFrom
-byte-end s at h = sym (rw (le-ltb at (length s) h))
-
--- ---- a part, and what is left
+-- ---- a part
 
 module _ (s : List ℕ) (at from : ℕ) (p : Place s (placeIn s at) from) where
   pub part-is : (b n : ℕ) → Place (take (length s - from) (drop from s)) (indexOf b (take (length s - from) (drop from s))) n
@@ -44,10 +32,6 @@ module _ (s : List ℕ) (at from : ℕ) (p : Place s (placeIn s at) from) where
   part-is b n f =
       let k : n ≡ indexOf b (drop from s) = f .is ∙ ap (indexOf b) (to-end from s) in
       ap (partOf from) k ∙ ap (λ (m : ℕ). partOf m (indexOf b (drop m s))) (p .is)
-
-  pub rest-is : (t : List ℕ) → t ≡ trimmed (take (length s - from) (drop from s)) → t ≡ restFrom s at
-  unfolding restFrom
-  rest-is t e = e ∙ ap trimmed (to-end from s) ∙ ap (λ (m : ℕ). trimmed (drop m s)) (p .is)
 
 -- ---- what callers use of a part
 

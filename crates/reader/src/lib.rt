@@ -3,18 +3,12 @@
 // comes next, is said by specs/Reading.antt.
 ghost use mathlib.Core.Path.{_≡_};
 ghost use Rattle.part.specs.Part.{Place};
-ghost use Rattle.reader.specs.Reading.{placeIn, byteFrom, partFrom, restFrom};
+ghost use Rattle.reader.specs.Reading.{placeIn, partFrom};
 
 // The bytes, and the place that is read next. The bytes stay the caller's.
 pub struct TokenReader<'a> {
     pub src: &'a [u8],
     pub at: usize,
-}
-
-// The byte that was read and the place after it, or the end.
-pub enum NextByte {
-    Found { byte: u8, next: usize },
-    End,
 }
 
 // A part by its places, and the place after the byte that ends it.
@@ -34,19 +28,6 @@ fn place_in(s: &[u8], at: usize) -> usize
     at
 }
 
-// The byte at a place.
-fn byte_from(s: &[u8], at: usize) -> NextByte
-    ensures { λ r. ⌜ r ≡ byteFrom (now (s .entry)) at ⌝ }
-{
-    if at < s.len() {
-        return NextByte::Found {
-            byte: s[at],
-            next: at + 1,
-        };
-    }
-    NextByte::End
-}
-
 // The part from a place up to the first byte b, or to the end.
 fn part_from(s: &[u8], at: usize, b: u8) -> Part
     ensures { λ r. ⌜ r ≡ partFrom b (now (s .entry)) at ⌝ }
@@ -60,42 +41,20 @@ fn part_from(s: &[u8], at: usize, b: u8) -> Part
     }
 }
 
-// What follows a place, between leading and trailing spaces.
-fn rest_from(s: &[u8], at: usize) -> &[u8]
-    ensures { λ r. ⌜ now r ≡ restFrom (now (s .entry)) at ⌝ }
-{
-    let from = place_in(s, at);
-    spaces::trim(&s[from..])
-}
-
 // A reader goes in by value and is not changed: the answer says which place comes next, and a reader at that place is made anew.
 impl<'a> TokenReader<'a> {
     // A reader of lent bytes at a place; the first byte's is 0.
-    pub fn new(src: &'a [u8], at: usize) -> TokenReader<'a>
+    fn new(src: &'a [u8], at: usize) -> TokenReader<'a>
         ensures { λ r. ⌜ (r .src ≡ src .entry) × (r .at ≡ at) ⌝ }
     {
         TokenReader { src, at }
     }
 
-    // The next byte, or the end.
-    pub fn next_byte(self) -> NextByte
-        ensures { λ r. ⌜ r ≡ byteFrom (now (self .entry .src)) (self .entry .at) ⌝ }
-    {
-        byte_from(self.src, self.at)
-    }
-
     // The next part up to the byte b; the next place is the one after that byte.
-    pub fn next_part(self, b: u8) -> Part
+    fn next_part(self, b: u8) -> Part
         ensures { λ r. ⌜ r ≡ partFrom b (now (self .entry .src)) (self .entry .at) ⌝ }
     {
         part_from(self.src, self.at, b)
-    }
-
-    // All that is left, between leading and trailing spaces. No place comes next.
-    pub fn trimmed_rest(self) -> &'a [u8]
-        ensures { λ r. ⌜ now r ≡ restFrom (now (self .entry .src)) (self .entry .at) ⌝ }
-    {
-        rest_from(self.src, self.at)
     }
 }
 

@@ -14,7 +14,7 @@ use Rattle.ringdigits.specs.declared.Atoms.{Atoms}
 use Rattle.ringdigits.specs.declared.Ran.{Ran}
 use Rattle.tailatom.specs.declared.Found.{Found}
 use Rattle.tailatom.specs.declared.Found.the-variants.{Next, Nothing}
-use Rattle.ringdigits.specs.Grammar.{Rings, noRings, withAtom, noneOpen, State, wrong, stands, opening, whole, closed, letter, branchCloses, branchOpens, goesOn, digitOr, bondOrAtom, atomBegins, step, finished, done, scan, tailAtoms, isTail}
+use Rattle.ringdigits.specs.Grammar.{Rings, noRings, withAtom, noneOpen, State, wrong, stands, opening, whole, closed, letter, branchCloses, branchOpens, goesOn, digitOr, bondOrAtom, atomBegins, step, finished, done, scan, tailAtoms}
 use Rattle.ringdigits.specs.Digits.{ringsOf, outcomeOf, PastDigits}
 use Rattle.tailatom.specs.Atom.{PastBond, PastAtom}
 use Rattle.ringdigits.proofs.Scan.{scan-at, scan-end, wrong-at, same-at}
@@ -548,10 +548,6 @@ module _ (s : List ℕ) (at depth : ℕ) (q : Rings) (r : Reached) (o j : List �
               branch-less = omega (arith, d .least, g [] o′ j′ .further, g [] o′ j′ .fits .within)
 
 -- ---- the whole tail
-
-pub tail-checked : (s : List ℕ) (n : ℕ) → n ≡ tailAtoms s → not (eqb n 0) ≡ isTail s
-unfolding isTail
-tail-checked s n e = ap (λ (z : ℕ). not (eqb z 0)) e
 
 pub tail-letter : (s : List ℕ) (a : Bool) → (a ≡ true → 1 ≡ tailAtoms s) → a ≡ true → 1 ≡ tailAtoms s
 tail-letter s a h e = h e

@@ -13,7 +13,7 @@ ghost use mathlib.Core.Bool.{true};
 ghost use mathlib.Core.List.{List, _∷_};
 ghost use Prim.Native.Nat.{ℕ};
 ghost use Rattle.reading.specs.Lexer.{memb, organic, pairs};
-ghost use Rattle.ringdigits.specs.Grammar.{tailAtoms, isTail};
+ghost use Rattle.ringdigits.specs.Grammar.{tailAtoms};
 ghost use Rattle.ringdigits.specs.Digits.{ringsOf};
 ghost use Rattle.tail.specs.Contract.{takesDigit, stateOf, Room, Fits, At, Item, Ringed, Other, Refused, PastMark, GoesOn, RunRead};
 
@@ -322,11 +322,4 @@ pub fn tail_atoms(s: &[u8]) -> u16
     }
     let counted = r.atoms;
     counted.last as u16
-}
-
-// Whether the bytes are a tail.
-pub fn check_tail(s: &[u8]) -> bool
-    ensures { λ r. ⌜ r ≡ isTail (now (s .entry)) ⌝ }
-{
-    tail_atoms(s) != 0
 }
