@@ -51,6 +51,38 @@ fn draw_in<'a>(
     )
 }
 
+// A request, with room for the lists of its chains that the caller lends: whoever draws many requests fills it once. What it holds before is
+// of no account.
+pub fn draw_lent<'a>(
+    class: &[u8],
+    swap: bool,
+    tail: &[u8],
+    count: usize,
+    first: &'a [u8],
+    second: &'a [u8],
+    third: &'a [u8],
+    fourth: &'a [u8],
+    line: &mut [u8],
+    index: &mut [u16],
+    lists: &mut [u64; LIST_ROOM],
+) -> Answer
+    ensures { λ r. ⌜ Called (verdict (now (class .entry)) (now (tail .entry)) count (tokens count (now (first .entry)) (now (second .entry)) (now (third .entry)) (now (fourth .entry)))) swap (now (tail .entry)) (now (line .entry)) (now (index .entry)) (now (line .exit)) (now (index .exit)) r ⌝ }
+{
+    draw_in(
+        class,
+        swap,
+        tail,
+        count,
+        first,
+        second,
+        third,
+        fourth,
+        line,
+        index,
+        lists,
+    )
+}
+
 // A request: refused with a number of document 01 and the place of the token, or drawn. Most have one token or two: then an array for one
 // chain or two is filled, and not one for four.
 pub fn draw<'a>(
@@ -100,7 +132,7 @@ pub fn draw<'a>(
         );
     }
     let mut lists = [0u64; LIST_ROOM];
-    draw_in(
+    draw_lent(
         class,
         swap,
         tail,
