@@ -353,7 +353,3 @@ module _ (b g n : ℕ) (s : List ℕ) (r : ReadToken) (bs gs rs : List ℕ) wher
   pub token-in : 32 ≤ b → 16 ≤ g → 8 ≤ n → Tells r bs gs rs (tokenOf s) → Tells r bs gs rs (tokenIn b g n s)
   unfolding tokenIn
   token-in u v w k = record { stands = rw (le-ltb b maxBonds u, le-ltb g maxGroups v, le-ltb n maxRings w) (k .stands) }
-
--- the record put together
-pub token-whole : (r : ReadToken) (bs gs rs : List ℕ) (o : Outcome) → Tells r bs gs rs o → Stands (record { refusal = r .refusal; chain = tokenAs r bs gs rs }) o
-token-whole r bs gs rs o w = w .stands

@@ -6,11 +6,8 @@ use features::Segment;
 use opening::Branch;
 use parsed::Counted;
 use parsed::Counts;
-use parsed::Parsed;
-use parsed::ParsedChain;
 use record::ChainPrefix;
 use record::DbPos;
-use record::GROUP_ROOM;
 use record::Geometry;
 use record::MAX_BONDS;
 use record::MAX_GROUPS;
@@ -24,7 +21,7 @@ ghost use mathlib.Core.Logic.{_⊎_};
 ghost use Prim.Native.Nat.{_≤_, _-_};
 ghost use lib.ListN.{length};
 ghost use Rattle.record.specs.Chain.{maxCarbons, maxBonds, maxGroups, maxRings};
-ghost use Rattle.parsed.specs.Parsed.{Stands, Collects, gather};
+ghost use Rattle.parsed.specs.Parsed.{Collects, gather};
 ghost use Rattle.scan.specs.Number.{isDigit};
 ghost use Rattle.token.specs.Token.{printable, allPrintable, maxBytes, missingOf, finished, restOf, countedList, listedOf, afterCount, bondsOf, namedChain, trimmedOf, tokenOf};
 ghost use Rattle.token.specs.Lent.{MissingIs, Bare, Finishes, listedAs, Ends, EndsBegun, Tells, noToken, tokenIn};
@@ -1044,34 +1041,4 @@ pub fn parse_token(s: &[u8], bonds: &mut [u64], groups: &mut [u64], rings: &mut 
         return ReadToken::empty(record::OVER_LIMIT);
     }
     read_token(s, bonds, groups, rings)
-}
-
-// The chain that one token says, by itself.
-pub fn parse_chain_token(s: &[u8]) -> Parsed
-    ensures { λ r. ⌜ Stands r (tokenOf (now (s .entry))) ⌝ }
-{
-    let mut bonds = [0u64; MAX_BONDS];
-    let mut groups = [0u64; GROUP_ROOM];
-    let mut rings = [0u64; MAX_RINGS];
-    let read = read_token(s, &mut bonds, &mut groups, &mut rings);
-    let prefix = read.prefix;
-    let counts = read.counts;
-    let chain = ParsedChain {
-        prefix,
-        written: read.written,
-        carbon: read.carbon,
-        branched: read.branched,
-        unlocated: read.unlocated,
-        oxygens: counts.oxygens,
-        bond_count: counts.bonds,
-        bonds,
-        group_count: counts.groups,
-        groups,
-        ring_count: counts.rings,
-        rings,
-    };
-    Parsed {
-        refusal: read.refusal,
-        chain,
-    }
 }

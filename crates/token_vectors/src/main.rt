@@ -6,7 +6,10 @@ use parsed::ParsedChain;
 use record::Bridge;
 use record::ChainPrefix;
 use record::DbPos;
+use record::GROUP_ROOM;
 use record::Geometry;
+use record::MAX_BONDS;
+use record::MAX_RINGS;
 use record::Mod;
 use record::Ring;
 
@@ -54,7 +57,7 @@ fn put_bonds(out: &mut [u8], at: usize, chain: ParsedChain) -> usize {
     let mut p = put_none(out, at, n);
     let mut i = 0;
     while i < n {
-        if record::MAX_BONDS <= i {
+        if MAX_BONDS <= i {
             return p;
         }
         p = emit::put_byte(out, p, separator(i));
@@ -83,7 +86,7 @@ fn put_groups(out: &mut [u8], at: usize, chain: ParsedChain) -> usize {
     let mut p = put_none(out, at, n);
     let mut i = 0;
     while i < n {
-        if record::GROUP_ROOM <= i {
+        if GROUP_ROOM <= i {
             return p;
         }
         p = emit::put_byte(out, p, separator(i));
@@ -110,7 +113,7 @@ fn put_rings(out: &mut [u8], at: usize, chain: ParsedChain) -> usize {
     let mut p = put_none(out, at, n);
     let mut i = 0;
     while i < n {
-        if record::MAX_RINGS <= i {
+        if MAX_RINGS <= i {
             return p;
         }
         p = emit::put_byte(out, p, separator(i));
@@ -138,13 +141,31 @@ fn put_record(out: &mut [u8], at: usize, chain: ParsedChain) -> usize {
 }
 
 fn put_answer(out: &mut [u8], token: &[u8]) -> usize {
-    let parsed = token::parse_chain_token(token);
-    let refusal = parsed.refusal;
+    let mut bonds = [0u64; MAX_BONDS];
+    let mut groups = [0u64; GROUP_ROOM];
+    let mut rings = [0u64; MAX_RINGS];
+    let read = token::parse_token(token, &mut bonds, &mut groups, &mut rings);
+    let refusal = read.refusal;
     if refusal != 0 {
         let p = emit::put_number(out, 0, refusal as u32);
         return emit::put_byte(out, p, b'\n');
     }
-    let chain = parsed.chain;
+    let prefix = read.prefix;
+    let counts = read.counts;
+    let chain = ParsedChain {
+        prefix,
+        written: read.written,
+        carbon: read.carbon,
+        branched: read.branched,
+        unlocated: read.unlocated,
+        oxygens: counts.oxygens,
+        bond_count: counts.bonds,
+        bonds,
+        group_count: counts.groups,
+        groups,
+        ring_count: counts.rings,
+        rings,
+    };
     let q = put_record(out, 0, chain);
     emit::put_byte(out, q, b'\n')
 }
