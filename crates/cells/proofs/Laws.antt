@@ -71,6 +71,20 @@ pub record Cutting (row starts t : List ℕ) (from n : ℕ) : Type 0 where
   pub start : n < length starts → getD starts n 0 ≡ from
   pub cells : (k : ℕ) → k + 1 < length starts → k < n → Between row starts k
 
+-- what is kept after the start of the next cell says nothing yet
+pub cut-next : (row starts t : List ℕ) (from n at : ℕ) (ks : List ℕ) → ks ≡ set starts (n + 1) at → Cutting row starts t from n → Cutting row ks t from n
+cut-next row starts t from n at ks e c =
+    let long : length ks ≡ length starts = rw (e, length-set) in
+    record {
+      rest = c .rest;
+      within = c .within;
+      count = c .count;
+      next = c .next;
+      few = c .few;
+      start = λ h. (rw e (getD-set-other starts (n + 1) n at 0 (λ z. omega arith) ∙ c .start (omega (arith, long))));
+      cells = λ k h i. (rw e (between-other row starts k (n + 1) at (omega arith) (λ z. omega arith) (c .cells k (omega (arith, long)) i)));
+    }
+
 pub cut-start : (row starts ks : List ℕ) → ks ≡ set starts 0 0 → Cutting row ks row 0 0
 cut-start row starts ks e =
     record {

@@ -1,18 +1,19 @@
 -- Laws of a line that is cut while its LF is looked for: of the loop over its bytes a turn and each way out.
 -- Assumes nothing.
 use Prim.Native.Nat.{ℕ, zero, suc, _+_, _-_, _≤_, _<_}
-use native.Mathlib.Nat.{zero-add, suc-add}
+use native.Mathlib.Nat.{zero-add, add-zero, suc-add}
 use native.Mathlib.Omega.{arith}
 use mathlib.Core.Path.{_≡_, refl, sym, ap, _∙_, subst}
+use mathlib.Core.Bool.{Bool, true, false, cond}
 use mathlib.Core.List.{List, [], _∷_}
 use lib.ListN.{length, getD, set, take, drop, drop-of-length-le}
 use lib.Seq.{drop-cons, drop-nil, take-nil, length-take-le}
 use lib.Dec.{eqb}
-use borrow.Author.Tests.{eq-eqb, ne-eqb}
+use borrow.Author.Tests.{eq-eqb, ne-eqb, eqb-true, eqb-false}
 use Rattle.scan.specs.Part.{Place, firstByte, indexOf}
 use Rattle.part.proofs.Laws.{first-within}
 use Rattle.cells.specs.Cells.{Cut, LineCut}
-use Rattle.cells.proofs.Laws.{Cutting, cut-start, cut-last, cut-more}
+use Rattle.cells.proofs.Laws.{Cutting, cut-start, cut-next, cut-last, cut-more}
 
 -- the line that a text begins with
 abbrev pub lineIn : List ℕ → List ℕ
@@ -85,7 +86,7 @@ module _ (text starts : List ℕ) (i n : ℕ) (a : Along text starts i n) where
     line-byte : (getD text i 0 ≡ 10 → ⊥) → indexOf 9 (lineIn (drop i text)) ≡ indexOf 9 (getD text i 0 ∷ lineIn (drop (i + 1) text))
     line-byte d = ap (λ (t : List ℕ). indexOf 9 (lineIn t)) byte ∙ ap (λ (t : List ℕ). indexOf 9 t) (line-on (getD text i 0) (drop (i + 1) text) d)
 
-    pub along-byte : (getD text i 0 ≡ 9 → ⊥) → (getD text i 0 ≡ 10 → ⊥) → Along text starts (i + 1) n
+    along-byte : (getD text i 0 ≡ 9 → ⊥) → (getD text i 0 ≡ 10 → ⊥) → Along text starts (i + 1) n
     along-byte d e =
         let p = no-lf e in
         let q = line-byte e ∙ tab-on (getD text i 0) (lineIn (drop (i + 1) text)) d in
@@ -98,10 +99,7 @@ module _ (text starts : List ℕ) (i n : ℕ) (a : Along text starts i n) where
           whole = omega (arith, a .whole, a .past, q);
         }
 
-    pub along-high : 10 < getD text i 0 → Along text starts (i + 1) n
-    along-high g = along-byte (λ z. omega arith) (λ z. omega arith)
-
-    pub along-tab : (ks : List ℕ) → getD text i 0 ≡ 9 → ks ≡ set starts (n + 1) (i + 1) → Along text ks (i + 1) (n + 1)
+    along-tab : (ks : List ℕ) → getD text i 0 ≡ 9 → ks ≡ set starts (n + 1) (i + 1) → Along text ks (i + 1) (n + 1)
     along-tab ks e s =
         let d : getD text i 0 ≡ 10 → ⊥ = λ z. omega arith in
         let p = no-lf d in
@@ -124,6 +122,18 @@ module _ (text starts : List ℕ) (i n : ℕ) (a : Along text starts i n) where
           clear = g;
           whole = omega (arith, o, w);
         }
+
+  -- the place after the byte is kept as the next start, whether it is one or not
+  kept-next : (ks : List ℕ) → ks ≡ set starts (n + 1) (i + 1) → Along text ks i n
+  kept-next ks s =
+      record {
+        from = a .from;
+        rest = a .rest;
+        cutting = cut-next (lineIn text) starts (a .rest) (a .from) n (i + 1) ks s (a .cutting);
+        past = a .past;
+        clear = a .clear;
+        whole = a .whole;
+      }
 
   module _ (ks : List ℕ) (s : ks ≡ set starts (n + 1) (i + 1)) where
     ends : indexOf 10 (drop i text) ≡ 0 → LineCut text ks (record { cells = n + 1; end = i })
@@ -148,3 +158,20 @@ module _ (text starts : List ℕ) (i n : ℕ) (a : Along text starts i n) where
     pub along-end : length text ≤ i → LineCut text ks (record { cells = n + 1; end = i })
     unfolding firstByte
     along-end h = ends (ap (λ (t : List ℕ). indexOf 10 t) (drop-of-length-le text h))
+
+-- a byte that is no LF, with the tabs that it is
+pub along-next : (text starts : List ℕ) (i n m : ℕ) (ks : List ℕ) → Along text starts i n → i < length text → ks ≡ set starts (n + 1) (i + 1)
+    → (getD text i 0 ≡ 10 → ⊥) → m ≡ cond (eqb (getD text i 0) 9) 1 0 → Along text ks (i + 1) (n + m)
+along-next text starts i n m ks a h s d f = go (eqb (getD text i 0) 9) refl f
+  where
+    go : (x : Bool) → eqb (getD text i 0) 9 ≡ x → m ≡ cond x 1 0 → Along text ks (i + 1) (n + m)
+    go true t o = rw o (along-tab text starts i n a h ks (eqb-true (getD text i 0) 9 t) s)
+    go false t o = rw (o, add-zero) (along-byte text ks i n (kept-next text starts i n a ks s) h (eqb-false (getD text i 0) 9 t) d)
+
+-- ---- a byte
+
+pub tab-one : (b : ℕ) → b ≡ 9 → _≡_ {A = ℕ} 1 (cond (eqb b 9) 1 0)
+tab-one b e = rw (eq-eqb b 9 e)
+
+pub tab-none : (b : ℕ) → (b ≡ 9 → ⊥) → _≡_ {A = ℕ} 0 (cond (eqb b 9) 1 0)
+tab-none b d = rw (ne-eqb b 9 d)

@@ -6,7 +6,10 @@ pub use cellwords::token_count;
 use header::COLUMNS;
 use header::Plan;
 ghost use mathlib.Core.Path.{_≡_};
+ghost use mathlib.Core.Bool.{cond};
+ghost use Prim.Native.Nat.{_≤_};
 ghost use lib.ListN.{set};
+ghost use lib.Dec.{eqb};
 ghost use Rattle.header.specs.Header.{cellsOf};
 ghost use Rattle.cells.specs.Cells.{cellAt, cellOf, Cut, LineCut};
 
@@ -49,7 +52,16 @@ pub struct Line {
     pub end: usize,
 }
 
-// The line that a text begins with, up to its LF or to the end, cut as a row is. Nearly every byte is above tab and LF, which one look tells.
+// The tabs that a byte is: 1 or none.
+fn tab_in(b: u8) -> usize
+    ensures { λ r. ⌜ (r ≡ cond (eqb b 9) 1 0) × (r ≤ 1) ⌝ }
+{
+    if b == b'\t' { 1 } else { 0 }
+}
+
+// The line that a text begins with, up to its LF or to the end, cut as a row is. Each byte leaves the place after it as the next start, which
+// stands if the byte is a tab and is written over if it is not: but for the end of the line, no branch depends on what a byte is. Where a cell
+// ends is hard to guess, and a wrong guess costs more than the bytes of a cell do.
 pub fn cut_line(text: &[u8], starts: &mut [usize]) -> Line
     ensures { λ r. ⌜ LineCut (now (text .entry)) (now (starts .exit)) r ⌝ }
 {
@@ -58,23 +70,14 @@ pub fn cut_line(text: &[u8], starts: &mut [usize]) -> Line
     let mut n = 0;
     while i < text.len() {
         let b = text[i];
-        if b'\n' < b {
-            i += 1;
-            continue;
-        }
-        if b == b'\t' {
-            i += 1;
-            n += 1;
-            keep(starts, n, i);
-            continue;
-        }
+        keep(starts, n + 1, i + 1);
         if b == b'\n' {
-            keep(starts, n + 1, i + 1);
             return Line {
                 cells: n + 1,
                 end: i,
             };
         }
+        n += tab_in(b);
         i += 1;
     }
     keep(starts, n + 1, i + 1);

@@ -3,7 +3,7 @@ use native.Mathlib.Omega.{arith}
 use Prim.Native.Nat.{_-_, _≤_}
 use mathlib.Core.Path.{_≡_}
 use lib.ListN.{length}
-use Rattle.cells.proofs.LineLaws.{Along, along-start, along-high, along-tab, along-byte, along-lf, along-end}
+use Rattle.cells.proofs.LineLaws.{Along, along-start, along-next, along-lf, along-end}
 use Rattle.cells.proofs.cut_line.Statement.{statement}
 use Rattle.cells.proofs.cut_line.Tie as tie
 
@@ -22,41 +22,17 @@ loop-holds c = (search along-start, omega arith, omega arith, search needs)
 shared-slice-read-b : tie.Need-shared-slice-read-b Inv-loop μ-loop
 shared-slice-read-b c = search needs
 
-add-i : tie.Need-add-i Inv-loop μ-loop
-add-i c = search needs
-
-loop-less : tie.Need-loop-less Inv-loop μ-loop
-loop-less c = search needs
-
-loop-again : tie.Need-loop-again Inv-loop μ-loop
-loop-again c = (search along-high, omega arith, omega arith, search needs)
-
-add-i-2 : tie.Need-add-i-2 Inv-loop μ-loop
-add-i-2 c = search needs
-
-add-n : tie.Need-add-n Inv-loop μ-loop
-add-n c = search needs
-
-keep-requires-2 : tie.Need-keep-requires-2 Inv-loop μ-loop
-keep-requires-2 c κs = search needs
-
-loop-less-2 : tie.Need-loop-less-2 Inv-loop μ-loop
-loop-less-2 c = search needs
-
-loop-again-2 : tie.Need-loop-again-2 Inv-loop μ-loop
-loop-again-2 c = (search along-tab, omega arith, omega arith, search needs)
-
 add-keep : tie.Need-add-keep Inv-loop μ-loop
 add-keep c = search needs
 
 add-keep-2 : tie.Need-add-keep-2 Inv-loop μ-loop
 add-keep-2 c = search needs
 
-keep-requires-3 : tie.Need-keep-requires-3 Inv-loop μ-loop
-keep-requires-3 c κs = search needs
+keep-requires-2 : tie.Need-keep-requires-2 Inv-loop μ-loop
+keep-requires-2 c κs = search needs
 
-add-t19 : tie.Need-add-t19 Inv-loop μ-loop
-add-t19 c = search needs
+add-t17 : tie.Need-add-t17 Inv-loop μ-loop
+add-t17 c = search needs
 
 same-length : tie.Need-same-length Inv-loop μ-loop
 same-length c = search needs
@@ -64,14 +40,20 @@ same-length c = search needs
 returns : tie.Need-returns Inv-loop μ-loop
 returns c = search along-lf
 
-add-i-3 : tie.Need-add-i-3 Inv-loop μ-loop
-add-i-3 c = search needs
+tab-in-requires : tie.Need-tab-in-requires Inv-loop μ-loop
+tab-in-requires c κs = search needs
 
-loop-less-3 : tie.Need-loop-less-3 Inv-loop μ-loop
-loop-less-3 c = search needs
+add-n : tie.Need-add-n Inv-loop μ-loop
+add-n c = search needs
 
-loop-again-3 : tie.Need-loop-again-3 Inv-loop μ-loop
-loop-again-3 c = (search along-byte, omega arith, omega arith, search needs)
+add-i : tie.Need-add-i Inv-loop μ-loop
+add-i c = search needs
+
+loop-less : tie.Need-loop-less Inv-loop μ-loop
+loop-less c = search needs
+
+loop-again : tie.Need-loop-again Inv-loop μ-loop
+loop-again c = (search along-next, omega arith, omega arith, search needs)
 
 add-keep-3 : tie.Need-add-keep-3 Inv-loop μ-loop
 add-keep-3 c = search needs
@@ -79,11 +61,11 @@ add-keep-3 c = search needs
 add-keep-4 : tie.Need-add-keep-4 Inv-loop μ-loop
 add-keep-4 c = search needs
 
-keep-requires-4 : tie.Need-keep-requires-4 Inv-loop μ-loop
-keep-requires-4 c κs = search needs
+keep-requires-3 : tie.Need-keep-requires-3 Inv-loop μ-loop
+keep-requires-3 c κs = search needs
 
-add-t23 : tie.Need-add-t23 Inv-loop μ-loop
-add-t23 c = search needs
+add-t20 : tie.Need-add-t20 Inv-loop μ-loop
+add-t20 c = search needs
 
 same-length-2 : tie.Need-same-length-2 Inv-loop μ-loop
 same-length-2 c = search needs
@@ -100,26 +82,20 @@ cut-line-spec =
     keep-requires
     loop-holds
     shared-slice-read-b
+    add-keep
+    add-keep-2
+    keep-requires-2
+    add-t17
+    same-length
+    returns
+    tab-in-requires
+    add-n
     add-i
     loop-less
     loop-again
-    add-i-2
-    add-n
-    keep-requires-2
-    loop-less-2
-    loop-again-2
-    add-keep
-    add-keep-2
-    keep-requires-3
-    add-t19
-    same-length
-    returns
-    add-i-3
-    loop-less-3
-    loop-again-3
     add-keep-3
     add-keep-4
-    keep-requires-4
-    add-t23
+    keep-requires-3
+    add-t20
     same-length-2
     returns-2)
