@@ -14,7 +14,8 @@ use borrow.Author.Tests.{eq-eqb, ne-eqb}
 use Rattle.chain.specs.declared.Role.{Role}
 use Rattle.chain.specs.declared.Role.the-variants.{Slot, Acyl, Base}
 use Rattle.placed.specs.declared.Placed.{Placed}
-use Rattle.placed.specs.Notes.{roleCode, roleIn, flagCode, nowhere, placedIn, numbersOf, placedFrom, chainsIn, Stored}
+use Rattle.placed.specs.declared.Four.{Four}
+use Rattle.placed.specs.Notes.{roleCode, roleIn, flagCode, nowhere, placedIn, numbersOf, placedFrom, chainsIn, Standing, Stored}
 
 -- ---- a role
 
@@ -72,13 +73,16 @@ nth ns b j h = rw (getD-take 12 (drop b ns) j 0 h) (getD-drop b ns j 0)
 nth-first : (ns : List ℕ) (b : ℕ) → getD (take 12 (drop b ns)) 0 0 ≡ getD ns b 0
 nth-first ns b = nth ns b 0 (omega arith) ∙ rw (add-zero b)
 
-pub chain-read : (ns : List ℕ) (b : ℕ) (r : Role) (c d e f g h : ℕ) → r ≡ roleIn (getD ns (b + 1) 0) → c ≡ getD ns (b + 5) 0 % 65536 → d ≡ getD ns (b + 7) 0 % 65536
-    → e ≡ getD ns (b + 8) 0 % 65536 → f ≡ getD ns (b + 9) 0 % 65536 → g ≡ getD ns (b + 10) 0 % 65536 → h ≡ getD ns (b + 11) 0 % 65536
-    → record { sn = getD ns b 0 % 256; role = r; first = getD ns (b + 2) 0; site = getD ns (b + 3) 0; variable = getD ns (b + 4) 0; count = c; acyl = eqb (getD ns (b + 6) 0) 1; unlocated = d; flexible = e; floats = f; total = g; «float_count» = h }
+further : (ns : List ℕ) (b i j : ℕ) → i + j < 12 → getD ns (b + i + j) 0 ≡ getD (take 12 (drop b ns)) (i + j) 0
+further ns b i j h = let e : b + i + j ≡ b + (i + j) = omega arith in rw e (sym (nth ns b (i + j) h))
+
+pub chain-read : (ns : List ℕ) (b : ℕ) (p q s : Four) → Standing ns b p → Standing ns (b + 4) q → Standing ns (b + 8) s
+    → (r : Role) (c d e f g h : ℕ) → r ≡ roleIn (p .b) → c ≡ q .b % 65536 → d ≡ q .d % 65536 → e ≡ s .a % 65536 → f ≡ s .b % 65536 → g ≡ s .c % 65536 → h ≡ s .d % 65536
+    → record { sn = p .a % 256; role = r; first = p .c; site = p .d; variable = q .a; count = c; acyl = eqb (q .c) 1; unlocated = d; flexible = e; floats = f; total = g; «float_count» = h }
     ≡ placedIn (take 12 (drop b ns))
 unfolding placedIn
-chain-read ns b r c d e f g h r₌ c₌ d₌ e₌ f₌ g₌ h₌ =
-    rw (nth-first ns b, nth ns b 1 (omega arith), nth ns b 2 (omega arith), nth ns b 3 (omega arith), nth ns b 4 (omega arith), nth ns b 5 (omega arith), nth ns b 6 (omega arith), nth ns b 7 (omega arith), nth ns b 8 (omega arith), nth ns b 9 (omega arith), nth ns b 10 (omega arith), nth ns b 11 (omega arith), ← r₌, ← c₌, ← d₌, ← e₌, ← f₌, ← g₌, ← h₌)
+chain-read ns b p q s x y z r c d e f g h r₌ c₌ d₌ e₌ f₌ g₌ h₌ =
+    rw (r₌, c₌, d₌, e₌, f₌, g₌, h₌, x .first ∙ sym (nth-first ns b), x .second ∙ sym (nth ns b 1 (omega arith)), x .third ∙ sym (nth ns b 2 (omega arith)), x .fourth ∙ sym (nth ns b 3 (omega arith)), y .first ∙ sym (nth ns b 4 (omega arith)), y .second ∙ further ns b 4 1 (omega arith), y .third ∙ further ns b 4 2 (omega arith), y .fourth ∙ further ns b 4 3 (omega arith), z .first ∙ sym (nth ns b 8 (omega arith)), z .second ∙ further ns b 8 1 (omega arith), z .third ∙ further ns b 8 2 (omega arith), z .fourth ∙ further ns b 8 3 (omega arith))
 
 -- ---- chains end to end
 

@@ -1,5 +1,5 @@
 -- What is kept of the chains of a line, as numbers of an array, and back. Assumes nothing.
-use Prim.Native.Nat.{ℕ, zero, suc, _%_}
+use Prim.Native.Nat.{ℕ, zero, suc, _+_, _%_}
 use mathlib.Core.Path.{_≡_}
 use mathlib.Core.Bool.{Bool, true, false, cond}
 use mathlib.Core.List.{List, [], _∷_}
@@ -9,6 +9,7 @@ use lib.Seq.{sets}
 use Rattle.chain.specs.declared.Role.{Role}
 use Rattle.chain.specs.declared.Role.the-variants.{Slot, Acyl, Base}
 use Rattle.placed.specs.declared.Placed.{Placed}
+use Rattle.placed.specs.declared.Four.{Four}
 
 abbrev pub roleCode : Role → ℕ
 roleCode Slot = 0
@@ -47,6 +48,13 @@ placedFrom (suc n) ns = placedIn (take 12 ns) ∷ placedFrom n (drop 12 ns)
 unfoldable pub chainsIn : List ℕ → List Placed
 unfolding placedFrom
 chainsIn ns = placedFrom 4 ns
+
+-- four numbers as they stand from a place on
+pub record Standing (xs : List ℕ) (at : ℕ) (r : Four) : Type 0 where
+  pub first : r .a ≡ getD xs at 0
+  pub second : r .b ≡ getD xs (at + 1) 0
+  pub third : r .c ≡ getD xs (at + 2) 0
+  pub fourth : r .d ≡ getD xs (at + 3) 0
 
 -- numbers written over those of an array from a place on
 pub record Stored (xs : List ℕ) (at : ℕ) (ts ys : List ℕ) : Type 0 where

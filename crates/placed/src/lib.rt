@@ -2,11 +2,12 @@
 use chain::Role;
 ghost use mathlib.Core.Path.{_≡_};
 ghost use mathlib.Core.List.{[], _∷_};
-ghost use Prim.Native.Nat.{min, _+_, _≤_, _%_};
+ghost use Prim.Native.Nat.{_+_, _≤_, _%_};
 ghost use lib.ListN.{length, take, drop, getD, set};
-ghost use Rattle.placed.specs.Notes.{roleCode, roleIn, flagCode, nowhere, placedIn, numbersOf, chainsIn, Stored};
+ghost use Rattle.placed.specs.Notes.{roleCode, roleIn, flagCode, nowhere, placedIn, numbersOf, chainsIn, Standing, Stored};
 pub use atoms::in_room;
 pub use drawable::MAX_CHAINS;
+pub use places::in_places;
 
 // Where a chain stands and what is kept of it: its first atom, the atom that is its site (a base has none, and its first atom stands there), its
 // first variable, how many indices it has, those of the template among them; whether it is acyl, its double bonds without a position; the atoms
@@ -93,24 +94,48 @@ fn wide(n: u16) -> u32
     n as u32
 }
 
+// Four of the numbers, side by side.
+struct Four {
+    a: u32,
+    b: u32,
+    c: u32,
+    d: u32,
+}
+
+// The four numbers from a place on.
+fn read_four(notes: &[u32; NOTE_ROOM], at: usize) -> Four
+    requires { ⌜ at + 4 ≤ 48 ⌝ }
+    ensures { λ r. ⌜ Standing (now (notes .entry)) at r ⌝ }
+{
+    Four {
+        a: notes[at],
+        b: notes[at + 1],
+        c: notes[at + 2],
+        d: notes[at + 3],
+    }
+}
+
 // What twelve numbers say of a chain.
 fn read_chain(notes: &[u32; NOTE_ROOM], b: usize) -> Placed
     requires { ⌜ b + 12 ≤ 48 ⌝ }
     ensures { λ r. ⌜ r ≡ placedIn (take 12 (drop b (now (notes .entry)))) ⌝ }
 {
+    let p = read_four(notes, b);
+    let q = read_four(notes, b + 4);
+    let s = read_four(notes, b + 8);
     Placed {
-        sn: (notes[b] % 256) as u8,
-        role: role_in(notes[b + 1]),
-        first: notes[b + 2],
-        site: notes[b + 3],
-        variable: notes[b + 4],
-        count: narrow(notes[b + 5]),
-        acyl: notes[b + 6] == 1,
-        unlocated: narrow(notes[b + 7]),
-        flexible: narrow(notes[b + 8]),
-        floats: narrow(notes[b + 9]),
-        total: narrow(notes[b + 10]),
-        float_count: narrow(notes[b + 11]),
+        sn: (p.a % 256) as u8,
+        role: role_in(p.b),
+        first: p.c,
+        site: p.d,
+        variable: q.a,
+        count: narrow(q.b),
+        acyl: q.c == 1,
+        unlocated: narrow(q.d),
+        flexible: narrow(s.a),
+        floats: narrow(s.b),
+        total: narrow(s.c),
+        float_count: narrow(s.d),
     }
 }
 
@@ -167,14 +192,4 @@ pub fn note(notes: &mut [u32; NOTE_ROOM], i: usize, p: Placed)
         put_chain(notes, 12 * i, p);
         return;
     }
-}
-
-// How many chains there are.
-pub fn in_places(count: usize) -> usize
-    ensures { λ r. ⌜ r ≡ min count 4 ⌝ }
-{
-    if count < MAX_CHAINS {
-        return count;
-    }
-    MAX_CHAINS
 }

@@ -12,8 +12,15 @@ use Rattle.emit.specs.Text.{Written, decimal}
 use Rattle.emit.proofs.Laws.{written-append, written-nil}
 use Rattle.reading.specs.Ascii.{ascii}
 use Rattle.reading.specs.Parting.{joined, led}
+use Rattle.reading.specs.Show.{showLabel}
 use Rattle.chain.specs.Lists.{valuesFrom}
 use Rattle.shown.specs.Chained.{lead, blocksEnd, parting, listed, numbered}
+
+-- ---- the label of a site
+
+pub label-text : {xs ys : List ℕ} {a p : ℕ} (sn : ℕ) → Written xs a (115 ∷ 110 ∷ (48 + sn) ∷ []) ys p → Written xs a (showLabel sn) ys p
+unfolding showLabel ascii
+label-text sn w = w
 
 -- ---- the texts that are chosen by a test
 

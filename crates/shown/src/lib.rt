@@ -2,7 +2,9 @@
 // and before a part, the bar after the blocks, and the sites. The builder keeps marks, site lists, sums and sites as numbers and shows them last.
 // Each writer is of the kind of `emit`: it stores nothing past the end and counts on. A writer of blocks or of parts of the trailer is told
 // whether nothing of its kind stands before them, and writes what parts them. The texts are those of the reading rules.
+ghost use Prim.Native.Nat.{_<_};
 ghost use Rattle.emit.specs.Text.{Written};
+ghost use Rattle.reading.specs.Show.{showLabel};
 ghost use Rattle.shown.specs.Chained.{blockLead, partLead, blocksEnd, parting, numbered};
 use emit::put_byte;
 use emit::put_number;
@@ -56,6 +58,14 @@ pub fn put_numbered(out: &mut [u8], at: usize, before: &[u8], n: u32, after: u8)
     let p = put_text(out, at, before);
     let q = put_number(out, p, n);
     put_byte(out, q, after)
+}
+
+// The label of a site, `sn` and its digit.
+pub fn put_label(out: &mut [u8], at: usize, sn: u32) -> usize
+    requires { ⌜ sn < 10 ⌝ }
+    ensures { λ r. ⌜ Written (now (out .entry)) at (showLabel sn) (now (out .exit)) r ⌝ }
+{
+    put_text(out, at, &[b's', b'n', 48 + sn as u8])
 }
 
 // The most sites that a line has: one for each sn.

@@ -26,10 +26,6 @@ use Rattle.shown.proofs.Chained.{one-shown, none-shown}
 use Rattle.sn.specs.Gaps.{Gap, nearest}
 use Rattle.sn.proofs.Sites.{labels-snoc, take-counted, counted-none, counted-some}
 
-pub label-text : {xs ys : List ℕ} {a p : ℕ} (sn : ℕ) → Written xs a (115 ∷ 110 ∷ (48 + sn) ∷ []) ys p → Written xs a (showLabel sn) ys p
-unfolding showLabel ascii
-label-text sn w = w
-
 -- what the code has past an array's end
 abbrev noSite : Site
 noSite = record { sn = 0; atom = 0 }

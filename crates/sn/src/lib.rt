@@ -13,24 +13,11 @@ ghost use Rattle.sn.specs.Gaps.{Gap, nearest};
 ghost use Rattle.sn.specs.Falling.{Falling, FallTold};
 use emit::put_byte;
 use emit::put_text;
+use places::in_places;
 use shown::MAX_SITES;
 use shown::Site;
 use shown::put_block_lead;
-
-// A label, `sn` and its digit.
-pub fn put_label(out: &mut [u8], at: usize, sn: u32) -> usize
-    requires { ⌜ sn < 10 ⌝ }
-    ensures { λ r. ⌜ Written (now (out .entry)) at (showLabel sn) (now (out .exit)) r ⌝ }
-{
-    put_text(out, at, &[b's', b'n', 48 + sn as u8])
-}
-
-// How many of the sites count: a larger number stands for all of them.
-pub fn counted(count: usize) -> usize
-    ensures { λ r. ⌜ r ≡ min count maxSites ⌝ }
-{
-    if count < MAX_SITES { count } else { MAX_SITES }
-}
+use shown::put_label;
 
 // How many atoms there are up to this one.
 fn past(atom: u32) -> usize
@@ -260,7 +247,7 @@ pub fn put_label_block(
     requires { ⌜ Digits (take count sites) ⌝ }
     ensures { λ r. ⌜ Written (now (out .entry)) at (shownBlocks first (labelBlocks (labelsOf (take count sites)))) (now (out .exit)) r ⌝ }
 {
-    let n = counted(count);
+    let n = in_places(count);
     if n == 0 {
         return at;
     }

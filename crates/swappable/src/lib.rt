@@ -10,12 +10,12 @@ ghost use Rattle.shown.specs.Chained.{shownParts, listed};
 ghost use Rattle.shown.specs.Notes.{maxSites, labelsOf, Digits};
 use emit::put_byte;
 use emit::put_text;
+use places::in_places;
 use shown::MAX_SITES;
 use shown::Site;
+use shown::put_label;
 use shown::put_part_lead;
 use shown::put_parting;
-use sn::counted;
-use sn::put_label;
 
 // A label of the list of labels that may be exchanged.
 fn put_next_label(out: &mut [u8], at: usize, more: bool, sn: u32) -> usize
@@ -62,7 +62,7 @@ pub fn put_swappable(
     requires { ⌜ Digits (take count sites) ⌝ }
     ensures { λ r. ⌜ Written (now (out .entry)) at (shownParts first (swapTexts (labelsOf (take count sites)))) (now (out .exit)) r ⌝ }
 {
-    let n = counted(count);
+    let n = in_places(count);
     if n == 0 {
         return at;
     }

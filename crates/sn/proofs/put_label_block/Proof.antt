@@ -5,8 +5,8 @@ use borrow.Author.Needs.{needs}
 use Rattle.sn.proofs.put_label_block.Statement.{statement}
 use Rattle.sn.proofs.put_label_block.Tie as tie
 
-counted-requires : tie.Need-counted-requires
-counted-requires c κs = search needs
+in-places-requires : tie.Need-in-places-requires
+in-places-requires c κs = search needs
 
 returns : tie.Need-returns
 returns c = search (block-none, arith)
@@ -27,7 +27,7 @@ pub put-label-block-spec : {M : Type 1} → statement M
 put-label-block-spec =
     tie.close
     (tie.spec
-    counted-requires
+    in-places-requires
     returns
     put-block-lead-requires
     put-label-text-requires

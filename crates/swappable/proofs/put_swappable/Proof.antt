@@ -5,8 +5,8 @@ use borrow.Author.Needs.{needs}
 use Rattle.swappable.proofs.put_swappable.Statement.{statement}
 use Rattle.swappable.proofs.put_swappable.Tie as tie
 
-counted-requires : tie.Need-counted-requires
-counted-requires c κs = search needs
+in-places-requires : tie.Need-in-places-requires
+in-places-requires c κs = search needs
 
 returns : tie.Need-returns
 returns c = search (swap-none, arith)
@@ -27,7 +27,7 @@ pub put-swappable-spec : {M : Type 1} → statement M
 put-swappable-spec =
     tie.close
     (tie.spec
-    counted-requires
+    in-places-requires
     returns
     put-part-lead-requires
     put-swap-text-requires

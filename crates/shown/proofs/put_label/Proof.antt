@@ -1,7 +1,7 @@
-use Rattle.sn.proofs.Laws.{label-text}
+use Rattle.shown.proofs.Laws.{label-text}
 use borrow.Author.Needs.{needs}
-use Rattle.sn.proofs.put_label.Statement.{statement}
-use Rattle.sn.proofs.put_label.Tie as tie
+use Rattle.shown.proofs.put_label.Statement.{statement}
+use Rattle.shown.proofs.put_label.Tie as tie
 
 cast-t7 : tie.Need-cast-t7
 cast-t7 c = search needs
