@@ -11,7 +11,8 @@ use lib.Dec.{eqb}
 use lib.ListN.{length, take, drop, getD, set, length-drop}
 use lib.Seq.{sets, sets-eq, set-out, getD-take, getD-drop, drop-drop, take-set-le, drop-set-add, drop-at}
 use Rattle.drawable.specs.declared.Shape.{Shape}
-use Rattle.shapes.specs.Shapes.{flagCode, noShape, shapeIn, numbersOf, shapesFrom, shapesIn, Stored}
+use Rattle.shapes.specs.declared.Three.{Three}
+use Rattle.shapes.specs.Shapes.{flagCode, noShape, shapeIn, numbersOf, shapesFrom, shapesIn, Standing, Stored}
 
 flag-back : (b : Bool) → eqb (flagCode b) 1 ≡ b
 flag-back true = refl
@@ -48,12 +49,16 @@ nth ns b j h = rw (getD-take 9 (drop b ns) j 0 h) (getD-drop b ns j 0)
 nth-first : (ns : List ℕ) (b : ℕ) → getD (take 9 (drop b ns)) 0 0 ≡ getD ns b 0
 nth-first ns b = nth ns b 0 (omega arith) ∙ rw (add-zero b)
 
-pub shape-read : (ns : List ℕ) (b p q r : ℕ) → p ≡ getD ns b 0 % 65536 → q ≡ getD ns (b + 1) 0 % 65536 → r ≡ getD ns (b + 4) 0 % 65536
-    → record { first = p; carbon = q; acyl = eqb (getD ns (b + 2) 0) 1; «ether_base» = eqb (getD ns (b + 3) 0) 1; unlocated = r; «bond_count» = getD ns (b + 5) 0; «group_count» = getD ns (b + 6) 0; «float_count» = getD ns (b + 7) 0; «ring_count» = getD ns (b + 8) 0 }
+further : (ns : List ℕ) (b i j : ℕ) → i + j < 9 → getD ns (b + i + j) 0 ≡ getD (take 9 (drop b ns)) (i + j) 0
+further ns b i j h = let e : b + i + j ≡ b + (i + j) = omega arith in rw e (sym (nth ns b (i + j) h))
+
+pub shape-read : (ns : List ℕ) (b : ℕ) (p q s : Three) → Standing ns b p → Standing ns (b + 3) q → Standing ns (b + 6) s
+    → (f c u : ℕ) → f ≡ p .a % 65536 → c ≡ p .b % 65536 → u ≡ q .b % 65536
+    → record { first = f; carbon = c; acyl = eqb (p .c) 1; «ether_base» = eqb (q .a) 1; unlocated = u; «bond_count» = q .c; «group_count» = s .a; «float_count» = s .b; «ring_count» = s .c }
     ≡ shapeIn (take 9 (drop b ns))
 unfolding shapeIn
-shape-read ns b p q r p₌ q₌ r₌ =
-    rw (nth-first ns b, nth ns b 1 (omega arith), nth ns b 2 (omega arith), nth ns b 3 (omega arith), nth ns b 4 (omega arith), nth ns b 5 (omega arith), nth ns b 6 (omega arith), nth ns b 7 (omega arith), nth ns b 8 (omega arith), ← p₌, ← q₌, ← r₌)
+shape-read ns b p q s x y z f c u f₌ c₌ u₌ =
+    rw (f₌, c₌, u₌, x .first ∙ sym (nth-first ns b), x .second ∙ sym (nth ns b 1 (omega arith)), x .third ∙ sym (nth ns b 2 (omega arith)), y .first ∙ sym (nth ns b 3 (omega arith)), y .second ∙ further ns b 3 1 (omega arith), y .third ∙ further ns b 3 2 (omega arith), z .first ∙ sym (nth ns b 6 (omega arith)), z .second ∙ further ns b 6 1 (omega arith), z .third ∙ further ns b 6 2 (omega arith))
 
 -- ---- chains end to end
 

@@ -1,5 +1,5 @@
 -- The shapes of the chains of a request as numbers of an array, and back. Assumes nothing.
-use Prim.Native.Nat.{ℕ, zero, suc, _%_}
+use Prim.Native.Nat.{ℕ, zero, suc, _+_, _%_}
 use mathlib.Core.Path.{_≡_}
 use mathlib.Core.Bool.{Bool, true, false}
 use mathlib.Core.List.{List, [], _∷_}
@@ -8,6 +8,7 @@ use lib.ListN.{take, drop, getD}
 use lib.Seq.{sets}
 use Rattle.drawable.specs.declared.Shape.{Shape}
 use Rattle.drawable.specs.Chains.{Chains, itemsOf}
+use Rattle.shapes.specs.declared.Three.{Three}
 
 abbrev pub flagCode : Bool → ℕ
 flagCode true = 1
@@ -38,6 +39,12 @@ shapesFrom (suc n) ns = shapeIn (take 9 ns) ∷ shapesFrom n (drop 9 ns)
 unfoldable pub shapesIn : List ℕ → List Shape
 unfolding shapesFrom
 shapesIn ns = shapesFrom 4 ns
+
+-- three numbers as they stand from a place on
+pub record Standing (xs : List ℕ) (at : ℕ) (r : Three) : Type 0 where
+  pub first : r .a ≡ getD xs at 0
+  pub second : r .b ≡ getD xs (at + 1) 0
+  pub third : r .c ≡ getD xs (at + 2) 0
 
 -- numbers written over those of an array from a place on
 pub record Stored (xs : List ℕ) (at : ℕ) (ts ys : List ℕ) : Type 0 where

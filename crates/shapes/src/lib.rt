@@ -6,7 +6,7 @@ ghost use mathlib.Core.Path.{_≡_};
 ghost use mathlib.Core.List.{[], _∷_};
 ghost use Prim.Native.Nat.{_+_, _≤_, _%_};
 ghost use lib.ListN.{length, take, drop, getD, set};
-ghost use Rattle.shapes.specs.Shapes.{flagCode, noShape, shapeIn, numbersOf, shapesIn, Stored};
+ghost use Rattle.shapes.specs.Shapes.{flagCode, noShape, shapeIn, numbersOf, shapesIn, Standing, Stored};
 ghost use Rattle.shapes.specs.Sn.{ShapeAt};
 
 // Room for four chains.
@@ -44,21 +44,43 @@ fn no_shape() -> Shape
     }
 }
 
+// Three of the numbers, side by side.
+struct Three {
+    a: u64,
+    b: u64,
+    c: u64,
+}
+
+// The three numbers from a place on.
+fn read_three(shapes: &[u64; SHAPE_ROOM], at: usize) -> Three
+    requires { ⌜ at + 3 ≤ 36 ⌝ }
+    ensures { λ r. ⌜ Standing (now (shapes .entry)) at r ⌝ }
+{
+    Three {
+        a: shapes[at],
+        b: shapes[at + 1],
+        c: shapes[at + 2],
+    }
+}
+
 // What nine numbers say of a chain.
 fn read_shape(shapes: &[u64; SHAPE_ROOM], b: usize) -> Shape
     requires { ⌜ b + 9 ≤ 36 ⌝ }
     ensures { λ r. ⌜ r ≡ shapeIn (take 9 (drop b (now (shapes .entry)))) ⌝ }
 {
+    let p = read_three(shapes, b);
+    let q = read_three(shapes, b + 3);
+    let s = read_three(shapes, b + 6);
     Shape {
-        first: narrow(shapes[b]),
-        carbon: narrow(shapes[b + 1]),
-        acyl: shapes[b + 2] == 1,
-        ether_base: shapes[b + 3] == 1,
-        unlocated: narrow(shapes[b + 4]),
-        bond_count: shapes[b + 5] as usize,
-        group_count: shapes[b + 6] as usize,
-        float_count: shapes[b + 7] as usize,
-        ring_count: shapes[b + 8] as usize,
+        first: narrow(p.a),
+        carbon: narrow(p.b),
+        acyl: p.c == 1,
+        ether_base: q.a == 1,
+        unlocated: narrow(q.b),
+        bond_count: q.c as usize,
+        group_count: s.a as usize,
+        float_count: s.b as usize,
+        ring_count: s.c as usize,
     }
 }
 
