@@ -6,6 +6,7 @@ ghost use mathlib.Core.Path.{_≡_};
 ghost use Rattle.chain.specs.declared.Role.the-variants.{Slot};
 ghost use Rattle.chain.specs.Features.{firstDrawn, isAcyl};
 ghost use Rattle.chain.specs.Refusals.{isEther, etherBase, isSphingoid};
+ghost use Rattle.kind.specs.Kind.{Kind};
 
 // The first drawn carbon.
 pub fn first_drawn(role: Role) -> u16
@@ -75,5 +76,27 @@ pub fn is_sphingoid(prefix: ChainPrefix) -> bool
         ChainPrefix::EtherAlkenyl => false,
         ChainPrefix::SphingoidD => true,
         ChainPrefix::SphingoidT => true,
+    }
+}
+
+// 22: whether a chain is of the wrong kind for its place. A slot takes any chain but d and t with carbons, an acyl place an acyl chain with
+// carbons, and a base's place any chain of 4 carbons or more.
+pub fn wrong_kind(role: Role, prefix: ChainPrefix, carbon: u16) -> bool
+    ensures { λ r. ⌜ Kind role prefix carbon r ⌝ }
+{
+    match role {
+        Role::Slot => {
+            if is_sphingoid(prefix) {
+                return carbon > 0;
+            }
+            false
+        }
+        Role::Acyl => {
+            if is_acyl(role, prefix) {
+                return carbon == 0;
+            }
+            true
+        }
+        Role::Base => carbon < 4,
     }
 }

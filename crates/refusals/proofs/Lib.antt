@@ -1,3 +1,2 @@
 pub mod Place
 pub mod Rising
-pub mod Draw

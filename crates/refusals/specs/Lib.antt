@@ -1,2 +1,2 @@
-pub mod Kind
+pub use Rattle.kind.specs.Kind
 pub mod Rising

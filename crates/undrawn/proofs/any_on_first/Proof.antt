@@ -5,8 +5,8 @@ use lib.ListN.{drop}
 use Rattle.chain.specs.Lists.{anyOf}
 use Rattle.drawable.specs.Drawn.{groupsIn, groupAt}
 use Rattle.drawable.proofs.Through.{any-here, any-next, any-none}
-use Rattle.refusals.proofs.any_on_first.Statement.{statement}
-use Rattle.refusals.proofs.any_on_first.Tie as tie
+use Rattle.undrawn.proofs.any_on_first.Statement.{statement}
+use Rattle.undrawn.proofs.any_on_first.Tie as tie
 
 abbrev Inv-loop : tie.InvT-loop
 Inv-loop groups count n i₀ i = anyOf (groupAt 1) (groupsIn count groups) ≡ anyOf (groupAt 1) (drop i (groupsIn count groups))

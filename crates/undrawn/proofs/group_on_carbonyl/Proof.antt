@@ -1,7 +1,7 @@
-use Rattle.refusals.proofs.Draw.{carbonyl-groups, no-carbonyl, no-groups}
+use Rattle.undrawn.proofs.Draw.{carbonyl-groups, no-carbonyl, no-groups}
 use borrow.Author.Needs.{needs}
-use Rattle.refusals.proofs.group_on_carbonyl.Statement.{statement}
-use Rattle.refusals.proofs.group_on_carbonyl.Tie as tie
+use Rattle.undrawn.proofs.group_on_carbonyl.Statement.{statement}
+use Rattle.undrawn.proofs.group_on_carbonyl.Tie as tie
 
 returns : tie.Need-returns
 returns c = search no-carbonyl

@@ -1,7 +1,7 @@
-use Rattle.refusals.proofs.Draw.{site-none, site-some}
+use Rattle.undrawn.proofs.Draw.{site-none, site-some}
 use borrow.Author.Needs.{needs}
-use Rattle.refusals.proofs.no_site.Statement.{statement}
-use Rattle.refusals.proofs.no_site.Tie as tie
+use Rattle.undrawn.proofs.no_site.Statement.{statement}
+use Rattle.undrawn.proofs.no_site.Tie as tie
 
 floats-part-requires : tie.Need-floats-part-requires
 floats-part-requires c κs = search needs

@@ -1,7 +1,7 @@
-use Rattle.refusals.proofs.Place.{slot-sphingoid, acyl-plain, slot-other, acyl-other, base-long}
+use Rattle.kind.proofs.Wrong.{slot-sphingoid, acyl-plain, slot-other, acyl-other, base-long}
 use borrow.Author.Needs.{needs}
-use Rattle.refusals.proofs.wrong_kind.Statement.{statement}
-use Rattle.refusals.proofs.wrong_kind.Tie as tie
+use Rattle.kind.proofs.wrong_kind.Statement.{statement}
+use Rattle.kind.proofs.wrong_kind.Tie as tie
 
 enum-told : tie.Need-enum-told
 enum-told c = search needs

@@ -1,7 +1,7 @@
-use Rattle.refusals.proofs.Draw.{draw-carbonyl, draw-pin, draw-tail, draw-site, draw-fits}
+use Rattle.undrawn.proofs.Draw.{draw-carbonyl, draw-pin, draw-tail, draw-site, draw-fits}
 use borrow.Author.Needs.{needs}
-use Rattle.refusals.proofs.draw_refusal.Statement.{statement}
-use Rattle.refusals.proofs.draw_refusal.Tie as tie
+use Rattle.undrawn.proofs.draw_refusal.Statement.{statement}
+use Rattle.undrawn.proofs.draw_refusal.Tie as tie
 
 group-on-carbonyl-requires : tie.Need-group-on-carbonyl-requires
 group-on-carbonyl-requires c κs = search needs

@@ -1,7 +1,7 @@
-use Rattle.refusals.proofs.Draw.{tail-none, tail-some}
+use Rattle.undrawn.proofs.Draw.{tail-none, tail-some}
 use borrow.Author.Needs.{needs}
-use Rattle.refusals.proofs.tail_too_short.Statement.{statement}
-use Rattle.refusals.proofs.tail_too_short.Tie as tie
+use Rattle.undrawn.proofs.tail_too_short.Statement.{statement}
+use Rattle.undrawn.proofs.tail_too_short.Tie as tie
 
 cast-unlocated : tie.Need-cast-unlocated
 cast-unlocated c = search needs
