@@ -189,7 +189,7 @@ impl Builder {
     }
 
     // A chain that has carbons, at its place: its text with the labels that are next, its indices and rows, its counts, and where it stands.
-    pub fn push_fragment(
+    fn push_fragment(
         mut self,
         out: &mut [u8],
         index: &mut [u16],
@@ -225,7 +225,7 @@ impl Builder {
     }
 
     // A chain of the request at its place; nothing where it has no carbons.
-    pub fn push_chain(
+    fn push_chain(
         mut self,
         out: &mut [u8],
         index: &mut [u16],
