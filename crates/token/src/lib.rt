@@ -909,53 +909,39 @@ fn read_usual(s: &[u8], bonds: &mut [u64], groups: &mut [u64], rings: &mut [u64]
     }
 }
 
-// A chain of which all is read: its double bonds, groups and rings are so many.
-fn plain_chain(
-    prefix: ChainPrefix,
-    carbon: u16,
-    missing: Missing,
-    count: usize,
-    groups: usize,
-    rings: usize,
-) -> ReadToken
-    ensures { λ r. ⌜ Plain prefix carbon missing count groups rings r ⌝ }
+// A chain of which all is read.
+fn plain_chain(usual: Usual, missing: Missing) -> ReadToken
+    ensures { λ r. ⌜ Plain (usual .prefix) (usual .carbon) missing (usual .count) (usual .groups) (usual .rings) r ⌝ }
 {
     let Missing::Seated(n) = missing else {
         return ReadToken::empty(record::UNREADABLE);
     };
+    let prefix = usual.prefix;
     ReadToken {
         refusal: 0,
         prefix,
-        written: carbon,
-        carbon,
+        written: usual.carbon,
+        carbon: usual.carbon,
         branched: false,
         unlocated: n,
         counts: Counts {
-            bonds: count,
-            groups,
-            rings,
+            bonds: usual.count,
+            groups: usual.groups,
+            rings: usual.rings,
             oxygens: 0,
         },
     }
 }
 
 // The same, where the bonds are yet to be seated: none are missing where all have a position.
-fn end_plain(
-    prefix: ChainPrefix,
-    carbon: u16,
-    declared: u64,
-    bonds: &[u64],
-    count: usize,
-    groups: usize,
-    rings: usize,
-) -> ReadToken
-    ensures { λ r. ⌜ PlainIn prefix carbon declared count groups rings (now (bonds .entry)) r ⌝ }
+fn end_plain(usual: Usual, bonds: &[u64]) -> ReadToken
+    ensures { λ r. ⌜ PlainIn (usual .prefix) (usual .carbon) (usual .declared) (usual .count) (usual .groups) (usual .rings) (now (bonds .entry)) r ⌝ }
 {
-    if declared == count as u64 {
-        return plain_chain(prefix, carbon, Missing::Seated(0), count, groups, rings);
+    if usual.declared == usual.count as u64 {
+        return plain_chain(usual, Missing::Seated(0));
     }
-    let missing = missing_bonds(carbon, bonds, count, declared);
-    plain_chain(prefix, carbon, missing, count, groups, rings)
+    let missing = missing_bonds(usual.carbon, bonds, usual.count, usual.declared);
+    plain_chain(usual, missing)
 }
 
 // A chain with segments.
@@ -1013,16 +999,7 @@ fn read_token(s: &[u8], bonds: &mut [u64], groups: &mut [u64], rings: &mut [u64]
         return read_any(s, bonds, groups, rings);
     }
     if from == s.len() {
-        let prefix = usual.prefix;
-        return end_plain(
-            prefix,
-            usual.carbon,
-            usual.declared,
-            bonds,
-            usual.count,
-            usual.groups,
-            usual.rings,
-        );
+        return end_plain(usual, bonds);
     }
     end_segments(usual, &s[from..], bonds, groups, rings)
 }
