@@ -166,9 +166,8 @@ busy-counted x load b k n m u e w = go (busyAt (x .acyl) (groupsDrawn x) (ringsD
     go false f = absurd (u .some f)
 
 pub loaded : {x : Drawn} {f l : ℕ} {bs us : List ℕ} (k : ℕ) → TokensOf x (tokens f l bs us) → k ≤ l → (getD us k 0 ≡ 0 → ⊥) → Loaded x k (getD us k 0)
-loaded {l = l} k w h z =
-    let room : l ≤ 255 = w .room in
-    let g : k < 256 = omega arith in
+loaded {us = us} k w h z =
+    let g : k < length us = omega (arith, w .laden) in
     record { is = w .busy .at k g; some = z; few = w .busy .few k g }
 
 -- ---- a stretch of carbons
@@ -227,7 +226,7 @@ module _ {first at : ℕ} {cs : List Carbon} {xs ys : List ℕ} {p count next : 
   unfolding carbonSize carbonOf carbonEnd
   number-busy i m g h e w c = numbering-one (carbonOf acyl ks gs k) m g (here h) (rw e at w) (c .is) (c .few)
 
-  pub number-bare : {zs bs : List ℕ} {q : ℕ} (i m : ℕ) → length xs < 2 ^ 64 → Busy acyl gs rs bs → last ≤ 255 → k ≤ last → i ≡ indexFrom first next → Written ys p (i ∷ []) zs q
+  pub number-bare : {zs bs : List ℕ} {q : ℕ} (i m : ℕ) → length xs < 2 ^ 64 → Busy acyl gs rs bs → last < length bs → k ≤ last → i ≡ indexFrom first next → Written ys p (i ∷ []) zs q
       → getD bs k 0 ≡ 0 → Counts 93 (bareSize (getD ks k 0)) m
       → Numbering first cs xs at zs q (count + 1) (next + m) (valuesFrom (carbonOf acyl ks gs) (k + 1) (suc last - (k + 1)))
   unfolding bareSize carbonOf carbonEnd

@@ -1,6 +1,6 @@
 -- A carbon that carries nothing has no bridge after it: a bridge stands where an epoxide starts, and a ring's start is carried.
 -- Assumes nothing.
-use Prim.Native.Nat.{ℕ, zero, suc, _-_, _≤_}
+use Prim.Native.Nat.{ℕ, zero, suc, _-_, _≤_, _<_}
 use native.Mathlib.Nat.{zero-add}
 use native.Mathlib.Decide.{decLe, ℕ-discrete}
 use native.Mathlib.Omega.{arith}
@@ -102,9 +102,9 @@ ring-bridge {rs} {bs} {c} {ks} k b h g free e =
     plain-bare bs rs k free (sym v ∙ marks-stand c bs 1 c (plainBonds bs rs c) k m)
 
 pub no-bridge : {acyl : Bool} {gs : List Mod} {rs : List Closed} {bs : List DbPos} {c : ℕ} {ks us : List ℕ} (k : ℕ) → BondsBy bs rs c ks → Busy acyl gs rs us
-    → c ≤ 255 → k ≤ c → getD us k 0 ≡ 0 → getD ks k 0 ≡ 79 → ⊥
-no-bridge {acyl} {gs} {rs} k b u h g z e =
-    ring-bridge k b h g (ring-free acyl gs rs k (not-busy k u (omega arith) z)) e
+    → c ≤ 255 → k ≤ c → k < length us → getD us k 0 ≡ 0 → getD ks k 0 ≡ 79 → ⊥
+no-bridge {acyl} {gs} {rs} k b u h g l z e =
+    ring-bridge k b h g (ring-free acyl gs rs k (not-busy k u l z)) e
 
 -- no ring at all
 pub bare-bridge : {bs : List DbPos} {c : ℕ} {ks : List ℕ} (k : ℕ) → BondsBy bs [] c ks → c ≤ 255 → k ≤ c → getD ks k 0 ≡ 79 → ⊥

@@ -95,31 +95,31 @@ module _ {first at : ℕ} {cs : List Carbon} {xs ys : List ℕ} {p next : ℕ} (
   again : {zs : List ℕ} {rest : List Carbon} (n m : ℕ) → Numbering first cs xs at zs (p + n) (v .count + n) (v .own + m) rest → Within first cs xs at zs (p + n) (next + m) rest
   again n m w = record { count = v .count + n; own = v .own + m; place = omega (arith, v .place); atom = omega (arith, v .atom); numbering = w }
 
-  is-bare : BondsBy bs rs c ks → Busy acyl gs rs us → c ≤ 255 → (j : ℕ) → j ≤ c → getD us j 0 ≡ 0 → (carbonOf acyl ks gs j .parts ≡ []) × (carbonOf acyl ks gs j .bridge ≡ false)
+  is-bare : BondsBy bs rs c ks → Busy acyl gs rs us → c ≤ 255 → (j : ℕ) → j ≤ c → j < length us → getD us j 0 ≡ 0 → (carbonOf acyl ks gs j .parts ≡ []) × (carbonOf acyl ks gs j .bridge ≡ false)
   unfolding carbonOf
-  is-bare b u h j l z =
-      (empty-parts acyl gs rs j (not-busy j u (omega arith) z), ne-eqb (getD ks j 0) 79 (no-bridge j b u h l z))
+  is-bare b u h j l r z =
+      (empty-parts acyl gs rs j (not-busy j u r z), ne-eqb (getD ks j 0) 79 (no-bridge j b u h l r z))
 
-  pub within-four : {zs : List ℕ} {q : ℕ} → p + 4 < 2 ^ 64 → BondsBy bs rs c ks → Busy acyl gs rs us → c ≤ 255 → last ≤ c → IdleFour us k last → Written ys p (ups next 4) zs q
+  pub within-four : {zs : List ℕ} {q : ℕ} → p + 4 < 2 ^ 64 → BondsBy bs rs c ks → Busy acyl gs rs us → c ≤ 255 → last ≤ c → last < length us → IdleFour us k last → Written ys p (ups next 4) zs q
       → Within first cs xs at zs q (next + 4) (valuesFrom (carbonOf acyl ks gs) (k + 4) (suc last - (k + 4)))
-  within-four {zs} {q} f b u h l i w =
+  within-four {zs} {q} f b u h l r i w =
       let z : suc last - k ≡ 4 + (suc last - (k + 4)) = omega (arith, i .within) in
       let n : length (valuesFrom (carbonOf acyl ks gs) k 4) ≡ 4 = length-values (carbonOf acyl ks gs) k 4 in
       let e : first + v .own ≡ next = sym (v .atom) in
       let q-is : q ≡ p + 4 = four-place next f w in
-      let r = rw (z, values-append (carbonOf acyl ks gs) k 4 (suc last - (k + 4))) at (v .numbering) in
-      let a : Bares (valuesFrom (carbonOf acyl ks gs) k 4) = bares-values (carbonOf acyl ks gs) k 4 (λ j o m. is-bare b u h j (omega (arith, i .within)) (i .idle j o m)) in
+      let parts = rw (z, values-append (carbonOf acyl ks gs) k 4 (suc last - (k + 4))) at (v .numbering) in
+      let a : Bares (valuesFrom (carbonOf acyl ks gs) k 4) = bares-values (carbonOf acyl ks gs) k 4 (λ j o m. is-bare b u h j (omega (arith, i .within)) (omega (arith, i .within)) (i .idle j o m)) in
       let d : indices first (ups (v .own) 4) ≡ ups next 4 = indices-small first (v .own) 4 (omega (arith, v .atom)) ∙ ap (λ (m : ℕ). ups m 4) e in
       let y : Written ys p (indices first (ups (v .own) (length (valuesFrom (carbonOf acyl ks gs) k 4)))) zs q = rw (n, d) w in
-      let x = rw (n, q-is) at (numbering-run (valuesFrom (carbonOf acyl ks gs) k 4) g r a y) in
+      let x = rw (n, q-is) at (numbering-run (valuesFrom (carbonOf acyl ks gs) k 4) g parts a y) in
       rw q-is (again 4 4 x)
 
-  pub within-bare : p + 1 < 2 ^ 64 → BondsBy bs rs c ks → Busy acyl gs rs us → c ≤ 255 → last ≤ c → k ≤ last → getD us k 0 ≡ 0
+  pub within-bare : p + 1 < 2 ^ 64 → BondsBy bs rs c ks → Busy acyl gs rs us → c ≤ 255 → last ≤ c → last < length us → k ≤ last → getD us k 0 ≡ 0
       → Within first cs xs at (set ys p next) (p + 1) (next + 1) (valuesFrom (carbonOf acyl ks gs) (k + 1) (suc last - (k + 1)))
-  within-bare f b u h l o z =
+  within-bare f b u h l r o z =
       again 1 1
-      (number-bare acyl ks gs rs k last (v .numbering) next 1 g u (omega arith) o (index-is first (v .own) next s (v .atom) (omega arith)) (one-written ys p next f) z
-      (bare-counted (getD ks k 0) 0 (bridge-zero (getD ks k 0) (no-bridge k b u h (omega arith) z))))
+      (number-bare acyl ks gs rs k last (v .numbering) next 1 g u r o (index-is first (v .own) next s (v .atom) (omega arith)) (one-written ys p next f) z
+      (bare-counted (getD ks k 0) 0 (bridge-zero (getD ks k 0) (no-bridge k b u h (omega arith) (omega arith) z))))
 
   pub within-busy : (m : ℕ) → p + 1 < 2 ^ 64 → k ≤ last → Counts 93 (carbonSize acyl gs (getD ks k 0) k) m
       → Within first cs xs at (set ys p next) (p + 1) (next + m) (valuesFrom (carbonOf acyl ks gs) (k + 1) (suc last - (k + 1)))

@@ -129,7 +129,7 @@ fn has_room(room: usize, at: usize, first: u32, carbon: u16, last: u16) -> bool
 
 // Whether the four carbons from k on are literal and carry nothing.
 fn idle_four(busy: &[u8], k: usize, last: usize) -> bool
-    requires { ⌜ (length (now busy) ≡ 256) × (k ≤ last) × (last ≤ 255) ⌝ }
+    requires { ⌜ (last < length (now busy)) × (k ≤ last) × (last ≤ 255) ⌝ }
     ensures { λ r. ⌜ (r ≡ true → IdleFour (now (busy .entry)) k last) ⌝ }
 {
     if k + 3 > last {

@@ -164,7 +164,7 @@ load-few acyl gs rs k h = go (busyAt acyl gs rs k) (carbonylOn acyl k)
     go true false = omega (arith, atoms-few gs k)
     go false a = omega arith
 
-pub not-busy : {acyl : Bool} {gs : List Mod} {rs : List Ring} {us : List ℕ} (k : ℕ) → Busy acyl gs rs us → k < 256 → getD us k 0 ≡ 0 → busyAt acyl gs rs k ≡ false
+pub not-busy : {acyl : Bool} {gs : List Mod} {rs : List Ring} {us : List ℕ} (k : ℕ) → Busy acyl gs rs us → k < length us → getD us k 0 ≡ 0 → busyAt acyl gs rs k ≡ false
 unfolding loadAt
 not-busy {acyl} {gs} {rs} k u h z = go (busyAt acyl gs rs k) (sym (u .at k h) ∙ z)
   where

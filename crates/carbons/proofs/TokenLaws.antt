@@ -8,7 +8,7 @@ use mathlib.Core.Path.{_≡_, refl, sym, ap, _∙_}
 use mathlib.Core.Bool.{Bool, true, false, cond, _||_, _&&_}
 use mathlib.Core.List.{List, [], _∷_}
 use lib.Dec.{eqb, ltb, leb}
-use lib.ListN.{length, take, drop, getD, set, replicate, getD-replicate, length-set, length-replicate}
+use lib.ListN.{length, take, drop, getD, set, replicate, length-set}
 use lib.Seq.{take-set-lt, take-set-le, getD-take, take-suc, ext-getD, length-take-le}
 use borrow.Author.Tests.{lt-ltb, le-ltb, eq-eqb, ne-eqb, ltb-true, ltb-false, leb-true, leb-false, eqb-true, eqb-false}
 use Rattle.record.specs.declared.Geometry.{Geometry}
@@ -23,7 +23,7 @@ use Rattle.drawable.specs.Drawn.{Drawn, bondsIn, groupsIn, ringsIn, bondsPart, 
 use Rattle.drawable.proofs.Parts.{groups-few}
 use Rattle.reach.proofs.Ends.{literal-whole}
 use Rattle.carbons.specs.Tokens.{tokens, TokensOf, Bare}
-use Rattle.carbons.specs.ByCarbon.{doubleAt, bridgeAt, ringOn, carbonylOn, loadAt, SetWhere, Added, PlainBonds, BondsBy, Busy}
+use Rattle.carbons.specs.ByCarbon.{doubleAt, bridgeAt, ringOn, carbonylOn, loadAt, Noughts, SetWhere, Added, PlainBonds, BondsBy, Busy}
 use Rattle.carbons.proofs.BondLaws.{where-none, where-one, length-marks}
 use Rattle.carbons.proofs.Loads.{past, groups-held, load-is, load-few}
 
@@ -54,27 +54,29 @@ values-same f g k (suc n) e =
 
 -- ---- before any mark
 
-zeros-size : (m : ℕ) → length (replicate {A = ℕ} m 0) ≡ m
-zeros-size m = length-replicate {A = ℕ} m 0
+-- an array as it is made holds noughts
+pub noughts : {zs : List ℕ} (m : ℕ) → zs ≡ replicate m 0 → Noughts zs
+noughts m e = record { at = λ k. rw e (nought m k) }
+  where
+    nought : (m k : ℕ) → getD (replicate {A = ℕ} m 0) k 0 ≡ 0
+    nought zero k = refl
+    nought (suc m) zero = refl
+    nought (suc m) (suc k) = nought m k
 
-noughts : {zs : List ℕ} → zs ≡ replicate 256 0 → length zs ≡ 256
-noughts e = ap length e ∙ zeros-size 256
-
-pub bonds-plain : {bs : List DbPos} {rs : List Ring} {zs mid ks : List ℕ} → zs ≡ replicate 256 0 → SetWhere (bridgeAt rs) 79 zs mid → SetWhere (doubleAt bs) 61 mid ks → PlainBonds bs rs ks
+pub bonds-plain : {bs : List DbPos} {rs : List Ring} {zs mid ks : List ℕ} → Noughts zs → SetWhere (bridgeAt rs) 79 zs mid → SetWhere (doubleAt bs) 61 mid ks → PlainBonds bs rs ks
 unfolding plainBond bridgeAt doubleAt
 bonds-plain {bs} {rs} {zs} {mid} e v w =
     record {
-      size = w .size ∙ (v .size ∙ noughts e);
       at = λ k h.
-          let m : length mid ≡ 256 = v .size ∙ noughts e in
-          let z : k < length zs = omega (arith, noughts e) in
-          w .at k (omega arith) ∙ (rw (v .at k z, e, getD-replicate {A = ℕ} 256 k 0 0 h));
+          let m : k < length mid = omega (arith, w .size) in
+          let z : k < length zs = omega (arith, v .size) in
+          w .at k m ∙ (rw (v .at k z, e .at k));
     }
 
-plain-taken : (bs : List DbPos) (rs : List Ring) (c : ℕ) (ks : List ℕ) → c ≤ 255 → PlainBonds bs rs ks → take (suc c) ks ≡ plainBonds bs rs c
+plain-taken : (bs : List DbPos) (rs : List Ring) (c : ℕ) (ks : List ℕ) → c < length ks → PlainBonds bs rs ks → take (suc c) ks ≡ plainBonds bs rs c
 unfolding plainBonds
 plain-taken bs rs c ks h w =
-    let z : length (take (suc c) ks) ≡ suc c = length-take-le (suc c) ks (omega (arith, w .size)) in
+    let z : length (take (suc c) ks) ≡ suc c = length-take-le (suc c) ks (omega arith) in
     ext-getD 0 (take (suc c) ks) (valuesFrom (plainBond bs rs) 0 (suc c)) (z ∙ sym (length-values (plainBond bs rs) 0 (suc c)))
     (λ i q.
     let y : i < suc c = rw z at q in
@@ -117,15 +119,15 @@ take-marks c bs p zero ks h = refl
 take-marks c bs p (suc n) ks h =
     take-marks c bs (suc p) n (markBond c (geometryAt p bs) p ks) (omega arith) ∙ ap (markFrom c bs (suc p) n) (take-mark c (geometryAt p bs) p ks (omega arith))
 
-pub bonds-marked : {bs : List DbPos} {rs : List Ring} {ks js : List ℕ} (c m : ℕ) → PlainBonds bs rs ks → m ≡ min c 255 → js ≡ markFrom m bs 1 m ks
+pub bonds-marked : {bs : List DbPos} {rs : List Ring} {ks js : List ℕ} (c m : ℕ) → PlainBonds bs rs ks → m ≡ min c 255 → m < length ks → js ≡ markFrom m bs 1 m ks
     → BondsBy bs rs c js
-bonds-marked {bs} {rs} {ks} {js} c m w e v =
+bonds-marked {bs} {rs} {ks} {js} c m w e l v =
     record {
-      size = ap length v ∙ (length-marks m bs 1 m ks ∙ w .size);
+      size = let z : length js ≡ length ks = ap length v ∙ length-marks m bs 1 m ks in omega arith;
       are = λ h.
           let z : m ≡ c = omega arith in
           let y : js ≡ markFrom c bs 1 c ks = rw z at v in
-          ap (take (suc c)) y ∙ (take-marks c bs 1 c ks (omega arith) ∙ ap (markFrom c bs 1 c) (plain-taken bs rs c ks h w));
+          ap (take (suc c)) y ∙ (take-marks c bs 1 c ks (omega arith) ∙ ap (markFrom c bs 1 c) (plain-taken bs rs c ks (omega arith) w));
     }
 
 -- ---- busy carbons
@@ -142,56 +144,53 @@ pub carbonyl-none : {ks : List ℕ} (acyl : Bool) → acyl ≡ false → SetWher
 unfolding carbonylOn
 carbonyl-none {ks} acyl e = rw e (where-none 2 ks (λ k. refl))
 
-ends-at : (acyl : Bool) (rs : List Ring) {zs ks js : List ℕ} → zs ≡ replicate 256 0 → SetWhere (ringOn rs) 1 zs ks → SetWhere (carbonylOn acyl) 2 ks js
-    → (k : ℕ) → k < 256 → getD js k 0 ≡ cond (carbonylOn acyl k) 2 (cond (ringOn rs k) 1 0)
+ends-at : (acyl : Bool) (rs : List Ring) {zs ks js : List ℕ} → Noughts zs → SetWhere (ringOn rs) 1 zs ks → SetWhere (carbonylOn acyl) 2 ks js
+    → (k : ℕ) → k < length js → getD js k 0 ≡ cond (carbonylOn acyl k) 2 (cond (ringOn rs k) 1 0)
 ends-at acyl rs {zs} {ks} e u v k h =
-    let z : k < length zs = omega (arith, noughts e) in
-    let l : length ks ≡ 256 = u .size ∙ noughts e in
-    v .at k (omega (arith, l)) ∙ (rw (u .at k z, e, getD-replicate {A = ℕ} 256 k 0 0 h))
+    let l : k < length ks = omega (arith, v .size) in
+    let z : k < length zs = omega (arith, u .size) in
+    v .at k l ∙ (rw (u .at k z, e .at k))
 
 -- no carbon has more than two atoms before its groups are added
-pub ends-small : (acyl : Bool) (rs : List Ring) {zs ks js : List ℕ} → zs ≡ replicate 256 0 → SetWhere (ringOn rs) 1 zs ks → SetWhere (carbonylOn acyl) 2 ks js
+pub ends-small : (acyl : Bool) (rs : List Ring) {zs ks js : List ℕ} → Noughts zs → SetWhere (ringOn rs) 1 zs ks → SetWhere (carbonylOn acyl) 2 ks js
     → (k : ℕ) → getD js k 0 ≤ 2
-ends-small acyl rs {zs} {ks} {js} e u v k = go (leb (suc k) 256) refl
+ends-small acyl rs {zs} {ks} {js} e u v k = go (leb (suc k) (length js)) refl
   where
-    l : length ks ≡ 256
-    l = u .size ∙ noughts e
-
     own : (a b : Bool) → cond a 2 (cond b 1 0) ≤ 2
     own true b = omega arith
     own false true = omega arith
     own false false = omega arith
 
-    go : (b : Bool) → leb (suc k) 256 ≡ b → getD js k 0 ≤ 2
+    go : (b : Bool) → leb (suc k) (length js) ≡ b → getD js k 0 ≤ 2
     go true f =
-        let h : k < 256 = leb-true (suc k) 256 f in
+        let h : k < length js = leb-true (suc k) (length js) f in
         rw (ends-at acyl rs e u v k h) (own (carbonylOn acyl k) (ringOn rs k))
-    go false f = rw (past 0 js k (omega (arith, v .size, l, leb-false (suc k) 256 f))) (omega arith)
+    go false f = rw (past 0 js k (omega (arith, leb-false (suc k) (length js) f))) (omega arith)
 
-pub busy-all : {acyl : Bool} {rs : List Ring} {zs ks js is : List ℕ} (n : ℕ) (l : List ℕ) → zs ≡ replicate 256 0 → length l ≤ 18 → SetWhere (ringOn rs) 1 zs ks
+pub busy-all : {acyl : Bool} {rs : List Ring} {zs ks js is : List ℕ} (n : ℕ) (l : List ℕ) → Noughts zs → length l ≤ 18 → SetWhere (ringOn rs) 1 zs ks
     → SetWhere (carbonylOn acyl) 2 ks js → Added (groupsIn n l) js is → Busy acyl (groupsIn n l) rs is
 busy-all {acyl} {rs} {zs} {ks} {js} {is} n l e f u v w =
     record {
-      size = w .size ∙ m;
       at = at;
       few = λ k h. rw (at k h) (load-few acyl (groupsIn n l) rs k (groups-held n l f));
     }
   where
-    m : length js ≡ 256
-    m = v .size ∙ (u .size ∙ noughts e)
-
-    at : (k : ℕ) → k < 256 → getD is k 0 ≡ loadAt acyl (groupsIn n l) rs k
-    at k h = w .at k (omega (arith, m)) ∙ (rw (ends-at acyl rs e u v k h) (load-is acyl (groupsIn n l) rs k))
+    at : (k : ℕ) → k < length is → getD is k 0 ≡ loadAt acyl (groupsIn n l) rs k
+    at k h =
+        let m : k < length js = omega (arith, w .size) in
+        w .at k m ∙ (rw (ends-at acyl rs e u v k m) (load-is acyl (groupsIn n l) rs k))
 
 -- ---- all of it
 
-tokens-say : {x : Drawn} {bs us : List ℕ} {f e l : ℕ} → BondsBy (bondsDrawn x) (ringsDrawn x) (x .carbon) bs
+tokens-say : {x : Drawn} {bs us : List ℕ} {f e l : ℕ} → min (x .carbon) 255 < length us → BondsBy (bondsDrawn x) (ringsDrawn x) (x .carbon) bs
     → Busy (x .acyl) (groupsDrawn x) (ringsDrawn x) us → f ≡ max (x .first) 1 → SaysUpTo x e literalEnd → l ≡ min e 255
     → TokensOf x (tokens f l bs us)
-tokens-say {x} {e = e} {l} b u f s m =
+tokens-say {x} {e = e} {l} h b u f s m =
     record {
       first = f;
       room = omega arith;
+      bonded = omega (arith, s .fits, b .size);
+      laden = omega (arith, s .fits);
       last = λ h. record { is = λ r d w. let z : l ≡ e = omega (arith, s .fits) in z ∙ s .says .is r d w };
       bonds = b;
       busy = u;
@@ -202,11 +201,11 @@ pub groups-short : {gs : List ℕ} (l : List ℕ) → gs ≡ groupsPart l → le
 groups-short l e = rw e (groups-few l)
 
 -- where the lists stand in the part of a chain
-pub tokens-are : {x : Shape} (l : List ℕ) {ds gs rs bs us : List ℕ} {f e m : ℕ} → rs ≡ ringsPart l → ds ≡ bondsPart l
+pub tokens-are : {x : Shape} (l : List ℕ) {ds gs rs bs us : List ℕ} {f e m : ℕ} → min (x .carbon) 255 < length us → rs ≡ ringsPart l → ds ≡ bondsPart l
     → BondsBy (bondsIn (x .«bond_count») ds) (ringsIn (x .«ring_count») rs) (x .carbon) bs → gs ≡ groupsPart l
     → Busy (x .acyl) (groupsIn (x .«group_count») gs) (ringsIn (x .«ring_count») rs) us → f ≡ max (x .first) 1 → SaysUpTo (drawnOf x l) e literalEnd
     → m ≡ min e 255 → TokensOf (drawnOf x l) (tokens f m bs us)
-tokens-are l a b v c w f s m = tokens-say (rw (a, b) at v) (rw (a, c) at w) f s m
+tokens-are l h a b v c w f s m = tokens-say h (rw (a, b) at v) (rw (a, c) at w) f s m
 
 -- ---- a bare chain
 
@@ -221,27 +220,36 @@ busy-list : (x : Drawn) → length (groupsDrawn x) ≤ 18 → Busy (x .acyl) (gr
 unfolding busyList loadNumber
 busy-list x f =
     record {
-      size = length-values (loadNumber x) 0 256;
       at = at;
       few = λ k h. rw (at k h) (load-few (x .acyl) (groupsDrawn x) (ringsDrawn x) k f);
     }
   where
-    at : (k : ℕ) → k < 256 → getD (busyList x) k 0 ≡ loadAt (x .acyl) (groupsDrawn x) (ringsDrawn x) k
-    at k h = rw (zero-add k) at (values-at (loadNumber x) 0 256 k 0 h)
+    at : (k : ℕ) → k < length (busyList x) → getD (busyList x) k 0 ≡ loadAt (x .acyl) (groupsDrawn x) (ringsDrawn x) k
+    at k h = rw (zero-add k) at (values-at (loadNumber x) 0 256 k 0 (omega (arith, length-values (loadNumber x) 0 256)))
 
 pub bare-tokens : {x : Drawn} {bs : List ℕ} → Bare x → BondsBy (bondsDrawn x) (ringsDrawn x) (x .carbon) bs → TokensOf x (tokens (x .first) (x .carbon) bs (busyList x))
+unfolding busyList
 bare-tokens {x} e b =
-    record { first = omega (arith, e .first); room = e .room; last = λ h. literal-whole x (e .unlocated) .says; bonds = b; busy = busy-list x (rw (e .groups) (omega arith)) }
+    let room : x .carbon ≤ 255 = e .room in
+    record {
+      first = omega (arith, e .first);
+      room = room;
+      bonded = omega (arith, b .size);
+      laden = omega (arith, length-values (loadNumber x) 0 256);
+      last = λ h. literal-whole x (e .unlocated) .says;
+      bonds = b;
+      busy = busy-list x (rw (e .groups) (omega arith));
+    }
 
-bare-plain : {bs : List DbPos} {zs ks : List ℕ} → zs ≡ replicate 256 0 → SetWhere (doubleAt bs) 61 zs ks → PlainBonds bs [] ks
+bare-plain : {bs : List DbPos} {zs ks : List ℕ} → Noughts zs → SetWhere (doubleAt bs) 61 zs ks → PlainBonds bs [] ks
 unfolding bridgeAt anyOf
 bare-plain {zs = zs} e w = bonds-plain e (where-none 79 zs (λ k. refl)) w
 
-pub bare-size : {zs ks : List ℕ} {test : ℕ → Bool} {v : ℕ} (c : ℕ) → zs ≡ replicate 256 0 → SetWhere test v zs ks → c ≤ 255 → c < length ks
-bare-size c e w h = omega (arith, w .size, noughts e)
+pub bare-size : {zs ks : List ℕ} {test : ℕ → Bool} {v : ℕ} (c : ℕ) → c < length zs → SetWhere test v zs ks → c < length ks
+bare-size c h w = omega (arith, w .size)
 
-pub bare-marked : (x : Shape) (l : List ℕ) {ds zs ks js : List ℕ} → ds ≡ bondsPart l → zs ≡ replicate 256 0 → Bare (drawnOf x l) → SetWhere (doubleAt (bondsIn (x .«bond_count») ds)) 61 zs ks
+pub bare-marked : (x : Shape) (l : List ℕ) {ds zs ks js : List ℕ} → ds ≡ bondsPart l → Noughts zs → x .carbon < length zs → Bare (drawnOf x l) → SetWhere (doubleAt (bondsIn (x .«bond_count») ds)) 61 zs ks
     → js ≡ markFrom (x .carbon) (bondsIn (x .«bond_count») ds) 1 (x .carbon) ks → BondsBy (bondsDrawn (drawnOf x l)) (ringsDrawn (drawnOf x l)) (x .carbon) js
-bare-marked x l a z e w v =
+bare-marked x l a z h e w v =
     let room : x .carbon ≤ 255 = e .room in
-    rw (e .rings) (bonds-marked (x .carbon) (x .carbon) (bare-plain z (rw a at w)) (omega arith) (rw a at v))
+    rw (e .rings) (bonds-marked (x .carbon) (x .carbon) (bare-plain z (rw a at w)) (omega arith) (bare-size (x .carbon) h w) (rw a at v))

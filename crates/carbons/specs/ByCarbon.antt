@@ -1,5 +1,5 @@
 -- What arrays by carbon hold: the bonds of a chain, the geometry stated at each, and which carbons carry anything. Assumes nothing.
-use Prim.Native.Nat.{ℕ, suc, _+_, _<_, _≤_, max}
+use Prim.Native.Nat.{ℕ, suc, _+_, _<_, _≤_, min, max}
 use Prim.Native.Char.{code}
 use mathlib.Core.Path.{_≡_}
 use mathlib.Core.Bool.{Bool, true, cond, _||_, _&&_}
@@ -74,6 +74,10 @@ unfoldable pub loadAt : Bool → List Mod → List Ring → ℕ → ℕ
 unfolding carbonylOn busyAt groupAtoms
 loadAt acyl gs rs k = cond (busyAt acyl gs rs k) (suc (cond (carbonylOn acyl k) 1 0 + groupAtoms gs k)) 0
 
+-- an array of noughts
+pub record Noughts (zs : List ℕ) : Type 0 where
+  pub at : (k : ℕ) → getD zs k 0 ≡ 0
+
 -- an array by carbon with v where a test passes, elsewhere as it was
 pub record SetWhere (test : ℕ → Bool) (v : ℕ) (before after : List ℕ) : Type 0 where
   pub size : length after ≡ length before
@@ -93,18 +97,16 @@ pub record Geometries (bs : List DbPos) (geoms : List ℕ) : Type 0 where
 pub record Marks (c : ℕ) (geoms before after : List ℕ) : Type 0 where
   pub are : (bs : List DbPos) → Geometries bs geoms → after ≡ markFrom c bs 1 c before
 
--- the bonds before any mark
+-- the bonds before any mark, as far as the array goes
 pub record PlainBonds (bs : List DbPos) (rs : List Ring) (bonds : List ℕ) : Type 0 where
-  pub size : length bonds ≡ 256
-  pub at : (k : ℕ) → k < 256 → getD bonds k 0 ≡ plainBond bs rs k
+  pub at : (k : ℕ) → k < length bonds → getD bonds k 0 ≡ plainBond bs rs k
 
--- bonds 0 to c, with their marks
+-- bonds 0 to c, with their marks; the array goes to c, or to carbon 255
 pub record BondsBy (bs : List DbPos) (rs : List Ring) (c : ℕ) (bonds : List ℕ) : Type 0 where
-  pub size : length bonds ≡ 256
+  pub size : min c 255 < length bonds
   pub are : c ≤ 255 → take (suc c) bonds ≡ markFrom c bs 1 c (plainBonds bs rs c)
 
--- the atoms of each carbon that carries anything beside a bridge
+-- the atoms of each carbon that carries anything beside a bridge, as far as the array goes
 pub record Busy (acyl : Bool) (gs : List Mod) (rs : List Ring) (busy : List ℕ) : Type 0 where
-  pub size : length busy ≡ 256
-  pub at : (k : ℕ) → k < 256 → getD busy k 0 ≡ loadAt acyl gs rs k
-  pub few : (k : ℕ) → k < 256 → getD busy k 0 ≤ 92
+  pub at : (k : ℕ) → k < length busy → getD busy k 0 ≡ loadAt acyl gs rs k
+  pub few : (k : ℕ) → k < length busy → getD busy k 0 ≤ 92

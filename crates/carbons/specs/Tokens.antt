@@ -1,7 +1,8 @@
 -- What is known of each carbon of a drawn chain. Assumes nothing.
-use Prim.Native.Nat.{ℕ, _≤_, max}
+use Prim.Native.Nat.{ℕ, _≤_, _<_, max}
 use mathlib.Core.Path.{_≡_}
 use mathlib.Core.List.{List, []}
+use lib.ListN.{length}
 use Rattle.record.specs.Chain.{maxCarbons}
 use Rattle.chain.specs.Features.{literalEnd}
 use Rattle.drawable.specs.Drawn.{Drawn, bondsDrawn, groupsDrawn, floatsDrawn, ringsDrawn, Says}
@@ -18,10 +19,12 @@ pub record ChainTokens : Type 0 where
 abbrev pub tokens : ℕ → ℕ → List ℕ → List ℕ → ChainTokens
 tokens f l bs us = record { first = f; last = l; bonds = bs; busy = us }
 
--- t is what is known of the carbons of x; the arrays go to carbon 255
+-- t is what is known of the carbons of x; the arrays go to the last literal one, or further
 pub record TokensOf (x : Drawn) (t : ChainTokens) : Type 0 where
   pub first : t .first ≡ max (x .first) 1
   pub room : t .last ≤ maxCarbons
+  pub bonded : t .last < length (t .bonds)
+  pub laden : t .last < length (t .busy)
   pub last : x .carbon ≤ maxCarbons → Says x (t .last) literalEnd
   pub bonds : BondsBy (bondsDrawn x) (ringsDrawn x) (x .carbon) (t .bonds)
   pub busy : Busy (x .acyl) (groupsDrawn x) (ringsDrawn x) (t .busy)

@@ -9,7 +9,7 @@ ghost use Prim.Native.Nat.{ℕ, _+_, _≤_, _<_, min, max};
 ghost use lib.ListN.{length, getD, set, replicate};
 ghost use Rattle.chain.specs.Bonds.{openMark, closeMark, markBond, closeByte, markFrom, bridged, double};
 ghost use Rattle.drawable.specs.Drawn.{bondsIn, groupsIn, ringsIn, drawnOf, bondsDrawn, ringsDrawn};
-ghost use Rattle.carbons.specs.ByCarbon.{geometryByte, geometryOf, doubleAt, bridgeAt, ringOn, carbonylOn, risesFrom, RowAtoms, SetWhere, Added, Geometries, Marks, PlainBonds, BondsBy, Busy};
+ghost use Rattle.carbons.specs.ByCarbon.{geometryByte, geometryOf, doubleAt, bridgeAt, ringOn, carbonylOn, risesFrom, RowAtoms, SetWhere, Added, Geometries, Marks, Noughts, PlainBonds, BondsBy, Busy};
 ghost use Rattle.carbons.specs.Tokens.{tokens, TokensOf, Bare};
 
 // Carbons 0 to 255.
@@ -302,14 +302,14 @@ fn plain_bonds<'a>(
     rings: &'a [u64],
     ring_count: usize,
 )
-    requires { ⌜ now bonds ≡ replicate 256 0 ⌝ }
+    requires { ⌜ Noughts (now bonds) ⌝ }
     ensures { λ _. ⌜ PlainBonds (bondsIn «bond_count» (now (doubles .entry))) (ringsIn «ring_count» (now (rings .entry))) (now (bonds .exit)) ⌝ }
 {
     set_bridges(bonds, rings, ring_count);
     set_doubles(bonds, doubles, bond_count);
 }
 
-// A carbon's number, no higher than the arrays go.
+// A carbon's number, no higher than a chain's can be.
 fn in_room(carbon: u16) -> u16
     ensures { λ r. ⌜ r ≡ min carbon 255 ⌝ }
 {
@@ -329,7 +329,7 @@ fn from_one(first: u16) -> u16
     first
 }
 
-// The bonds with their marks, in an array of noughts.
+// The bonds with their marks, in an array of noughts that goes to the last carbon.
 fn marked_bonds<'a>(
     bonds: &mut [u8],
     doubles: &'a [u64],
@@ -338,7 +338,7 @@ fn marked_bonds<'a>(
     ring_count: usize,
     carbon: u16,
 )
-    requires { ⌜ now bonds ≡ replicate 256 0 ⌝ }
+    requires { ⌜ Noughts (now bonds) × (min carbon 255 < length (now bonds)) ⌝ }
     ensures { λ _. ⌜ BondsBy (bondsIn «bond_count» (now (doubles .entry))) (ringsIn «ring_count» (now (rings .entry))) carbon (now (bonds .exit)) ⌝ }
 {
     plain_bonds(bonds, doubles, bond_count, rings, ring_count);
@@ -359,7 +359,7 @@ fn busy_carbons<'a>(
     rings: &'a [u64],
     ring_count: usize,
 )
-    requires { ⌜ now busy ≡ replicate 256 0 ⌝ }
+    requires { ⌜ Noughts (now busy) ⌝ }
     requires { ⌜ length (now groups) ≤ 18 ⌝ }
     ensures { λ _. ⌜ Busy acyl (groupsIn «group_count» (now (groups .entry))) (ringsIn «ring_count» (now (rings .entry))) (now (busy .exit)) ⌝ }
 {
@@ -368,9 +368,9 @@ fn busy_carbons<'a>(
     add_groups(busy, groups, group_count);
 }
 
-// The bonds of a bare chain with their marks, in an array of noughts: there is no bridge among them.
+// The bonds of a bare chain with their marks, in an array of noughts that goes to its last carbon: there is no bridge among them.
 pub fn bare_bonds(x: Shape, part: &[u64], bonds: &mut [u8])
-    requires { ⌜ now bonds ≡ replicate 256 0 ⌝ }
+    requires { ⌜ Noughts (now bonds) × (x .carbon < length (now bonds)) ⌝ }
     requires { ⌜ Bare (drawnOf x (now part)) ⌝ }
     ensures { λ _. ⌜ BondsBy (bondsDrawn (drawnOf x (now (part .entry)))) (ringsDrawn (drawnOf x (now (part .entry)))) (x .carbon) (now (bonds .exit)) ⌝ }
 {
@@ -390,10 +390,10 @@ pub struct Span {
     pub last: u16,
 }
 
-// What is known of each carbon, into two arrays of noughts: the bond after it, and its atoms if it carries anything.
+// What is known of each carbon, into two arrays of noughts that go to the last one: the bond after it, and its atoms if it carries anything.
 pub fn chain_tokens(x: Shape, part: &[u64], bonds: &mut [u8], busy: &mut [u8]) -> Span
-    requires { ⌜ now bonds ≡ replicate 256 0 ⌝ }
-    requires { ⌜ now busy ≡ replicate 256 0 ⌝ }
+    requires { ⌜ Noughts (now bonds) × (min (x .carbon) 255 < length (now bonds)) ⌝ }
+    requires { ⌜ Noughts (now busy) × (min (x .carbon) 255 < length (now busy)) ⌝ }
     ensures { λ r. ⌜ TokensOf (drawnOf x (now (part .entry))) (tokens (r .first) (r .last) (now (bonds .exit)) (now (busy .exit))) ⌝ }
 {
     let rings = drawable::rings_part(part);

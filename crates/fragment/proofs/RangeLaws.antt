@@ -167,7 +167,7 @@ module _ {xs ys ts : List ℕ} {at p : ℕ} (acyl : Bool) (ks : List ℕ) (gs : 
       → Left xs at ts zs q (carbonsText acyl ks gs rs l (k + 1) (suc last - (k + 1)))
   carbon-busy h w = left-less _ m (turned h) (simp append-assoc) w
 
-  pub carbon-run : {zs bs : List ℕ} {q c : ℕ} → Busy acyl gs rs bs → last ≤ 255 → Run ks bs k last ys p zs q c
+  pub carbon-run : {zs bs : List ℕ} {q c : ℕ} → Busy acyl gs rs bs → last < length bs → Run ks bs k last ys p zs q c
       → Left xs at ts zs q (carbonsText acyl ks gs rs l c (suc last - c))
   carbon-run {c = c} b f r =
       let z : suc last - k ≡ suc (c - (k + 1) + (suc last - c)) = omega (arith, r .low, r .high) in

@@ -198,9 +198,9 @@ segment-drawn {xs} {ys} {at} {q} {m} x t l k e w =
 -- what the writer of the literal carbons relies on
 pub range-ready : (x : Shape) (part : List ℕ) (first last : ℕ) (bs us : List ℕ) {gs rs : List ℕ} (l : ℕ) {m : ℕ} → TokensOf (drawnOf x part) (tokens first last bs us)
     → gs ≡ groupsPart part → rs ≡ ringsPart part → m ≡ min l 247
-    → (1 ≤ first) × (last ≤ 255) × (length bs ≡ 256) × Busy (x .acyl) (groupsIn (x .«group_count») gs) (ringsIn (x .«ring_count») rs) us × (m + length rs ≤ 255)
+    → (1 ≤ first) × (last ≤ 255) × (last < length bs) × (last < length us) × Busy (x .acyl) (groupsIn (x .«group_count») gs) (ringsIn (x .«ring_count») rs) us × (m + length rs ≤ 255)
 range-ready x part first last bs us l k a b e =
-    (omega (arith, k .first), k .room, k .bonds .size, rw (a, b) (k .busy), rw b (omega (arith, rings-few part)))
+    (omega (arith, k .first), k .room, k .bonded, k .laden, rw (a, b) (k .busy), rw b (omega (arith, rings-few part)))
 
 -- where the lists stand in the part of a chain
 pub segment-done : {xs ys zs ws gs rs : List ℕ} {at p q o m : ℕ} (x : Shape) (part : List ℕ) (first last : ℕ) (bs us : List ℕ) (l : ℕ) → length xs < 2 ^ 64

@@ -3,7 +3,7 @@
 use drawable::Shape;
 ghost use mathlib.Core.Path.{_≡_};
 ghost use mathlib.Core.List.{_++_};
-ghost use Prim.Native.Nat.{ℕ, suc, _+_, _-_, _*_, _≤_, min};
+ghost use Prim.Native.Nat.{ℕ, suc, _+_, _-_, _*_, _≤_, _<_, min};
 ghost use lib.ListN.{length};
 ghost use Rattle.emit.specs.Text.{Written};
 ghost use Rattle.drawable.specs.Drawn.{groupsIn, ringsIn, floatsPart, drawnOf, bondsDrawn, ringsDrawn};
@@ -82,7 +82,7 @@ fn assemble_range<'a>(
     busy: &'a [u8],
     label: u8,
 ) -> usize
-    requires { ⌜ (1 ≤ first) × (last ≤ 255) × (length (now bonds) ≡ 256) × Busy acyl (groupsIn «group_count» (now groups)) (ringsIn «ring_count» (now rings)) (now busy) × (label + length (now rings) ≤ 255) ⌝ }
+    requires { ⌜ (1 ≤ first) × (last ≤ 255) × (last < length (now bonds)) × (last < length (now busy)) × Busy acyl (groupsIn «group_count» (now groups)) (ringsIn «ring_count» (now rings)) (now busy) × (label + length (now rings) ≤ 255) ⌝ }
     ensures { λ r. ⌜ Written (now (out .entry)) at (carbonsText acyl (now (bonds .entry)) (groupsIn «group_count» (now (groups .entry))) (ringsIn «ring_count» (now (rings .entry))) label first (suc last - first)) (now (out .exit)) r ⌝ }
 {
     let mut p = at;

@@ -88,7 +88,7 @@ fn put_fours<'a>(
     k: usize,
     last: usize,
 ) -> Reached
-    requires { ⌜ (1 ≤ k) × (k ≤ last + 1) × (last ≤ 255) × (length (now bonds) ≡ 256) × (length (now busy) ≡ 256) × (at + (last + 1 - k) * 2 ≤ length (now out)) ⌝ }
+    requires { ⌜ (1 ≤ k) × (k ≤ last + 1) × (last ≤ 255) × (last < length (now bonds)) × (last < length (now busy)) × (at + (last + 1 - k) * 2 ≤ length (now out)) ⌝ }
     ensures { λ r. ⌜ Links (now (bonds .entry)) (now (busy .entry)) k last (now (out .entry)) at (now (out .exit)) (r .at) (r .carbon) ⌝ }
 {
     let mut p = at;
@@ -112,7 +112,7 @@ fn put_ones<'a>(
     k: usize,
     last: usize,
 ) -> Reached
-    requires { ⌜ (1 ≤ k) × (k ≤ last + 1) × (last ≤ 255) × (length (now bonds) ≡ 256) × (length (now busy) ≡ 256) × (at + (last + 1 - k) * 2 ≤ length (now out)) ⌝ }
+    requires { ⌜ (1 ≤ k) × (k ≤ last + 1) × (last ≤ 255) × (last < length (now bonds)) × (last < length (now busy)) × (at + (last + 1 - k) * 2 ≤ length (now out)) ⌝ }
     ensures { λ r. ⌜ Links (now (bonds .entry)) (now (busy .entry)) k last (now (out .entry)) at (now (out .exit)) (r .at) (r .carbon) ⌝ }
 {
     let mut p = at;
@@ -136,7 +136,7 @@ fn put_free<'a>(
     k: usize,
     last: usize,
 ) -> Reached
-    requires { ⌜ (1 ≤ k) × (k ≤ last + 1) × (last ≤ 255) × (length (now bonds) ≡ 256) × (length (now busy) ≡ 256) × (at + (last + 1 - k) * 2 ≤ length (now out)) ⌝ }
+    requires { ⌜ (1 ≤ k) × (k ≤ last + 1) × (last ≤ 255) × (last < length (now bonds)) × (last < length (now busy)) × (at + (last + 1 - k) * 2 ≤ length (now out)) ⌝ }
     ensures { λ r. ⌜ Links (now (bonds .entry)) (now (busy .entry)) k last (now (out .entry)) at (now (out .exit)) (r .at) (r .carbon) ⌝ }
 {
     let r = put_fours(out, at, bonds, busy, k, last);
@@ -152,7 +152,7 @@ fn put_links<'a>(
     k: usize,
     last: usize,
 ) -> Reached
-    requires { ⌜ (1 ≤ k) × (k ≤ last + 1) × (last ≤ 255) × (length (now bonds) ≡ 256) × (length (now busy) ≡ 256) ⌝ }
+    requires { ⌜ (1 ≤ k) × (k ≤ last + 1) × (last ≤ 255) × (last < length (now bonds)) × (last < length (now busy)) ⌝ }
     ensures { λ r. ⌜ Links (now (bonds .entry)) (now (busy .entry)) k last (now (out .entry)) at (now (out .exit)) (r .at) (r .carbon) ⌝ }
 {
     if at < out.len() {
@@ -174,7 +174,7 @@ pub fn put_run<'a>(
     k: usize,
     last: usize,
 ) -> Reached
-    requires { ⌜ (1 ≤ k) × (k ≤ last) × (last ≤ 255) × (length (now bonds) ≡ 256) × (length (now busy) ≡ 256) × (getD (now busy) k 0 ≡ 0) ⌝ }
+    requires { ⌜ (1 ≤ k) × (k ≤ last) × (last ≤ 255) × (last < length (now bonds)) × (last < length (now busy)) × (getD (now busy) k 0 ≡ 0) ⌝ }
     ensures { λ r. ⌜ Run (now (bonds .entry)) (now (busy .entry)) k last (now (out .entry)) at (now (out .exit)) (r .at) (r .carbon) ⌝ }
 {
     let p = backbone::put_carbon(out, at, bonds[k - 1]);
@@ -189,7 +189,7 @@ pub fn put_run<'a>(
 
 // The carbons from C k to the last, as long as there are four of them, whatever they carry.
 fn link_fours<'a>(out: &mut [u8], at: usize, bonds: &'a [u8], k: usize, last: usize) -> Reached
-    requires { ⌜ (1 ≤ k) × (k ≤ last + 1) × (last ≤ 255) × (length (now bonds) ≡ 256) × (at + (last + 1 - k) * 2 ≤ length (now out)) ⌝ }
+    requires { ⌜ (1 ≤ k) × (k ≤ last + 1) × (last ≤ 255) × (last < length (now bonds)) × (at + (last + 1 - k) * 2 ≤ length (now out)) ⌝ }
     ensures { λ r. ⌜ Links (now (bonds .entry)) [] k last (now (out .entry)) at (now (out .exit)) (r .at) (r .carbon) ⌝ }
 {
     let mut p = at;
@@ -203,7 +203,7 @@ fn link_fours<'a>(out: &mut [u8], at: usize, bonds: &'a [u8], k: usize, last: us
 
 // The same, one by one.
 fn link_ones<'a>(out: &mut [u8], at: usize, bonds: &'a [u8], k: usize, last: usize) -> usize
-    requires { ⌜ (1 ≤ k) × (k ≤ last + 1) × (last ≤ 255) × (length (now bonds) ≡ 256) × (at + (last + 1 - k) * 2 ≤ length (now out)) ⌝ }
+    requires { ⌜ (1 ≤ k) × (k ≤ last + 1) × (last ≤ 255) × (last < length (now bonds)) × (at + (last + 1 - k) * 2 ≤ length (now out)) ⌝ }
     ensures { λ r. ⌜ Written (now (out .entry)) at (linksText (now (bonds .entry)) k (last + 1 - k)) (now (out .exit)) r ⌝ }
 {
     let mut p = at;
@@ -217,7 +217,7 @@ fn link_ones<'a>(out: &mut [u8], at: usize, bonds: &'a [u8], k: usize, last: usi
 
 // All carbons from C k to the last, each after the bond before it, where there is room for them with a bond before each.
 pub fn put_through<'a>(out: &mut [u8], at: usize, bonds: &'a [u8], k: usize, last: usize) -> usize
-    requires { ⌜ (1 ≤ k) × (k ≤ last + 1) × (last ≤ 255) × (length (now bonds) ≡ 256) × (at + (last + 1 - k) * 2 ≤ length (now out)) ⌝ }
+    requires { ⌜ (1 ≤ k) × (k ≤ last + 1) × (last ≤ 255) × (last < length (now bonds)) × (at + (last + 1 - k) * 2 ≤ length (now out)) ⌝ }
     ensures { λ r. ⌜ Written (now (out .entry)) at (linksText (now (bonds .entry)) k (last + 1 - k)) (now (out .exit)) r ⌝ }
 {
     let r = link_fours(out, at, bonds, k, last);

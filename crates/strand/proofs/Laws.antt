@@ -84,15 +84,16 @@ unfolding ringsIn
 none-rings [] = refl
 none-rings (n ∷ l) = refl
 
-pub shape-bare : (x : Shape) → x .«group_count» ≡ 0 → x .«ring_count» ≡ 0 → x .«float_count» ≡ 0 → x .unlocated ≡ 0 → (x .first ≡ 0 → ⊥) → x .first ≤ x .carbon → x .carbon ≤ 255 → BareShape x
+pub shape-bare : (x : Shape) → x .«group_count» ≡ 0 → x .«ring_count» ≡ 0 → x .«float_count» ≡ 0 → x .unlocated ≡ 0 → (x .first ≡ 0 → ⊥) → x .first ≤ x .carbon → x .carbon < 96 → BareShape x
 shape-bare x g r f u n s h =
     record {
+      short = h;
       bare =
           λ l.
           record {
             first = omega arith;
             some = s;
-            room = h;
+            room = omega arith;
             unlocated = u;
             groups = rw g (none-groups (groupsPart l));
             floats = rw f (none-groups (floatsPart l));

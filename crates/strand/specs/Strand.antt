@@ -1,5 +1,5 @@
 -- What a chain leaves that is laid down at its place. Assumes nothing.
-use Prim.Native.Nat.{ℕ, _≤_}
+use Prim.Native.Nat.{ℕ, _≤_, _<_}
 use mathlib.Core.Path.{_≡_}
 use mathlib.Core.List.{List, [], _∷_, _++_}
 use lib.ListN.{length}
@@ -73,8 +73,9 @@ pub record StrandOf (ρ : Role) (first l : ℕ) (x : Drawn) (xs : Rooms) (at use
   pub laid : (d : Chain) → Carries ρ d x → l ≤ 247 → Laid ρ d first l xs at used row ys s
   pub sizes : Sizes xs ys
 
--- a chain with these numbers is bare, whatever stands in its lists
+-- a chain with these numbers is short, and bare whatever stands in its lists
 pub record BareShape (x : Shape) : Type 0 where
+  pub short : x .carbon < 96
   pub bare : (l : List ℕ) → Bare (drawnOf x l)
 
 -- ---- what is kept beside

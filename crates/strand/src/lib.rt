@@ -4,7 +4,6 @@ use atoms::ChainAtoms;
 use carbons::CARBON_ROOM;
 use chain::Role;
 use drawable::Shape;
-use record::MAX_CARBONS;
 ghost use mathlib.Core.Path.{_≡_};
 ghost use mathlib.Core.Bool.{true};
 ghost use mathlib.Core.List.{[], _∷_};
@@ -127,7 +126,11 @@ fn put_laden(
     }
 }
 
-// Whether a chain carries nothing but double bonds that all have a position and, if it is acyl, the O of its C1.
+// Carbons 0 to 95, as far as the table of a bare chain goes: the longest chains known in nature, those of the mycolic acids, have about 90, and a
+// table costs time for each of its bytes, since it is filled with noughts first. A longer chain is laid down as one that may carry anything.
+const SHORT_ROOM: usize = 96;
+
+// Whether a chain is short and carries nothing but double bonds that all have a position and, if it is acyl, the O of its C1.
 fn is_bare(x: Shape) -> bool
     ensures { λ r. ⌜ (r ≡ true → BareShape x) ⌝ }
 {
@@ -149,7 +152,7 @@ fn is_bare(x: Shape) -> bool
     if x.first > x.carbon {
         return false;
     }
-    if x.carbon > MAX_CARBONS {
+    if x.carbon as usize >= SHORT_ROOM {
         return false;
     }
     true
@@ -217,11 +220,11 @@ fn put_bare(
     role: Role,
     first: u32,
 ) -> Strand
-    requires { ⌜ Bare (drawnOf x (now part)) ⌝ }
+    requires { ⌜ Bare (drawnOf x (now part)) × (x .carbon < 96) ⌝ }
     requires { ⌜ (at + (x .carbon * 2 + 8) ≤ length (now out)) × (used + (x .carbon + 2) ≤ length (now index)) × (first < 40000) ⌝ }
     ensures { λ r. ⌜ ((l : ℕ) → StrandOf role first l (drawnOf x (now (part .entry))) (rooms (now (out .entry)) (now (index .entry)) (now (rows .entry))) at used row (rooms (now (out .exit)) (now (index .exit)) (now (rows .exit))) r) ⌝ }
 {
-    let mut bonds = [0u8; CARBON_ROOM];
+    let mut bonds = [0u8; SHORT_ROOM];
     carbons::bare_bonds(x, part, &mut bonds);
     let next = fragment::build_bare(out, at, x, part, &bonds);
     let own = bare_indices(index, used, role, first, x, part, &bonds);

@@ -1,5 +1,5 @@
 use borrow.Author.Needs.{needs}
-use Prim.Native.Nat.{suc, _+_, _≤_, _-_}
+use Prim.Native.Nat.{suc, _+_, _≤_, _<_, _-_}
 use mathlib.Core.Path.{_≡_}
 use native.Mathlib.Omega.{arith}
 use mathlib.Core.List.{[]}
@@ -14,7 +14,7 @@ use Rattle.atoms.proofs.number_each.Statement.{statement}
 use Rattle.atoms.proofs.number_each.Tie as tie
 
 abbrev Inv-loop : tie.InvT-loop
-Inv-loop index₀ at first x part from last bonds busy p₀ count₀ next₀ k₀ index p count next k = (length bonds ≡ 256) × (length busy ≡ 256) × (1 ≤ k) × (count + (suc last - k) ≡ suc last - from) × Numbering first (literalOf (drawnOf x part) (tokens from last bonds busy)) index₀ at index p count next (valuesFrom (carbonOf (x .acyl) bonds (groupsDrawn (drawnOf x part))) k (suc last - k))
+Inv-loop index₀ at first x part from last bonds busy p₀ count₀ next₀ k₀ index p count next k = (last < length bonds) × (last < length busy) × (1 ≤ k) × (count + (suc last - k) ≡ suc last - from) × Numbering first (literalOf (drawnOf x part) (tokens from last bonds busy)) index₀ at index p count next (valuesFrom (carbonOf (x .acyl) bonds (groupsDrawn (drawnOf x part))) k (suc last - k))
 
 abbrev μ-loop : tie.MeasureT-loop
 μ-loop index₀ at first x part from last bonds busy p₀ count₀ next₀ k₀ index p count next k = suc last - k

@@ -1,6 +1,6 @@
 use borrow.Author.Needs.{needs}
 use native.Mathlib.Omega.{arith}
-use Prim.Native.Nat.{suc, _+_, _-_, _≤_}
+use Prim.Native.Nat.{suc, _+_, _-_, _≤_, _<_}
 use mathlib.Core.Path.{_≡_, refl, _∙_}
 use mathlib.Core.List.{[]}
 use lib.ListN.{length, length-set}
@@ -16,7 +16,7 @@ use Rattle.atoms.proofs.number_within.Statement.{statement}
 use Rattle.atoms.proofs.number_within.Tie as tie
 
 abbrev Inv-loop : tie.InvT-loop
-Inv-loop index₀ at first x part from last bonds busy p₀ next₀ end k₀ index p next k = (length bonds ≡ 256) × (length busy ≡ 256) × (length index ≡ length index₀) × (1 ≤ from) × (from ≤ k) × (p + from ≡ at + k) × Within first (literalOf (drawnOf x part) (tokens from last bonds busy)) index₀ at index p next (valuesFrom (carbonOf (x .acyl) bonds (groupsDrawn (drawnOf x part))) k (suc last - k))
+Inv-loop index₀ at first x part from last bonds busy p₀ next₀ end k₀ index p next k = (last < length bonds) × (last < length busy) × (length index ≡ length index₀) × (1 ≤ from) × (from ≤ k) × (p + from ≡ at + k) × Within first (literalOf (drawnOf x part) (tokens from last bonds busy)) index₀ at index p next (valuesFrom (carbonOf (x .acyl) bonds (groupsDrawn (drawnOf x part))) k (suc last - k))
 
 abbrev μ-loop : tie.MeasureT-loop
 μ-loop index₀ at first x part from last bonds busy p₀ next₀ end k₀ index p next k = suc last - k
@@ -56,7 +56,7 @@ loop-again c =
       omega arith,
       omega arith,
       omega (arith, place),
-      within-four _ _ _ _ _ _ _ _ _ (turn .loop .inv .6) (start .good .0 .0) (omega arith) (omega arith) (omega arith) (start .pre .1 .bonds) (start .pre .1 .busy) (start .pre .0 .own) (start .pre .0 .literal) idle (put .put-four .ensures),
+      within-four _ _ _ _ _ _ _ _ _ (turn .loop .inv .6) (start .good .0 .0) (omega arith) (omega arith) (omega arith) (start .pre .1 .bonds) (start .pre .1 .busy) (start .pre .0 .own) (start .pre .0 .literal) (start .pre .1 .laden) idle (put .put-four .ensures),
     )
 
 mul-index : tie.Need-mul-index Inv-loop μ-loop
@@ -90,7 +90,7 @@ loop-again-2 c =
       omega arith,
       omega arith,
       omega arith,
-      within-bare _ _ _ _ _ _ _ _ _ (turn .loop .inv .6) (start .good .0 .0) (omega arith) (omega arith) (omega arith) (start .pre .1 .bonds) (start .pre .1 .busy) (start .pre .0 .own) (start .pre .0 .literal) (omega arith) (c .if2 .taken),
+      within-bare _ _ _ _ _ _ _ _ _ (turn .loop .inv .6) (start .good .0 .0) (omega arith) (omega arith) (omega arith) (start .pre .1 .bonds) (start .pre .1 .busy) (start .pre .0 .own) (start .pre .0 .literal) (start .pre .1 .laden) (omega arith) (c .if2 .taken),
     )
 
 cast-busy-atoms : tie.Need-cast-busy-atoms Inv-loop μ-loop

@@ -1,4 +1,5 @@
 use Rattle.carbons.proofs.TokenLaws.{tokens-are, groups-short}
+use native.Mathlib.Omega.{arith}
 use borrow.Author.Needs.{needs}
 use Rattle.carbons.proofs.chain_tokens.Statement.{statement}
 use Rattle.carbons.proofs.chain_tokens.Tie as tie
@@ -34,7 +35,11 @@ same-length-2 : tie.Need-same-length-2
 same-length-2 c = search needs
 
 returns : tie.Need-returns
-returns c = search tokens-are
+returns c =
+    let busy = c .before .before .before .before .before in
+    let bonds = busy .before .before .before .before .before in
+    let start = bonds .before .before .before .before .before .before .before in
+    tokens-are _ (omega (arith, start .pre .1 .1)) (bonds .before .before .before .rings-part .ensures) (bonds .before .bonds-part .ensures) (bonds .marked-bonds .ensures) (busy .before .groups-part .ensures) (busy .busy-carbons .ensures) (c .before .before .from-one .ensures) (c .before .literal-end .ensures) (c .in-room .ensures)
 
 pub chain-tokens-spec : {M : Type 1} → statement M
 chain-tokens-spec =

@@ -1,5 +1,6 @@
 use Rattle.carbons.proofs.BondLaws.{rises-so}
 use Rattle.carbons.proofs.TokenLaws.{bonds-marked}
+use native.Mathlib.Omega.{arith}
 use borrow.Author.Needs.{needs}
 use Rattle.carbons.proofs.marked_bonds.Statement.{statement}
 use Rattle.carbons.proofs.marked_bonds.Tie as tie
@@ -23,7 +24,10 @@ same-length : tie.Need-same-length
 same-length c = search needs
 
 returns : tie.Need-returns
-returns c = search bonds-marked
+returns c =
+    let marked = c .before .before in
+    let last = marked .before .before .before .before in
+    bonds-marked _ _ (last .before .before .before .plain-bonds .ensures) (last .in-room .ensures) (omega arith) (marked .mark-rising .ensures)
 
 mark-any-requires : tie.Need-mark-any-requires
 mark-any-requires c κs = search needs
@@ -32,7 +36,10 @@ same-length-2 : tie.Need-same-length-2
 same-length-2 c = search needs
 
 returns-2 : tie.Need-returns-2
-returns-2 c = search bonds-marked
+returns-2 c =
+    let marked = c .before .before in
+    let last = marked .before .before .before .before in
+    bonds-marked _ _ (last .before .before .before .plain-bonds .ensures) (last .in-room .ensures) (omega arith) (marked .mark-any .ensures)
 
 pub marked-bonds-spec : {M : Type 1} → statement M
 marked-bonds-spec =

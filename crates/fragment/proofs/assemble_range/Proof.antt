@@ -1,5 +1,5 @@
 use borrow.Author.Needs.{needs}
-use Prim.Native.Nat.{suc, _≤_, _-_}
+use Prim.Native.Nat.{suc, _≤_, _<_, _-_}
 use mathlib.Core.Path.{_≡_, refl}
 use native.Mathlib.Omega.{arith}
 use lib.ListN.{length}
@@ -12,7 +12,7 @@ use Rattle.fragment.proofs.assemble_range.Tie as tie
 
 abbrev Inv-loop : tie.InvT-loop
 Inv-loop out₀ at acyl groups group-count rings ring-count first last bonds busy label p₀ k₀ end out p k =
-    (1 ≤ k) × (end ≡ last) × (length bonds ≡ 256) × (length busy ≡ 256) × Left out₀ at (carbonsText acyl bonds (groupsIn group-count groups) (ringsIn ring-count rings) label first (suc last - first)) out p (carbonsText acyl bonds (groupsIn group-count groups) (ringsIn ring-count rings) label k (suc last - k))
+    (1 ≤ k) × (end ≡ last) × (last < length bonds) × (last < length busy) × Left out₀ at (carbonsText acyl bonds (groupsIn group-count groups) (ringsIn ring-count rings) label first (suc last - first)) out p (carbonsText acyl bonds (groupsIn group-count groups) (ringsIn ring-count rings) label k (suc last - k))
 
 abbrev μ-loop : tie.MeasureT-loop
 μ-loop out₀ at acyl groups group-count rings ring-count first last bonds busy label p₀ k₀ end out p k =

@@ -30,7 +30,7 @@ put-through-requires c κs =
     let second = c .before .before .before in
     let first = second .before .before .before .before in
     let start = first .before .before .before .before .before .before .before .before in
-    (omega arith, omega arith, omega arith, search needs, bare-room _ _ _ _ (start .pre .0 .first) (start .pre .0 .some) (start .pre .1 .1) (first .put-carbon .ensures) (second .put-carbonyl .ensures))
+    (omega arith, omega arith, omega arith, omega arith, bare-room _ _ _ _ (start .pre .0 .first) (start .pre .0 .some) (start .pre .1 .1) (first .put-carbon .ensures) (second .put-carbonyl .ensures))
 
 shared-slice-read-put-bridge : tie.Need-shared-slice-read-put-bridge
 shared-slice-read-put-bridge c = search needs

@@ -1,4 +1,7 @@
 use Rattle.strand.proofs.Laws.{bare-laid}
+use mathlib.Core.Path.{refl}
+use native.Mathlib.Omega.{arith}
+use Rattle.carbons.proofs.TokenLaws.{noughts}
 use borrow.Author.Needs.{needs}
 use Rattle.strand.proofs.put_bare.Statement.{statement}
 use Rattle.strand.proofs.put_bare.Tie as tie
@@ -7,7 +10,7 @@ slice-aggregate-bare-bonds : tie.Need-slice-aggregate-bare-bonds
 slice-aggregate-bare-bonds c = search needs
 
 bare-bonds-requires : tie.Need-bare-bonds-requires
-bare-bonds-requires c κs = search needs
+bare-bonds-requires c κs = ((noughts 96 refl, omega arith), search needs)
 
 slice-aggregate-build-bare : tie.Need-slice-aggregate-build-bare
 slice-aggregate-build-bare c = search needs

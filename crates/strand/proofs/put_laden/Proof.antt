@@ -1,4 +1,7 @@
 use Rattle.strand.proofs.Laws.{strand-laid}
+use mathlib.Core.Path.{refl}
+use native.Mathlib.Omega.{arith}
+use Rattle.carbons.proofs.TokenLaws.{noughts}
 use borrow.Author.Needs.{needs}
 use Rattle.strand.proofs.put_laden.Statement.{statement}
 use Rattle.strand.proofs.put_laden.Tie as tie
@@ -10,7 +13,7 @@ slice-aggregate-chain-tokens-2 : tie.Need-slice-aggregate-chain-tokens-2
 slice-aggregate-chain-tokens-2 c = search needs
 
 chain-tokens-requires : tie.Need-chain-tokens-requires
-chain-tokens-requires c κs = search needs
+chain-tokens-requires c κs = ((noughts 256 refl, omega arith), (noughts 256 refl, omega arith))
 
 slice-aggregate-build-chain-segment : tie.Need-slice-aggregate-build-chain-segment
 slice-aggregate-build-chain-segment c = search needs

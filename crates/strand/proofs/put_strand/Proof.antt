@@ -12,7 +12,8 @@ put-bare-requires : tie.Need-put-bare-requires
 put-bare-requires c κs =
     let room = c .before .before .before in
     let bare = room .before .before in
-    (bare .before .is-bare .ensures (bare .if1 .taken) .bare _, room .before .has-room .ensures (room .if2 .taken))
+    let shape = bare .before .is-bare .ensures (bare .if1 .taken) in
+    ((shape .bare _, shape .short), room .before .has-room .ensures (room .if2 .taken))
 
 same-length : tie.Need-same-length
 same-length c = search needs
