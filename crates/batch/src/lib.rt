@@ -9,6 +9,7 @@ ghost use Rattle.forward.specs.Call.{Called};
 ghost use Rattle.sheet.specs.Cells.{cellOf, snCells, Cut};
 ghost use Rattle.sheet.specs.Sheet.{requestOf};
 ghost use Rattle.batch.specs.Reply.{answerText, RowAnswered};
+ghost use Rattle.rows.specs.Near.{Pairs};
 ghost use Rattle.beginning.specs.declared.Stage.the-variants.{Rows};
 ghost use Rattle.batch.specs.Batch.{heldAfter, before, staged, Holds, LinesAnswered, among, passedIn, isRows, isHeader, heldLast, Finished};
 pub use beginning::Answered;
@@ -20,7 +21,9 @@ pub use beginning::put_titles;
 use beginning::put_unreadable;
 use forward::Answer;
 pub use remnant::keep;
-use rows::put_row;
+use rows::PAIRS;
+use rows::fill_pairs;
+use rows::put_row_by;
 use sheet::Plan;
 use tally::Counts;
 use tally::count_in;
@@ -37,12 +40,20 @@ fn in_line(size: usize, line: &[u8]) -> usize
 }
 
 // A row of the output, from an answer and the slices with its line and its indices.
-fn put_answer(out: &mut [u8], at: usize, answer: Answer, line: &[u8], index: &[u16]) -> usize
+fn put_answer(
+    out: &mut [u8],
+    at: usize,
+    answer: Answer,
+    line: &[u8],
+    index: &[u16],
+    pairs: &[u16],
+) -> usize
+    requires { ⌜ Pairs (now pairs) ⌝ }
     ensures { λ r. ⌜ Written (now (out .entry)) at (answerText answer (now (line .entry)) (now (index .entry))) (now (out .exit)) r ⌝ }
 {
     let n = in_line(answer.length, line);
     let lists = answer.lists;
-    put_row(
+    put_row_by(
         out,
         at,
         answer.number,
@@ -50,6 +61,7 @@ fn put_answer(out: &mut [u8], at: usize, answer: Answer, line: &[u8], index: &[u
         &line[0..n],
         lists,
         index,
+        pairs,
     )
 }
 
@@ -76,7 +88,7 @@ fn draw_row(
     forward::draw(class, swap, tail, count, sn1, sn2, sn3, sn4, line, index)
 }
 
-// A row that is cut into so many cells: its answer, written at a place of the output.
+// A row that is cut into so many cells: its answer, written at a place of the output, with a table of digits, which may be empty.
 fn answer_cut(
     plan: Plan,
     row: &[u8],
@@ -86,8 +98,9 @@ fn answer_cut(
     index: &mut [u16],
     out: &mut [u8],
     at: usize,
+    pairs: &[u16],
 ) -> Answered
-    requires { ⌜ Cut (now row) (now starts) cells ⌝ }
+    requires { ⌜ Cut (now row) (now starts) cells × Pairs (now pairs) ⌝ }
     ensures { λ r. ⌜ RowAnswered (requestOf plan (now (row .entry))) (now (line .entry)) (now (index .entry)) (now (out .entry)) at (now (line .exit)) (now (index .exit)) (now (out .exit)) r ⌝ }
 {
     let asked = sheet::read_cut(plan, row, cells, starts);
@@ -104,7 +117,7 @@ fn answer_cut(
         line,
         index,
     );
-    let next = put_answer(out, at, answer, line, index);
+    let next = put_answer(out, at, answer, line, index, pairs);
     Answered {
         number: answer.number,
         next,
@@ -124,7 +137,8 @@ pub fn answer_row(
 {
     let mut starts = [0usize; sheet::STARTS];
     let cells = sheet::cut(row, &mut starts);
-    answer_cut(plan, row, cells, &starts, line, index, out, at)
+    let none = [0u16; 1];
+    answer_cut(plan, row, cells, &starts, line, index, out, at, &none[0..0])
 }
 
 // A batch after some lines, how much of their text they are, the place after what was written, and whether no LF is left in the text.
@@ -198,7 +212,9 @@ fn answer_rows(
     out: &mut [u8],
     at: usize,
     limit: usize,
+    pairs: &[u16],
 ) -> Passed
+    requires { ⌜ Pairs (now pairs) ⌝ }
     ensures { λ r. ⌜ LinesAnswered (among plan (now (times .entry))) (now (text .entry)) (now (line .entry)) (now (index .entry)) (now (out .entry)) at limit (now (line .exit)) (now (index .exit)) (now (out .exit)) (passedIn plan (now (times .exit)) r) ⌝ }
 {
     let mut t = text;
@@ -215,7 +231,17 @@ fn answer_rows(
             };
         }
         let rest = &t[n + 1..];
-        let answered = answer_cut(plan, &t[0..n], found.cells, &starts, line, index, out, p);
+        let answered = answer_cut(
+            plan,
+            &t[0..n],
+            found.cells,
+            &starts,
+            line,
+            index,
+            out,
+            p,
+            pairs,
+        );
         count_in(times, answered.number);
         p = answered.next;
         t = rest;
@@ -286,7 +312,9 @@ pub fn answer_lines(
     let plan = batch.plan;
     let counts = batch.counts;
     let mut times = counts.times;
-    let passed = answer_rows(plan, &mut times, text, line, index, out, at, limit);
+    let mut pairs = [0u16; PAIRS];
+    fill_pairs(&mut pairs);
+    let passed = answer_rows(plan, &mut times, text, line, index, out, at, limit, &pairs);
     let counted = Counts { times };
     let after = Batch {
         stage: Stage::Rows,

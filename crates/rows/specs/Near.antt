@@ -1,9 +1,23 @@
--- What is written of an index where there is room for it. Assumes nothing.
-use Prim.Native.Nat.{ℕ, _+_, _≤_}
-use mathlib.Core.List.{List}
-use Rattle.emit.specs.Text.{Written}
+-- What is written of the indices of a chain where there is room for them. Assumes nothing.
+use Prim.Native.Nat.{ℕ, _+_, _*_, _-_, _/_, _%_, _^_, _≤_, _<_}
+use mathlib.Core.Path.{_≡_}
+use mathlib.Core.List.{List, map}
+use lib.ListN.{length, getD, take}
+use Rattle.emit.specs.Text.{Written, decimal}
+use Rattle.reading.specs.Parting.{joined}
 
 -- a text was written, and the place after it is k further on at most
 pub record Near (k : ℕ) (xs : List ℕ) (at : ℕ) (ts ys : List ℕ) (r : ℕ) : Type 0 where
   pub text : Written xs at ts ys r
   pub next : r ≤ at + k
+
+-- a table of the two digits of numbers below 100, the tens in the low byte and the ones in the high one; the empty table is one
+pub record Pairs (xs : List ℕ) : Type 0 where
+  pub pair : (n : ℕ) → n < 100 → n < length xs → getD xs n 0 ≡ 12336 + n / 10 + n % 10 * 256
+
+-- after the first indices of a chain were written, more of them were, up to the one at `next`: six bytes for each at most
+pub record Dotted (js : List ℕ) (from : ℕ) (ys : List ℕ) (p : ℕ) (zs : List ℕ) (q next : ℕ) : Type 0 where
+  pub text : (xs : List ℕ) (a : ℕ) → length xs < 2 ^ 64 → Written xs a (joined 46 (map decimal (take from js))) ys p → Written xs a (joined 46 (map decimal (take next js))) zs q
+  pub low : from ≤ next
+  pub high : next ≤ length js
+  pub near : q ≤ p + 6 * (next - from)

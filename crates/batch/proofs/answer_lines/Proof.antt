@@ -21,8 +21,17 @@ same-length-3 c = search needs
 returns : tie.Need-returns
 returns c = search needs
 
+slice-aggregate-fill-pairs : tie.Need-slice-aggregate-fill-pairs
+slice-aggregate-fill-pairs c = search needs
+
+fill-pairs-requires : tie.Need-fill-pairs-requires
+fill-pairs-requires c κs = search needs
+
 slice-aggregate-answer-rows : tie.Need-slice-aggregate-answer-rows
 slice-aggregate-answer-rows c = search needs
+
+slice-aggregate-answer-rows-2 : tie.Need-slice-aggregate-answer-rows-2
+slice-aggregate-answer-rows-2 c = search needs
 
 answer-rows-requires : tie.Need-answer-rows-requires
 answer-rows-requires c κs = search needs
@@ -49,7 +58,10 @@ answer-lines-spec =
     same-length-2
     same-length-3
     returns
+    slice-aggregate-fill-pairs
+    fill-pairs-requires
     slice-aggregate-answer-rows
+    slice-aggregate-answer-rows-2
     answer-rows-requires
     same-length-4
     same-length-5

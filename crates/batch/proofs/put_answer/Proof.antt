@@ -6,17 +6,17 @@ use Rattle.batch.proofs.put_answer.Tie as tie
 in-line-requires : tie.Need-in-line-requires
 in-line-requires c κs = search needs
 
-sub-put-row : tie.Need-sub-put-row
-sub-put-row c = search needs
+sub-put-row-by : tie.Need-sub-put-row-by
+sub-put-row-by c = search needs
 
-part-put-row-start : tie.Need-part-put-row-start
-part-put-row-start c = search needs
+part-put-row-by-start : tie.Need-part-put-row-by-start
+part-put-row-by-start c = search needs
 
-part-put-row-end : tie.Need-part-put-row-end
-part-put-row-end c = search needs
+part-put-row-by-end : tie.Need-part-put-row-by-end
+part-put-row-by-end c = search needs
 
-put-row-requires : tie.Need-put-row-requires
-put-row-requires c κs = search needs
+put-row-by-requires : tie.Need-put-row-by-requires
+put-row-by-requires c κs = search needs
 
 same-length : tie.Need-same-length
 same-length c = search needs
@@ -29,9 +29,9 @@ put-answer-spec =
     tie.close
     (tie.spec
     in-line-requires
-    sub-put-row
-    part-put-row-start
-    part-put-row-end
-    put-row-requires
+    sub-put-row-by
+    part-put-row-by-start
+    part-put-row-by-end
+    put-row-by-requires
     same-length
     returns)

@@ -13,10 +13,10 @@ use Rattle.rows.proofs.put_chains.Statement.{statement}
 use Rattle.rows.proofs.put_chains.Tie as tie
 
 abbrev Inv-loop : tie.InvT-loop
-Inv-loop out₀ at index n items t₀ p₀ i₀ out t p i = (i ≤ n) × (n ≤ 4) × (length t ≤ length index) × (length items ≡ 4) × Written out₀ at (chainsText (carbonsOf (take i items) index)) out p × (t ≡ restAfter (take i items) index)
+Inv-loop out₀ at index pairs n items t₀ p₀ i₀ out t p i = (i ≤ n) × (n ≤ 4) × (length t ≤ length index) × (length items ≡ 4) × Written out₀ at (chainsText (carbonsOf (take i items) index)) out p × (t ≡ restAfter (take i items) index)
 
 abbrev μ-loop : tie.MeasureT-loop
-μ-loop out₀ at index n items t₀ p₀ i₀ out t p i = n - i
+μ-loop out₀ at index pairs n items t₀ p₀ i₀ out t p i = n - i
 
 in-places-requires : tie.Need-in-places-requires Inv-loop μ-loop
 in-places-requires c κs = search needs

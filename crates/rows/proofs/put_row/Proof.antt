@@ -1,34 +1,33 @@
-use Rattle.rows.proofs.Laws.{row-text}
-use native.Mathlib.Omega.{arith}
 use borrow.Author.Needs.{needs}
+use Rattle.rows.proofs.Laws.{no-pairs}
 use Rattle.rows.proofs.put_row.Statement.{statement}
 use Rattle.rows.proofs.put_row.Tie as tie
 
-put-head-requires : tie.Need-put-head-requires
-put-head-requires c κs = search needs
+sub-put-row-by : tie.Need-sub-put-row-by
+sub-put-row-by c = search needs
 
-put-text-cell-requires : tie.Need-put-text-cell-requires
-put-text-cell-requires c κs = search needs
+part-put-row-by-start : tie.Need-part-put-row-by-start
+part-put-row-by-start c = search needs
 
-put-chains-requires : tie.Need-put-chains-requires
-put-chains-requires c κs = search needs
+part-put-row-by-end : tie.Need-part-put-row-by-end
+part-put-row-by-end c = search needs
 
-put-byte-requires : tie.Need-put-byte-requires
-put-byte-requires c κs = search needs
+put-row-by-requires : tie.Need-put-row-by-requires
+put-row-by-requires c κs = search no-pairs
 
 same-length : tie.Need-same-length
 same-length c = search needs
 
 returns : tie.Need-returns
-returns c = search (row-text, arith)
+returns c = search needs
 
 pub put-row-spec : {M : Type 1} → statement M
 put-row-spec =
     tie.close
     (tie.spec
-    put-head-requires
-    put-text-cell-requires
-    put-chains-requires
-    put-byte-requires
+    sub-put-row-by
+    part-put-row-by-start
+    part-put-row-by-end
+    put-row-by-requires
     same-length
     returns)

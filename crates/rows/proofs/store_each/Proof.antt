@@ -8,15 +8,15 @@ use Rattle.emit.specs.Text.{Written, decimal}
 use Rattle.emit.proofs.Laws.{written-nil}
 use Rattle.reading.specs.Parting.{joined}
 use Rattle.sites.proofs.Laws.{sites-all}
-use Rattle.rows.proofs.Stored.{stored-more}
+use Rattle.rows.proofs.Stored.{stored-more, stored-room, stored-less, stored-high}
 use Rattle.rows.proofs.store_each.Statement.{statement}
 use Rattle.rows.proofs.store_each.Tie as tie
 
 abbrev Inv-loop : tie.InvT-loop
-Inv-loop out₀ at indices p₀ i₀ out p i = (i ≤ length indices) × (p + 6 * (length indices - i) ≤ length out₀) × (length out ≡ length out₀) × Written out₀ at (joined 46 (map decimal (take i indices))) out p
+Inv-loop out₀ at indices pairs p₀ i₀ out p i = (i ≤ length indices) × (p + 6 * (length indices - i) ≤ length out₀) × (length out ≡ length out₀) × Written out₀ at (joined 46 (map decimal (take i indices))) out p
 
 abbrev μ-loop : tie.MeasureT-loop
-μ-loop out₀ at indices p₀ i₀ out p i = length indices - i
+μ-loop out₀ at indices pairs p₀ i₀ out p i = length indices - i
 
 loop-holds : tie.Need-loop-holds Inv-loop μ-loop
 unfolding joined
@@ -31,14 +31,17 @@ shared-slice-read-store-index c = search needs
 store-index-requires : tie.Need-store-index-requires Inv-loop μ-loop
 store-index-requires c κs = search needs
 
-add-i : tie.Need-add-i Inv-loop μ-loop
-add-i c = search needs
+add-store-pairs : tie.Need-add-store-pairs Inv-loop μ-loop
+add-store-pairs c = search needs
+
+store-pairs-requires : tie.Need-store-pairs-requires Inv-loop μ-loop
+store-pairs-requires c κs = search needs
 
 loop-less : tie.Need-loop-less Inv-loop μ-loop
-loop-less c = search needs
+loop-less c = search stored-less
 
 loop-again : tie.Need-loop-again Inv-loop μ-loop
-loop-again c = (omega arith, omega arith, search needs, search (stored-more, arith))
+loop-again c = (search stored-high, search stored-room, search needs, search (stored-more, arith))
 
 same-length : tie.Need-same-length Inv-loop μ-loop
 same-length c = search needs
@@ -56,7 +59,8 @@ store-each-spec =
     mul-store-index
     shared-slice-read-store-index
     store-index-requires
-    add-i
+    add-store-pairs
+    store-pairs-requires
     loop-less
     loop-again
     same-length
