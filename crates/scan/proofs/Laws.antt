@@ -14,29 +14,10 @@ use borrow.Author.Tests.{lt-ltb, le-ltb, eq-eqb, ne-eqb, ltb-false, leb-true}
 use Rattle.part.specs.Part.{Place}
 use Rattle.scan.specs.declared.Number.{Number}
 use Rattle.scan.specs.declared.Number.the-variants.{Value, Unreadable}
-use Rattle.scan.specs.Number.{isDigit, digitRun, allDigits, valueFrom, checked, digitsUpTo, afterPlus, numberUpTo}
-use Rattle.part.proofs.Laws.{first-here, first-more}
+use Rattle.scan.specs.Number.{isDigit, allDigits, valueFrom, checked, digitsUpTo, afterPlus, numberUpTo}
 pub use Rattle.part.proofs.Laws.{to-end, starts-length, found-room, same-equal}
 
--- the test for a digit, by what the code asks
-module _ (s t : List ℕ) (i : ℕ) (l : 0 < length t) where
-  pub digit-end : (b : Bool) → b ≡ isDigit (getD t 0 0) → not b ≡ true → digitRun s ≡ i + digitRun t → Place s (digitRun s) i
-  digit-end true e n h = absurd (true≢false (sym n))
-  digit-end false e n h = first-here (λ x. not (isDigit x)) s t i h l (ap not (sym e))
-
-  pub digit-more : (b : Bool) → b ≡ isDigit (getD t 0 0) → not b ≡ false → digitRun s ≡ i + digitRun t
-      → digitRun s ≡ i + 1 + digitRun (take (length t - 1) (drop 1 t))
-  digit-more b e n h = first-more (λ x. not (isDigit x)) s t i h l (sym (ap not e) ∙ n)
-
 -- ---- digits
-
-pub digit-low : (b : ℕ) → b < 48 → false ≡ isDigit b
-unfolding isDigit
-digit-low b h = rw (lt-ltb b 48 h)
-
-pub digit-test : (b : ℕ) → 48 ≤ b → leb b 57 ≡ isDigit b
-unfolding isDigit
-digit-test b h = rw (le-ltb b 48 h)
 
 pub digit-from : (b : ℕ) → isDigit b ≡ true → 48 ≤ b
 unfolding isDigit

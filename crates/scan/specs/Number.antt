@@ -5,17 +5,10 @@ use Prim.Native.Nat.{ℕ, _+_, _*_, _-_}
 use mathlib.Core.List.{List, [], _∷_}
 use mathlib.Core.Bool.{Bool, true, false, not, cond}
 use lib.Dec.{ltb, leb, eqb}
-use Rattle.part.specs.Part.{firstByte}
+unfoldable pub use Rattle.digits.specs.Digit.{isDigit}
+pub use Rattle.digits.specs.Digit.{digitRun}
 use Rattle.scan.specs.declared.Number.{Number}
 use Rattle.scan.specs.declared.Number.the-variants.{Value, Unreadable}
-
--- `0` to `9`
-unfoldable pub isDigit : ℕ → Bool
-isDigit b = cond (ltb b 48) false (leb b 57)
-
--- how many digits lead
-abbrev pub digitRun : List ℕ → ℕ
-digitRun xs = firstByte (λ x. not (isDigit x)) xs
 
 unfoldable pub allDigits : List ℕ → Bool
 allDigits [] = true

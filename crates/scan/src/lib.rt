@@ -1,40 +1,16 @@
-// Parts of lent bytes, and the numbers in them: the numbers here, the parts as `part` and `spaces` have them. Each function is defined for
-// every byte string of every length and refuses nothing; a number that cannot be read is an answer. Which number is said by
+// Parts of lent bytes, and the numbers in them: the numbers here, the parts as `part` and `spaces` have them, digits as `digits` has them. Each
+// function is defined for every byte string of every length and refuses nothing; a number that cannot be read is an answer. Which number is said by
 // specs/Number.antt.
 ghost use mathlib.Core.Path.{_≡_};
 ghost use Prim.Native.Nat.{_≤_};
 ghost use lib.ListN.{length};
-ghost use Rattle.part.specs.Part.{Place};
-ghost use Rattle.scan.specs.Number.{isDigit, digitRun, afterPlus, digitsUpTo, numberUpTo};
+ghost use Rattle.scan.specs.Number.{afterPlus, digitsUpTo, numberUpTo};
+pub use digits::digit_run;
+pub use digits::is_digit;
 pub use part::find;
 pub use part::same;
 pub use part::starts_with;
 pub use spaces::trim;
-
-pub fn is_digit(b: u8) -> bool
-    ensures { λ r. ⌜ r ≡ isDigit b ⌝ }
-{
-    if b < b'0' {
-        return false;
-    }
-    b <= b'9'
-}
-
-// How many digits lead.
-pub fn digit_run(s: &[u8]) -> usize
-    ensures { λ r. ⌜ Place (now (s .entry)) (digitRun (now (s .entry))) r ⌝ }
-{
-    let mut t = s;
-    let mut i = 0;
-    while t.len() > 0 {
-        if !is_digit(t[0]) {
-            return i;
-        }
-        t = &t[1..];
-        i += 1;
-    }
-    i
-}
 
 // A number as it was read.
 pub enum Number {

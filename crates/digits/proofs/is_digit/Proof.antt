@@ -1,7 +1,7 @@
 use borrow.Author.Needs.{needs}
-use Rattle.scan.proofs.Laws.{digit-low, digit-test}
-use Rattle.scan.proofs.is_digit.Statement.{statement}
-use Rattle.scan.proofs.is_digit.Tie as tie
+use Rattle.digits.proofs.Laws.{digit-low, digit-test}
+use Rattle.digits.proofs.is_digit.Statement.{statement}
+use Rattle.digits.proofs.is_digit.Tie as tie
 
 returns : tie.Need-returns
 returns c = search digit-low

@@ -4,10 +4,10 @@ use mathlib.Core.Path.{_≡_, refl}
 use lib.ListN.{length}
 use native.Mathlib.Omega.{arith}
 use Rattle.part.proofs.Laws.{first-none}
-use Rattle.scan.proofs.Laws.{digit-end, digit-more}
-use Rattle.scan.specs.Number.{digitRun}
-use Rattle.scan.proofs.digit_run.Statement.{statement}
-use Rattle.scan.proofs.digit_run.Tie as tie
+use Rattle.digits.proofs.Laws.{digit-end, digit-more}
+use Rattle.digits.specs.Digit.{digitRun}
+use Rattle.digits.proofs.digit_run.Statement.{statement}
+use Rattle.digits.proofs.digit_run.Tie as tie
 
 abbrev Inv-loop : tie.InvT-loop
 Inv-loop s t₀ i₀ t i = (digitRun s ≡ i + digitRun t) × (i + length t ≡ length s)
