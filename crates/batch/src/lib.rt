@@ -19,6 +19,7 @@ pub use beginning::Stage;
 use beginning::answer_header;
 pub use beginning::put_titles;
 use beginning::put_unreadable;
+use drawable::LIST_ROOM;
 use forward::Answer;
 pub use remnant::keep;
 use rows::PAIRS;
@@ -75,6 +76,7 @@ fn draw_row(
     count: usize,
     line: &mut [u8],
     index: &mut [u16],
+    lists: &mut [u64; LIST_ROOM],
 ) -> Answer
     requires { ⌜ Cut (now row) (now starts) cells ⌝ }
     ensures { λ r. ⌜ Called (verdict (cellOf plan 0 (now (row .entry))) (cellOf plan 2 (now (row .entry))) count (take count (snCells plan (now (row .entry))))) swap (cellOf plan 2 (now (row .entry))) (now (line .entry)) (now (index .entry)) (now (line .exit)) (now (index .exit)) r ⌝ }
@@ -85,7 +87,19 @@ fn draw_row(
     let sn2 = sheet::cell_of(plan, row, cells, starts, sheet::SN2);
     let sn3 = sheet::cell_of(plan, row, cells, starts, sheet::SN3);
     let sn4 = sheet::cell_of(plan, row, cells, starts, sheet::SN4);
-    forward::draw(class, swap, tail, count, sn1, sn2, sn3, sn4, line, index)
+    forward::draw_lent(
+        class,
+        swap,
+        tail,
+        count,
+        sn1,
+        sn2,
+        sn3,
+        sn4,
+        line,
+        index,
+        lists,
+    )
 }
 
 // A row that is cut into so many cells: its answer, written at a place of the output, with a table of digits, which may be empty.
@@ -99,6 +113,7 @@ fn answer_cut(
     out: &mut [u8],
     at: usize,
     pairs: &[u16],
+    lists: &mut [u64; LIST_ROOM],
 ) -> Answered
     requires { ⌜ Cut (now row) (now starts) cells × Pairs (now pairs) ⌝ }
     ensures { λ r. ⌜ RowAnswered (requestOf plan (now (row .entry))) (now (line .entry)) (now (index .entry)) (now (out .entry)) at (now (line .exit)) (now (index .exit)) (now (out .exit)) r ⌝ }
@@ -116,6 +131,7 @@ fn answer_cut(
         asked.count,
         line,
         index,
+        lists,
     );
     let next = put_answer(out, at, answer, line, index, pairs);
     Answered {
@@ -138,7 +154,19 @@ pub fn answer_row(
     let mut starts = [0usize; sheet::STARTS];
     let cells = sheet::cut(row, &mut starts);
     let none = [0u16; 1];
-    answer_cut(plan, row, cells, &starts, line, index, out, at, &none[0..0])
+    let mut lists = [0u64; LIST_ROOM];
+    answer_cut(
+        plan,
+        row,
+        cells,
+        &starts,
+        line,
+        index,
+        out,
+        at,
+        &none[0..0],
+        &mut lists,
+    )
 }
 
 // A batch after some lines, how much of their text they are, the place after what was written, and whether no LF is left in the text.
@@ -217,6 +245,7 @@ fn answer_rows(
     requires { ⌜ Pairs (now pairs) ⌝ }
     ensures { λ r. ⌜ LinesAnswered (among plan (now (times .entry))) (now (text .entry)) (now (line .entry)) (now (index .entry)) (now (out .entry)) at limit (now (line .exit)) (now (index .exit)) (now (out .exit)) (passedIn plan (now (times .exit)) r) ⌝ }
 {
+    let mut lists = [0u64; LIST_ROOM];
     let mut t = text;
     let mut p = at;
     while p <= limit {
@@ -241,6 +270,7 @@ fn answer_rows(
             out,
             p,
             pairs,
+            &mut lists,
         );
         count_in(times, answered.number);
         p = answered.next;

@@ -19,7 +19,7 @@ draw-row-requires : tie.Need-draw-row-requires
 draw-row-requires c κs = search needs
 
 put-answer-requires : tie.Need-put-answer-requires
-put-answer-requires c κs = search needs
+put-answer-requires c κs = c .before .before .before .before .before .before .before .before .before .before .before .before .before .before .before .before .before .before .before .before .pre .1
 
 same-length-2 : tie.Need-same-length-2
 same-length-2 c = search needs

@@ -9,10 +9,10 @@ use Rattle.batch.proofs.answer_rows.Statement.{statement}
 use Rattle.batch.proofs.answer_rows.Tie as tie
 
 abbrev Inv-loop : tie.InvT-loop
-Inv-loop plan times₀ text line₀ index₀ out₀ at limit pairs t₀ p₀ times line index out t p = Turned (among plan times₀) text line₀ index₀ out₀ at line index out (among plan times) t p × (length t ≤ length text) × (length out₀ < 2 ^ 64) × (length times ≡ length times₀) × (length line ≡ length line₀) × (length index ≡ length index₀) × (length out ≡ length out₀)
+Inv-loop plan times₀ text line₀ index₀ out₀ at limit pairs lists₀ t₀ p₀ times line index out lists t p = Turned (among plan times₀) text line₀ index₀ out₀ at line index out (among plan times) t p × (length t ≤ length text) × (length out₀ < 2 ^ 64) × (length times ≡ length times₀) × (length line ≡ length line₀) × (length index ≡ length index₀) × (length out ≡ length out₀)
 
 abbrev μ-loop : tie.MeasureT-loop
-μ-loop plan times₀ text line₀ index₀ out₀ at limit pairs t₀ p₀ times line index out t p = length t
+μ-loop plan times₀ text line₀ index₀ out₀ at limit pairs lists₀ t₀ p₀ times line index out lists t p = length t
 
 loop-holds : tie.Need-loop-holds Inv-loop μ-loop
 loop-holds c = (search (turn-start, arith), omega arith, omega arith, refl, refl, refl, refl)
@@ -23,8 +23,8 @@ slice-aggregate-cut-line c = search needs
 cut-line-requires : tie.Need-cut-line-requires Inv-loop μ-loop
 cut-line-requires c κs = search needs
 
-sub-t23 : tie.Need-sub-t23 Inv-loop μ-loop
-sub-t23 c = search needs
+sub-t24 : tie.Need-sub-t24 Inv-loop μ-loop
+sub-t24 c = search needs
 
 same-length : tie.Need-same-length Inv-loop μ-loop
 same-length c = search needs
@@ -77,8 +77,8 @@ loop-less c = search needs
 loop-again : tie.Need-loop-again Inv-loop μ-loop
 loop-again c = (search rows-more, omega arith, search needs, search needs, search needs, search needs, search needs)
 
-sub-t43 : tie.Need-sub-t43 Inv-loop μ-loop
-sub-t43 c = search needs
+sub-t45 : tie.Need-sub-t45 Inv-loop μ-loop
+sub-t45 c = search needs
 
 same-length-5 : tie.Need-same-length-5 Inv-loop μ-loop
 same-length-5 c = search needs
@@ -104,7 +104,7 @@ answer-rows-spec =
     loop-holds
     slice-aggregate-cut-line
     cut-line-requires
-    sub-t23
+    sub-t24
     same-length
     same-length-2
     same-length-3
@@ -122,7 +122,7 @@ answer-rows-spec =
     count-in-requires
     loop-less
     loop-again
-    sub-t43
+    sub-t45
     same-length-5
     same-length-6
     same-length-7

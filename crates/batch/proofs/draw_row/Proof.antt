@@ -21,8 +21,8 @@ cell-of-requires-5 c κs = search needs
 cell-of-requires-6 : tie.Need-cell-of-requires-6
 cell-of-requires-6 c κs = search needs
 
-draw-requires : tie.Need-draw-requires
-draw-requires c κs = search needs
+draw-lent-requires : tie.Need-draw-lent-requires
+draw-lent-requires c κs = search needs
 
 same-length : tie.Need-same-length
 same-length c = search needs
@@ -43,7 +43,7 @@ draw-row-spec =
     cell-of-requires-4
     cell-of-requires-5
     cell-of-requires-6
-    draw-requires
+    draw-lent-requires
     same-length
     same-length-2
     returns)
