@@ -1,5 +1,5 @@
-// The bonds of a chain in an array by carbon, with their marks, and the atoms of the carbons that carry anything. The groups and rings are gone through once;
-// after that each carbon is looked up.
+// The bonds of a chain in an array by carbon, with their marks, and the atoms of the carbons that carry anything. The groups and rings are gone
+// through once; after that each carbon is looked up.
 use drawable::Shape;
 use record::Bridge;
 use record::Geometry;

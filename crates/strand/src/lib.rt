@@ -126,8 +126,8 @@ fn put_laden(
     }
 }
 
-// Carbons 0 to 95, as far as the table of a bare chain goes: the longest chains known in nature, those of the mycolic acids, have about 90, and a
-// table costs time for each of its bytes, since it is filled with noughts first. A longer chain is laid down as one that may carry anything.
+// Carbons 0 to 95, as far as the table of a bare chain goes: nearly every chain is shorter, and a table costs time for each of its bytes, since it
+// is filled with noughts first. A longer chain is laid down as one that may carry anything.
 const SHORT_ROOM: usize = 96;
 
 // Whether a chain is short and carries nothing but double bonds that all have a position and, if it is acyl, the O of its C1.
