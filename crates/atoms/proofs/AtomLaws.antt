@@ -1,4 +1,4 @@
--- Laws of the atom counts: a branch, the groups of a carbon, a carbon, and the atoms of a stretch of carbons.
+-- Laws of the atom counts: the groups of a carbon, a carbon, and the atoms of a stretch of carbons.
 -- Assumes nothing.
 use Prim.Native.Nat.{ℕ, suc, _+_, _-_, _*_, _^_, _≤_, _<_}
 use native.Mathlib.Nat.{zero-add}
@@ -11,7 +11,7 @@ use lib.Dec.{eqb}
 use lib.ListN.{length, getD}
 use borrow.Author.Tests.{eq-eqb, ne-eqb, eqb-true, eqb-false}
 use Rattle.emit.specs.Text.{Written}
-use Rattle.groups.specs.Groups.{entries, entryAt}
+use Rattle.groups.specs.Groups.{entryAt}
 use Rattle.record.specs.declared.Mod.{Mod}
 use Rattle.record.specs.declared.Ring.{Ring as Closed}
 use Rattle.reading.specs.Part.{Part}
@@ -21,15 +21,17 @@ use Rattle.chain.specs.Drawing.{branchPart, branches}
 use Rattle.drawable.proofs.Parts.{floats-few}
 use Rattle.drawable.specs.Drawn.{Drawn, floatsPart, groupsDrawn, ringsDrawn}
 use Rattle.fragment.specs.Text.{sitting, carbonylOf, carbonOf}
-use Rattle.carbons.specs.ByCarbon.{groupOn, ringOn, carbonylOn, busyAt, RowAtoms, groupAtoms, loadAt, Busy}
-use Rattle.atoms.specs.Atoms.{Loaded, Counts, bridgedAt, carbonSize, bareSize, starts, literalOf, indices, LiteralNumbers}
-use Rattle.atoms.specs.Index.{indexFrom}
+use Rattle.carbons.specs.ByCarbon.{groupOn, ringOn, carbonylOn, busyAt, groupAtoms, loadAt, Busy}
+use Rattle.ramps.specs.Index.{indexFrom, indices}
+use Rattle.loads.specs.Counts.{Counts}
+use Rattle.atoms.specs.Atoms.{Loaded, bridgedAt, carbonSize, bareSize, starts, literalOf, LiteralNumbers}
 use Rattle.carbons.specs.Tokens.{ChainTokens, tokens, TokensOf}
 use Rattle.carbons.proofs.TokenLaws.{length-values}
 use Rattle.fragment.proofs.RangeLaws.{or-left, or-right, no-groups, no-carbonyl}
 use Rattle.carbons.proofs.Loads.{not-busy}
 use Rattle.carbons.proofs.Left.{Left, left-all, left-less, left-none, left-length}
 use Rattle.fragment.proofs.TextLaws.{branch-size, sitting-past}
+use Rattle.loads.proofs.Laws.{carbonyl-one, carbonyl-zero, carbonyl-not}
 
 -- ---- counts that start elsewhere
 
@@ -70,9 +72,6 @@ parts-end-append n (p ∷ ps) qs = parts-end-append (n + p .size) ps qs
 
 -- ---- the groups of a carbon
 
-pub branch-counted : (row n m : ℕ) → RowAtoms row m → n ≡ m → Counts 5 (branchPart row .size) n
-branch-counted row n m r e = record { is = e ∙ (r .is ∙ sym (branch-size row)); few = omega (arith, r .few) }
-
 sitting-first : (k : ℕ) (g : Mod) (gs : List Mod) → g .pos ≡ k → sitting k (g ∷ gs) ≡ g ∷ sitting k gs
 unfolding sitting only
 sitting-first k g gs e = rw (eq-eqb (g .pos) k e)
@@ -94,25 +93,6 @@ groups-counted k (g ∷ gs) = go (eqb (g .pos) k) refl (groups-counted k gs)
     go false e h = rw (sitting-past k g gs (eqb-false (g .pos) k e)) (h ∙ sym (zero-add (groupAtoms gs k)))
 
 -- ---- a carbon
-
-keto-atoms : entryAt 12 .atoms ≡ 1
-unfolding entryAt entries
-keto-atoms = refl
-
-module _ (acyl : Bool) (k : ℕ) where
-  pub carbonyl-one : acyl ≡ true → k ≡ 1 → Counts 1 (partsEnd 0 (carbonylOf acyl k)) 1
-  unfolding carbonylOf partsEnd
-  carbonyl-one e f =
-      let z : branchPart 12 .size ≡ 1 = branch-size 12 ∙ keto-atoms in
-      record { is = rw (e, eq-eqb k 1 f, z); few = omega arith }
-
-  pub carbonyl-zero : acyl ≡ true → (k ≡ 1 → ⊥) → Counts 1 (partsEnd 0 (carbonylOf acyl k)) 0
-  unfolding carbonylOf partsEnd
-  carbonyl-zero e f = record { is = rw (e, ne-eqb k 1 f); few = omega arith }
-
-  pub carbonyl-not : acyl ≡ false → Counts 1 (partsEnd 0 (carbonylOf acyl k)) 0
-  unfolding carbonylOf partsEnd
-  carbonyl-not e = record { is = rw e; few = omega arith }
 
 pub bridge-one : (b : ℕ) → b ≡ 79 → Counts 1 (bridgeEnd (bridgedAt b) 0) 1
 unfolding bridgeEnd

@@ -107,6 +107,6 @@ no-bridge {acyl} {gs} {rs} k b u h g l z e =
     ring-bridge k b h g (ring-free acyl gs rs k (not-busy k u l z)) e
 
 -- no ring at all
-pub bare-bridge : {bs : List DbPos} {c : ℕ} {ks : List ℕ} (k : ℕ) → BondsBy bs [] c ks → c ≤ 255 → k ≤ c → getD ks k 0 ≡ 79 → ⊥
+pub ringless-bridge : {bs : List DbPos} {c : ℕ} {ks : List ℕ} (k : ℕ) → BondsBy bs [] c ks → c ≤ 255 → k ≤ c → getD ks k 0 ≡ 79 → ⊥
 unfolding ringOn anyOf
-bare-bridge k b h g e = ring-bridge k b h g refl e
+ringless-bridge k b h g e = ring-bridge k b h g refl e

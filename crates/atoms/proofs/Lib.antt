@@ -1,8 +1,6 @@
-pub mod IndexLaws
 pub mod Runs
 pub mod AtomLaws
 pub mod NumberLaws
 pub mod Bridges
 pub mod Within
-pub mod Bare
-pub mod SumLaws
+pub mod Readable

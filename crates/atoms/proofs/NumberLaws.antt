@@ -23,8 +23,9 @@ use Rattle.drawable.specs.Drawn.{Drawn, groupsIn, floatsPart, drawnOf, Length, 
 use Rattle.atoms.specs.declared.Numbers.{Numbers}
 use Rattle.carbons.specs.Tokens.{ChainTokens, TokensOf}
 use Rattle.fragment.specs.Segment.{Readable}
-use Rattle.atoms.specs.Atoms.{Counts, starts, tailCount, literalOf, indices, ups, Numbered, LiteralNumbers, TailNumbers, AtomsAre, AtomsOf}
-use Rattle.atoms.specs.Index.{indexFrom}
+use Rattle.ramps.specs.Index.{indexFrom, indices, ups}
+use Rattle.loads.specs.Counts.{Counts}
+use Rattle.atoms.specs.Atoms.{starts, tailCount, literalOf, Numbered, LiteralNumbers, TailNumbers, AtomsAre, AtomsOf}
 use Rattle.carbons.proofs.Fronts.{next-of, none-left}
 use Rattle.atoms.proofs.AtomLaws.{carbon-shift, chain-shift, float-shift}
 use Rattle.atoms.proofs.Runs.{Bares, bares-starts, bares-end, starts-append, end-append}
@@ -236,3 +237,17 @@ pub chain-numbered : {first : ℕ} {xs ys zs : List ℕ} {at : ℕ} (x : Shape) 
     → Counts (a .next + 108) (floatEnd (a .next) (branches (groupsIn (x .«float_count») (floatsPart part)))) e
     → AtomsOf first (drawnOf x part) xs at zs (record { at = a .at; count = a .count; flexible = l .next; floats = a .next; end = e })
 chain-numbered x part t l a e g k u v c = all-numbered (drawnOf x part) t l a e g k u v c
+
+-- ---- a chain of literal carbons alone
+
+no-floats : (x : Drawn) (n : ℕ) → floatsDrawn x ≡ [] → Counts (n + 108) (floatEnd n (branches (floatsDrawn x))) n
+unfolding branches floatEnd
+no-floats x n e = record { is = rw e; few = omega arith }
+
+pub literal-alone : {first : ℕ} {xs ys : List ℕ} {at : ℕ} (x : Drawn) (t : ChainTokens) (p count next : ℕ) → length xs < 2 ^ 64 → p < 2 ^ 64 → TokensOf x t → x .unlocated ≡ 0
+    → floatsDrawn x ≡ [] → Written xs at (indices first (starts 0 (literalOf x t))) ys p → count ≡ length (literalOf x t) → next ≡ chainEnd 0 (literalOf x t) → count ≤ 255
+    → next ≤ 93 * count → AtomsOf first x xs at ys (record { at = p; count = count; flexible = next; floats = next; end = next })
+literal-alone {first} {xs} {ys} {at} x t p count next g o k u f w m n room few =
+    let l : Numbers = record { at = p; count = count; next = next } in
+    let v : LiteralNumbers first x t xs at ys l = record { numbered = record { written = w; count = m; next = n }; room = room; few = few } in
+    all-numbered x t l l next g k v (tail-empty first (x .unlocated) ys l u o room) (no-floats x next f)

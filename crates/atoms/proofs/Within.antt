@@ -20,9 +20,11 @@ use Rattle.carbons.specs.Tokens.{ChainTokens, TokensOf}
 use Rattle.carbons.proofs.Left.{left-less}
 use Rattle.carbons.proofs.TokenLaws.{length-values}
 use Rattle.carbons.proofs.Loads.{not-busy}
-use Rattle.atoms.specs.Atoms.{Counts, carbonSize, starts, literalOf, indices, ups, IdleFour, LiteralNumbers}
-use Rattle.atoms.specs.Index.{indexFrom}
-use Rattle.atoms.proofs.Runs.{Bares, bares-starts, bares-end, starts-append, end-append, indices-small, one-written}
+use Rattle.ramps.specs.Index.{indexFrom, indices, ups}
+use Rattle.loads.specs.Counts.{Counts}
+use Rattle.atoms.specs.Atoms.{carbonSize, starts, literalOf, IdleFour, LiteralNumbers}
+use Rattle.ramps.proofs.Runs.{indices-small, one-written}
+use Rattle.atoms.proofs.Runs.{Bares, bares-starts, bares-end, starts-append, end-append}
 use Rattle.atoms.proofs.Bridges.{no-bridge}
 use Rattle.atoms.proofs.AtomLaws.{Numbering, numbering-none, number-busy, number-bare, numbers-literal, numbers-size, empty-parts, bare-counted, bridge-zero}
 
@@ -40,7 +42,7 @@ four-idle us k last n h e z = record { within = h; idle = λ j f g. go j (j - k)
 
 -- ---- a run of carbons of one atom each
 
-values-append : {A : Type 0} (f : ℕ → A) (k n m : ℕ) → valuesFrom f k (n + m) ≡ valuesFrom f k n ++ valuesFrom f (k + n) m
+pub values-append : {A : Type 0} (f : ℕ → A) (k n m : ℕ) → valuesFrom f k (n + m) ≡ valuesFrom f k n ++ valuesFrom f (k + n) m
 unfolding valuesFrom
 values-append f k zero m = rw (zero-add m, add-zero k)
 values-append f k (suc n) m = rw (suc-add n m, add-suc k n, ← suc-add k n) (ap (λ (l : List _). f k ∷ l) (values-append f (suc k) n m))

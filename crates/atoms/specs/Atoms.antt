@@ -1,8 +1,8 @@
 -- The atoms of a chain, counted from its first. Assumes nothing.
-use Prim.Native.Nat.{ℕ, zero, suc, _+_, _-_, _*_, _≤_, _<_, min}
+use Prim.Native.Nat.{ℕ, suc, _+_, _-_, _*_, _≤_, _<_, min}
 use mathlib.Core.Path.{_≡_}
 use mathlib.Core.Bool.{Bool, cond}
-use mathlib.Core.List.{List, [], _∷_, _++_, map}
+use mathlib.Core.List.{List, [], _∷_, _++_}
 use lib.Dec.{eqb}
 use lib.ListN.{length, getD}
 use Rattle.emit.specs.Text.{Written}
@@ -18,16 +18,11 @@ use Rattle.chain.specs.Drawing as draw
 use Rattle.drawable.specs.Drawn.{Drawn, groupsDrawn, ringsDrawn, Draws}
 use Rattle.carbons.specs.ByCarbon.{loadAt}
 use Rattle.carbons.specs.Tokens.{ChainTokens}
+use Rattle.ramps.specs.Index.{firstRoom, indices, ups}
 use Rattle.atoms.specs.declared.Numbers.{Numbers}
 use Rattle.atoms.specs.declared.ChainAtoms.{ChainAtoms}
-use Rattle.atoms.specs.Index.{firstRoom, indexFrom}
 use Rattle.fragment.specs.Text.{sitting, carbonylOf, carbonOf}
 use Rattle.fragment.specs.Segment.{Readable}
-
--- n is m, and at most a limit
-pub record Counts (limit m n : ℕ) : Type 0 where
-  pub is : n ≡ m
-  pub few : n ≤ limit
 
 abbrev pub bridgedAt : ℕ → Bool
 bridgedAt b = eqb b bridged
@@ -53,10 +48,6 @@ starts n (c ∷ cs) = n ∷ starts (carbonEnd n c) cs
 -- the literal carbons, by the arrays
 unfoldable pub literalOf : Drawn → ChainTokens → List Carbon
 literalOf x t = valuesFrom (carbonOf (x .acyl) (t .bonds) (groupsDrawn x)) (t .first) (suc (t .last) - t .first)
-
--- the indices of a chain's atoms, where its first atom is n
-abbrev pub indices : ℕ → List ℕ → List ℕ
-indices n l = map (indexFrom n) l
 
 -- some carbons, the first of them the first atom of a chain, are numbered: their indices are written at a place
 pub record Numbered (first : ℕ) (cs : List Carbon) (xs : List ℕ) (at : ℕ) (ys : List ℕ) (n : Numbers) : Type 0 where
@@ -85,11 +76,6 @@ pub record IdleFour (busy : List ℕ) (k last : ℕ) : Type 0 where
 -- the carbons of the flexible tail
 unfoldable pub tailCount : ℕ → ℕ
 tailCount n = cond (eqb n 0) 0 (2 * n + 2)
-
--- m numbers that follow one another, from n on
-unfoldable pub ups : ℕ → ℕ → List ℕ
-ups n zero = []
-ups n (suc m) = n ∷ ups (suc n) m
 
 -- the flexible tail of u double bonds is numbered after some carbons, as far as there is room for 256
 pub record TailNumbers (first u : ℕ) (xs : List ℕ) (n : Numbers) (ys : List ℕ) (r : Numbers) : Type 0 where

@@ -1,3 +1,1 @@
-pub mod Index
 pub mod Atoms
-pub mod Sum

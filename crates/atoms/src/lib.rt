@@ -5,45 +5,16 @@ use drawable::Shape;
 use record::MAX_CARBONS;
 ghost use mathlib.Core.Path.{_≡_};
 ghost use mathlib.Core.Bool.{true};
-ghost use mathlib.Core.List.{[], _∷_};
 ghost use Prim.Native.Nat.{_+_, _*_, _≤_, _<_, min};
 ghost use lib.ListN.{length};
 ghost use Rattle.emit.specs.Text.{Written};
-ghost use Rattle.reading.specs.Chain.{partsEnd, bridgeEnd, floatEnd};
-ghost use Rattle.chain.specs.Drawing.{branchPart, branches};
-ghost use Rattle.drawable.specs.Drawn.{groupsIn, floatsPart, drawnOf, bondsDrawn, groupsDrawn, ringsDrawn, Says};
-ghost use Rattle.fragment.specs.Text.{carbonylOf};
-ghost use Rattle.carbons.specs.ByCarbon.{BondsBy};
-ghost use Rattle.carbons.specs.Tokens.{tokens, TokensOf, Bare};
-ghost use Rattle.atoms.specs.Atoms.{Counts, carbonSize, bareSize, bridgedAt, tailCount, Loaded, Roomy, IdleFour, indices, ups, LiteralNumbers, TailNumbers, AtomsOf};
-ghost use Rattle.atoms.specs.Index.{inRoom, indexFrom};
-ghost use Rattle.atoms.specs.Sum.{sumOf};
-
-fn wide(n: u8) -> u16
-    ensures { λ r. ⌜ r ≡ n ⌝ }
-{
-    n as u16
-}
-
-// The atoms of a group's branch.
-pub fn branch_atoms(row: u8) -> u16
-    ensures { λ r. ⌜ Counts 5 (branchPart row .size) r ⌝ }
-{
-    wide(carbons::row_atoms(row))
-}
-
-// The doubly bonded O of an acyl C1.
-fn carbonyl_atoms(acyl: bool, k: u16) -> u16
-    ensures { λ r. ⌜ Counts 1 (partsEnd 0 (carbonylOf acyl k)) r ⌝ }
-{
-    if acyl {
-        if k == 1 {
-            return 1;
-        }
-        return 0;
-    }
-    0
-}
+ghost use Rattle.reading.specs.Chain.{bridgeEnd, floatEnd};
+ghost use Rattle.chain.specs.Drawing.{branches};
+ghost use Rattle.drawable.specs.Drawn.{groupsIn, floatsPart, drawnOf, groupsDrawn};
+ghost use Rattle.carbons.specs.Tokens.{tokens, TokensOf};
+ghost use Rattle.ramps.specs.Index.{ups};
+ghost use Rattle.loads.specs.Counts.{Counts};
+ghost use Rattle.atoms.specs.Atoms.{carbonSize, bareSize, bridgedAt, tailCount, Loaded, Roomy, IdleFour, LiteralNumbers, TailNumbers, AtomsOf};
 
 // The O of a bridge.
 fn bridge_atoms(bond: u8) -> u16
@@ -67,30 +38,7 @@ fn busy_atoms(x: Shape, part: &[u64], k: u16, load: u8, bond: u8) -> u16
     requires { ⌜ Loaded (drawnOf x (now part)) k load ⌝ }
     ensures { λ r. ⌜ Counts 93 (carbonSize (x .acyl) (groupsDrawn (drawnOf x (now (part .entry)))) bond k) r ⌝ }
 {
-    wide(load) + bridge_atoms(bond)
-}
-
-// Counts below this leave room for those of a chain.
-const COUNT_ROOM: u32 = 4294000000;
-
-pub fn in_room(n: u32) -> u32
-    ensures { λ r. ⌜ r ≡ inRoom n ⌝ }
-{
-    if n < COUNT_ROOM {
-        return n;
-    }
-    COUNT_ROOM
-}
-
-// The index of the atom i of a chain whose first atom is given; an index stays at the largest number.
-fn to_index(first: u32, i: u16) -> u16
-    ensures { λ r. ⌜ r ≡ indexFrom first i ⌝ }
-{
-    let n = in_room(first) + i as u32;
-    if n < 65535 {
-        return n as u16;
-    }
-    65535
+    load as u16 + bridge_atoms(bond)
 }
 
 // The carbons so far: the place after their indices, how many they are, and the next atom.
@@ -99,9 +47,6 @@ struct Numbers {
     count: usize,
     next: u16,
 }
-
-// First atoms below this leave room for the indices of a chain.
-const FIRST_ROOM: u32 = 40000;
 
 // Whether there is room from a place on for the indices of the chain's carbons, none of them can be too large, and the last literal carbon is
 // one of the chain's: then they are stored without a look at the end of the slice or at the largest number.
@@ -115,7 +60,7 @@ fn has_room(room: usize, at: usize, first: u32, carbon: u16, last: u16) -> bool
     if room - n < at {
         return false;
     }
-    if first >= FIRST_ROOM {
+    if first >= ramps::FIRST_ROOM {
         return false;
     }
     if carbon > MAX_CARBONS {
@@ -220,7 +165,7 @@ fn number_each<'a>(
     while k <= last {
         let i = k as usize;
         let bond = bonds[i];
-        p = emit::put_index(index, p, to_index(first, next));
+        p = emit::put_index(index, p, ramps::to_index(first, next));
         count += 1;
         if busy[i] == 0 {
             next += bare_atoms(bond);
@@ -269,62 +214,6 @@ fn tail_end(count: usize, n: u16) -> usize
     CARBON_ROOM
 }
 
-// A number, where there is room for it.
-fn put_one(index: &mut [u16], at: usize, n: u16) -> usize
-    requires { ⌜ at + 1 ≤ length (now index) ⌝ }
-    ensures { λ r. ⌜ Written (now (index .entry)) at (n ∷ []) (now (index .exit)) r ⌝ }
-{
-    index[at] = n;
-    at + 1
-}
-
-// Numbers that follow one another, where there is room for all of them.
-fn fill(index: &mut [u16], at: usize, low: u16, n: usize) -> usize
-    requires { ⌜ (at + n ≤ length (now index)) × (low + n < 65536) ⌝ }
-    ensures { λ r. ⌜ Written (now (index .entry)) at (ups low n) (now (index .exit)) r ⌝ }
-{
-    let end = at + n;
-    let mut p = at;
-    let mut i = low;
-    while p < end {
-        index[p] = i;
-        i += 1;
-        p += 1;
-    }
-    end
-}
-
-// The indices of n atoms that follow one another, one by one, where some may fall past the end or be too large.
-fn put_each(index: &mut [u16], at: usize, first: u32, next: u16, n: usize) -> usize
-    requires { ⌜ next + n < 65536 ⌝ }
-    ensures { λ r. ⌜ Written (now (index .entry)) at (indices first (ups next n)) (now (index .exit)) r ⌝ }
-{
-    let mut p = at;
-    let mut i = 0;
-    while i < n {
-        p = emit::put_index(index, p, to_index(first, next + i as u16));
-        i += 1;
-    }
-    p
-}
-
-// The indices of n atoms that follow one another.
-fn put_ramp(index: &mut [u16], at: usize, first: u32, next: u16, n: usize) -> usize
-    requires { ⌜ next + n ≤ 23971 ⌝ }
-    ensures { λ r. ⌜ Written (now (index .entry)) at (indices first (ups next n)) (now (index .exit)) r ⌝ }
-{
-    if first >= FIRST_ROOM {
-        return put_each(index, at, first, next, n);
-    }
-    if at >= index.len() {
-        return put_each(index, at, first, next, n);
-    }
-    if n > index.len() - at {
-        return put_each(index, at, first, next, n);
-    }
-    fill(index, at, first as u16 + next, n)
-}
-
 // The carbons of the flexible tail: each is one atom.
 fn number_tail(index: &mut [u16], first: u32, numbers: Numbers, n: u16) -> Numbers
     requires { ⌜ (numbers .count ≤ 255) × (numbers .next ≤ 23715) ⌝ }
@@ -335,7 +224,7 @@ fn number_tail(index: &mut [u16], first: u32, numbers: Numbers, n: u16) -> Numbe
     }
     let end = tail_end(numbers.count, n);
     let m = end - numbers.count;
-    let at = put_ramp(index, numbers.at, first, numbers.next, m);
+    let at = ramps::put_ramp(index, numbers.at, first, numbers.next, m);
     Numbers {
         at,
         count: end,
@@ -353,7 +242,7 @@ fn float_end(floats: &[u64], count: usize, first: u16) -> u16
     let mut i = 0;
     while i < n {
         let g = drawable::nth_group(floats, count, i);
-        end += 1 + branch_atoms(g.row);
+        end += 1 + loads::branch_atoms(g.row);
         i += 1;
     }
     end
@@ -407,46 +296,4 @@ pub fn number_chain<'a>(
         floats: next,
         end,
     }
-}
-
-// The same of a chain that carries nothing but, if it is acyl, the O of its C1, where there is room for its indices and none can be too large:
-// they follow one another from its second carbon on.
-pub fn number_bare<'a>(
-    index: &mut [u16],
-    at: usize,
-    first: u32,
-    x: Shape,
-    part: &'a [u64],
-    bonds: &'a [u8],
-) -> ChainAtoms
-    requires { ⌜ Bare (drawnOf x (now part)) ⌝ }
-    requires { ⌜ BondsBy (bondsDrawn (drawnOf x (now part))) (ringsDrawn (drawnOf x (now part))) (x .carbon) (now bonds) ⌝ }
-    requires { ⌜ (at + x .carbon ≤ length (now index)) × (first < 40000) ⌝ }
-    ensures { λ r. ⌜ AtomsOf first (drawnOf x (now (part .entry))) (now (index .entry)) at (now (index .exit)) r ⌝ }
-{
-    let lead = carbonyl_atoms(x.acyl, x.first);
-    let low = first as u16;
-    let rest = x.carbon - x.first;
-    let p = put_one(index, at, low);
-    let end = fill(index, p, low + 1 + lead, rest as usize);
-    let next = rest + 1 + lead;
-    ChainAtoms {
-        at: end,
-        count: rest + 1,
-        flexible: next,
-        floats: next,
-        end: next,
-    }
-}
-
-// What the variables of a chain add up to.
-pub fn sum(x: Shape, part: &[u64]) -> u16
-    ensures { λ r. ⌜ Says (drawnOf x (now (part .entry))) r sumOf ⌝ }
-{
-    let n = x.unlocated;
-    let remaining = reach::remaining(x, part);
-    if remaining <= n {
-        return 0;
-    }
-    remaining - n - 1
 }

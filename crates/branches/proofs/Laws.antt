@@ -6,13 +6,14 @@ use native.Mathlib.Omega.{arith}
 use mathlib.Core.Path.{_≡_, refl, sym, ap, _∙_}
 use mathlib.Core.Bool.{Bool, true, false, cond}
 use mathlib.Core.List.{List, [], _∷_, _++_, append-nil, map}
-use lib.ListN.{length, take, drop, getD, set, List·getD-map}
-use lib.Dec.{eqb}
-use borrow.Author.Tests.{eq-eqb, ne-eqb}
+use lib.ListN.{length, take, drop, getD, set, length-append, List·getD-map}
+use lib.Dec.{eqb, leb}
+use borrow.Author.Tests.{eq-eqb, ne-eqb, leb-true, leb-false}
 use Rattle.emit.specs.Text.{Written}
 use Rattle.emit.proofs.Laws.{written-nil, written-length}
 use Rattle.groups.specs.declared.Row.{Row}
 use Rattle.groups.specs.Groups.{Entry, entries, blank, entryAt, entryOf, RowIs}
+use Rattle.groups.proofs.Laws.{every, every-at}
 use Rattle.record.specs.declared.Mod.{Mod}
 use Rattle.reading.specs.Ascii.{ascii}
 use Rattle.reading.specs.Piece.{Piece, atom, dot, lpar, rpar, show}
@@ -25,6 +26,7 @@ use Rattle.branches.specs.Text.{branchText, groupText, sitting, groupsTe
 use Rattle.drawable.specs.declared.Shape.{Shape}
 use Rattle.drawable.specs.Drawn.{groupsIn, Length, noGroup, floatsPart, drawnOf}
 use Rattle.carbons.proofs.Fronts.{next-of, none-left}
+use Rattle.carbons.proofs.Loads.{past}
 use Rattle.carbons.proofs.Left.{Left, left-less, left-same, left-none, written-three}
 
 -- ---- the branches of the table, by one computed test over all of it
@@ -105,7 +107,7 @@ module _ {xs ys zs ws : List ℕ} {at p q r : ℕ} (row : ℕ) (h : length xs < 
   pub float-written : Written xs at (46 ∷ []) ys p → Written ys p (42 ∷ []) zs q → Written zs q (branchText row) ws r → Written xs at (floatText row) ws r
   float-written u v w = rw (float-joined row) (written-three h u v w)
 
-sitting-here : (k : ℕ) (g : Mod) (gs : List Mod) → g .pos ≡ k → groupsText (sitting k (g ∷ gs)) ≡ groupText (g .row) ++ groupsText (sitting k gs)
+pub sitting-here : (k : ℕ) (g : Mod) (gs : List Mod) → g .pos ≡ k → groupsText (sitting k (g ∷ gs)) ≡ groupText (g .row) ++ groupsText (sitting k gs)
 unfolding groupsText groupText sitting only branches
 sitting-here k g gs e = rw (eq-eqb (g .pos) k e) (parts-cons (branchPart (g .row)) (branches (sitting k gs)))
 
@@ -113,7 +115,7 @@ pub sitting-past : (k : ℕ) (g : Mod) (gs : List Mod) → (g .pos ≡ k → ⊥
 unfolding sitting only
 sitting-past k g gs e = rw (ne-eqb (g .pos) k e)
 
-sitting-none : (k : ℕ) → groupsText (sitting k []) ≡ []
+pub sitting-none : (k : ℕ) → groupsText (sitting k []) ≡ []
 unfolding groupsText sitting only branches partPieces show
 sitting-none k = refl
 
@@ -226,3 +228,23 @@ carbonyl-length true k = go (eqb k 1)
     go : (b : Bool) → length (show (partPieces (cond b (branchPart 12 ∷ []) []))) ≤ 4
     go false = omega arith
     go true = keto-length
+
+-- ---- a branch has at most twelve bytes, by one computed test over the table
+
+abbrev short : Entry → Bool
+short e = leb (length (e .branch)) 12
+
+table-short : every short entries ≡ true
+unfolding entries
+table-short = refl
+
+branch-short : (row : ℕ) → length (branchText row) ≤ 12
+unfolding entryAt
+branch-short row = rw (branch-text row) (go (leb (suc row) (length entries)) refl)
+  where
+    go : (b : Bool) → leb (suc row) (length entries) ≡ b → length (getD entries row blank .branch) ≤ 12
+    go true e = leb-true (length (getD entries row blank .branch)) 12 (every-at short entries row blank table-short (leb-true (suc row) (length entries) e))
+    go false e = rw (past blank entries row (omega (arith, leb-false (suc row) (length entries) e))) (omega arith)
+
+pub group-length : (row : ℕ) → length (groupText row) ≤ 14
+group-length row = rw (group-joined row) (omega (arith, branch-short row, length-append (branchText row) (41 ∷ [])))

@@ -35,7 +35,7 @@ fn put_branch(out: &mut [u8], at: usize, row: u8) -> usize
 }
 
 // A group on its carbon: `(branch)`.
-fn put_group(out: &mut [u8], at: usize, row: u8) -> usize
+pub fn put_group(out: &mut [u8], at: usize, row: u8) -> usize
     ensures { λ r. ⌜ Written (now (out .entry)) at (groupText row) (now (out .exit)) r ⌝ }
 {
     let p = emit::put_byte(out, at, b'(');

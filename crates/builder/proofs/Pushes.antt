@@ -36,8 +36,9 @@ use Rattle.placed.specs.Notes.{chainsIn}
 use Rattle.placed.proofs.Laws.{index-count}
 use Rattle.placed.proofs.Notes.{length-chains}
 use Rattle.strand.specs.declared.Strand.{Strand}
-use Rattle.strand.specs.declared.Figures.{Figures}
-use Rattle.strand.specs.Strand.{indexesOf, StrandOf, FiguresOf}
+use Rattle.totals.specs.declared.Figures.{Figures}
+use Rattle.totals.specs.Totals.{FiguresOf}
+use Rattle.strand.specs.Strand.{indexesOf, StrandOf}
 use Rattle.builder.specs.Build.{Rooms, rooms, laidIn, plus, inLabels, variablesFor, placedIn, Counts, Fits, FixedPushed, placedOf, Settled, FitsChain, PushingChain, FragmentPushed, ChainPushed, FitsElement, Pushed, SlotPushed, BarePushed}
 
 -- ---- counts

@@ -21,7 +21,7 @@ use Rattle.placed.specs.declared.Placed.{Placed}
 use Rattle.placed.specs.Notes.{chainsIn}
 use Rattle.placed.specs.Fragment.{Carries, Stands, siteOr, noted, indexList, rowsOf, gathered}
 use Rattle.strand.specs.declared.Strand.{Strand}
-use Rattle.strand.specs.declared.Figures.{Figures}
+use Rattle.totals.specs.declared.Figures.{Figures}
 use Rattle.strand.specs.Strand as strand
 use Rattle.builder.specs.declared.Builder.{Builder}
 

@@ -8,8 +8,8 @@ use listing::Sites;
 use placed::MAX_CHAINS;
 use placed::NOTE_ROOM;
 use placed::Placed;
-use strand::Figures;
 use strand::Strand;
+use totals::Figures;
 ghost use mathlib.Core.Path.{_≡_};
 ghost use Rattle.drawable.specs.Drawn.{drawnOf};
 ghost use Rattle.builder.specs.Build.{rooms, plus, inLabels, variablesFor, Fresh, FixedPushed, FragmentPushed, placedOf, Settled, ChainPushed, SlotPushed, BarePushed};
@@ -219,7 +219,7 @@ impl Builder {
             a.0,
             label,
         );
-        let own = strand::figures_of(x, part);
+        let own = totals::figures_of(x, part);
         self = self.settle(notes, sn, role, site, laid, own);
         self
     }

@@ -220,7 +220,7 @@ length-close : (c : ℕ) (t : Bool) (p : ℕ) (ks : List ℕ) → length (closeM
 unfolding closeMark
 length-close c t p ks = length-if (ltb (suc p) c && eqb (getD ks (suc p) 0) 0) ks (suc p) (closeByte t (opensDown p ks))
 
-length-mark : (c : ℕ) (g : Geometry) (p : ℕ) (ks : List ℕ) → length (markBond c g p ks) ≡ length ks
+pub length-mark : (c : ℕ) (g : Geometry) (p : ℕ) (ks : List ℕ) → length (markBond c g p ks) ≡ length ks
 unfolding markBond
 length-mark c Unstated p ks = refl
 length-mark c Cis p ks = length-close c false p (openMark p ks) ∙ length-open p ks
@@ -290,7 +290,7 @@ rises-so t bs e f = sym e ∙ f
 
 -- what rising says of the first bond of a list, and of the others
 module _ (m : ℕ) (b : DbPos) (bs : List DbPos) where
-  rises-past : risesFrom m (b ∷ bs) ≡ true → m < b .pos
+  pub rises-past : risesFrom m (b ∷ bs) ≡ true → m < b .pos
   unfolding risesFrom
   rises-past e = go (ltb m (b .pos)) refl e
     where
@@ -298,7 +298,7 @@ module _ (m : ℕ) (b : DbPos) (bs : List DbPos) where
       go true f g = ltb-true m (b .pos) f
       go false f g = let z : _≡_ {A = ℕ} 0 1 = cc in absurd (omega arith)
 
-  rises-rest : risesFrom m (b ∷ bs) ≡ true → risesFrom (b .pos) bs ≡ true
+  pub rises-rest : risesFrom m (b ∷ bs) ≡ true → risesFrom (b .pos) bs ≡ true
   unfolding risesFrom
   rises-rest e = go (ltb m (b .pos)) e
     where
@@ -307,7 +307,7 @@ module _ (m : ℕ) (b : DbPos) (bs : List DbPos) where
       go false g = let z : _≡_ {A = ℕ} 0 1 = cc in absurd (omega arith)
 
 -- from further back they rise as well
-rises-back : (m k : ℕ) (bs : List DbPos) → k ≤ m → risesFrom m bs ≡ true → risesFrom k bs ≡ true
+pub rises-back : (m k : ℕ) (bs : List DbPos) → k ≤ m → risesFrom m bs ≡ true → risesFrom k bs ≡ true
 unfolding risesFrom
 rises-back m k [] h e = refl
 rises-back m k (b ∷ bs) h e =
@@ -323,7 +323,7 @@ unstated-before m k (b ∷ bs) h e =
     let p = rises-past m b bs e in
     rw (ne-eqb (b .pos) k (λ f. omega arith)) (unstated-before (b .pos) k bs (omega arith) (rises-rest m b bs e))
 
-marks-before : (c m p n : ℕ) (bs : List DbPos) (ks : List ℕ) → p + n ≤ suc m → risesFrom m bs ≡ true → markFrom c bs p n ks ≡ ks
+pub marks-before : (c m p n : ℕ) (bs : List DbPos) (ks : List ℕ) → p + n ≤ suc m → risesFrom m bs ≡ true → markFrom c bs p n ks ≡ ks
 unfolding markFrom
 marks-before c m p zero bs ks h e = refl
 marks-before c m p (suc n) bs ks h e = rw (unstated-before m p bs (omega arith) e) (marks-before c m (suc p) n bs ks (omega arith) e)
@@ -336,7 +336,7 @@ marks-after c p (suc n) b bs ks h =
     rw (ne-eqb (b .pos) p (λ f. omega arith)) (marks-after c (suc p) n b bs (markBond c (geometryAt p bs) p ks) (omega arith))
 
 -- the marks of the first of them may be made before all others
-marks-first : (c p n : ℕ) (b : DbPos) (bs : List DbPos) (ks : List ℕ) → risesFrom (b .pos) bs ≡ true → p ≤ b .pos → b .pos < p + n
+pub marks-first : (c p n : ℕ) (b : DbPos) (bs : List DbPos) (ks : List ℕ) → risesFrom (b .pos) bs ≡ true → p ≤ b .pos → b .pos < p + n
     → markFrom c (b ∷ bs) p n ks ≡ markFrom c bs p n (markBond c (b .geom) (b .pos) ks)
 unfolding markFrom
 marks-first c p zero b bs ks e h m = absurd (omega arith)

@@ -22,8 +22,8 @@ use Rattle.drawable.specs.declared.Shape.{Shape}
 use Rattle.drawable.specs.Drawn.{Drawn, bondsIn, groupsIn, ringsIn, bondsPart, groupsPart, ringsPart, drawnOf, bondsDrawn, groupsDrawn, ringsDrawn, SaysUpTo}
 use Rattle.drawable.proofs.Parts.{groups-few}
 use Rattle.reach.proofs.Ends.{literal-whole}
-use Rattle.carbons.specs.Tokens.{tokens, TokensOf, Bare}
-use Rattle.carbons.specs.ByCarbon.{doubleAt, bridgeAt, ringOn, carbonylOn, loadAt, Noughts, SetWhere, Added, PlainBonds, BondsBy, Busy}
+use Rattle.carbons.specs.Tokens.{tokens, TokensOf, Grouped}
+use Rattle.carbons.specs.ByCarbon.{doubleAt, bridgeAt, ringOn, carbonylOn, loadAt, Noughts, SetWhere, Added, DoublesPut, PlainBonds, BondsBy, Busy}
 use Rattle.carbons.proofs.BondLaws.{where-none, where-one, length-marks}
 use Rattle.carbons.proofs.Loads.{past, groups-held, load-is, load-few}
 
@@ -207,7 +207,7 @@ pub tokens-are : {x : Shape} (l : List ℕ) {ds gs rs bs us : List ℕ} {f e m :
     → m ≡ min e 255 → TokensOf (drawnOf x l) (tokens f m bs us)
 tokens-are l h a b v c w f s m = tokens-say h (rw (a, b) at v) (rw (a, c) at w) f s m
 
--- ---- a bare chain
+-- ---- a chain without rings
 
 -- the atoms of its carbons that carry something
 loadNumber : Drawn → ℕ → ℕ
@@ -227,9 +227,9 @@ busy-list x f =
     at : (k : ℕ) → k < length (busyList x) → getD (busyList x) k 0 ≡ loadAt (x .acyl) (groupsDrawn x) (ringsDrawn x) k
     at k h = rw (zero-add k) at (values-at (loadNumber x) 0 256 k 0 (omega (arith, length-values (loadNumber x) 0 256)))
 
-pub bare-tokens : {x : Drawn} {bs : List ℕ} → Bare x → BondsBy (bondsDrawn x) (ringsDrawn x) (x .carbon) bs → TokensOf x (tokens (x .first) (x .carbon) bs (busyList x))
+pub grouped-tokens : {x : Drawn} {bs : List ℕ} → Grouped x → BondsBy (bondsDrawn x) (ringsDrawn x) (x .carbon) bs → TokensOf x (tokens (x .first) (x .carbon) bs (busyList x))
 unfolding busyList
-bare-tokens {x} e b =
+grouped-tokens {x} e b =
     let room : x .carbon ≤ 255 = e .room in
     record {
       first = omega (arith, e .first);
@@ -238,18 +238,23 @@ bare-tokens {x} e b =
       laden = omega (arith, length-values (loadNumber x) 0 256);
       last = λ h. literal-whole x (e .unlocated) .says;
       bonds = b;
-      busy = busy-list x (rw (e .groups) (omega arith));
+      busy = busy-list x (e .few);
     }
 
-bare-plain : {bs : List DbPos} {zs ks : List ℕ} → Noughts zs → SetWhere (doubleAt bs) 61 zs ks → PlainBonds bs [] ks
+ringless-plain : {bs : List DbPos} {zs ks : List ℕ} → Noughts zs → SetWhere (doubleAt bs) 61 zs ks → PlainBonds bs [] ks
 unfolding bridgeAt anyOf
-bare-plain {zs = zs} e w = bonds-plain e (where-none 79 zs (λ k. refl)) w
+ringless-plain {zs = zs} e w = bonds-plain e (where-none 79 zs (λ k. refl)) w
 
-pub bare-size : {zs ks : List ℕ} {test : ℕ → Bool} {v : ℕ} (c : ℕ) → c < length zs → SetWhere test v zs ks → c < length ks
-bare-size c h w = omega (arith, w .size)
+pub ringless-size : {zs ks : List ℕ} {test : ℕ → Bool} {v : ℕ} (c : ℕ) → c < length zs → SetWhere test v zs ks → c < length ks
+ringless-size c h w = omega (arith, w .size)
 
-pub bare-marked : (x : Shape) (l : List ℕ) {ds zs ks js : List ℕ} → ds ≡ bondsPart l → Noughts zs → x .carbon < length zs → Bare (drawnOf x l) → SetWhere (doubleAt (bondsIn (x .«bond_count») ds)) 61 zs ks
+pub ringless-marked : (x : Shape) (l : List ℕ) {ds zs ks js : List ℕ} → ds ≡ bondsPart l → Noughts zs → x .carbon < length zs → x .carbon ≤ 255 → ringsDrawn (drawnOf x l) ≡ [] → SetWhere (doubleAt (bondsIn (x .«bond_count») ds)) 61 zs ks
     → js ≡ markFrom (x .carbon) (bondsIn (x .«bond_count») ds) 1 (x .carbon) ks → BondsBy (bondsDrawn (drawnOf x l)) (ringsDrawn (drawnOf x l)) (x .carbon) js
-bare-marked x l a z h e w v =
-    let room : x .carbon ≤ 255 = e .room in
-    rw (e .rings) (bonds-marked (x .carbon) (x .carbon) (bare-plain z (rw a at w)) (omega arith) (bare-size (x .carbon) h w) (rw a at v))
+ringless-marked x l a z h room e w v =
+    rw e (bonds-marked (x .carbon) (x .carbon) (ringless-plain z (rw a at w)) (omega arith) (ringless-size (x .carbon) h w) (rw a at v))
+
+pub ringless-put : (x : Shape) (l : List ℕ) {ds zs js : List ℕ} (t : Bool) → ds ≡ bondsPart l → Noughts zs → x .carbon < length zs → x .carbon ≤ 255 → ringsDrawn (drawnOf x l) ≡ []
+    → (t ≡ true → DoublesPut (x .carbon) (bondsIn (x .«bond_count») ds) zs js) → t ≡ true → BondsBy (bondsDrawn (drawnOf x l)) (ringsDrawn (drawnOf x l)) (x .carbon) js
+ringless-put x l t a z h room e p f =
+    let w = p f in
+    ringless-marked x l a z h room e (w .set) (w .marked)

@@ -14,7 +14,7 @@ use Rattle.record.specs.declared.Mod.{Mod}
 use Rattle.record.specs.declared.Ring.{Ring}
 use Rattle.chain.specs.Lists.{anyOf}
 use Rattle.chain.specs.Refusals.{isEpoxide}
-use Rattle.chain.specs.Bonds.{geometryAt, markFrom, plainBond, plainBonds}
+use Rattle.chain.specs.Bonds.{double, geometryAt, markFrom, plainBond, plainBonds}
 
 -- the byte of a stated geometry
 abbrev pub geometryByte : Geometry → ℕ
@@ -96,6 +96,12 @@ pub record Geometries (bs : List DbPos) (geoms : List ℕ) : Type 0 where
 -- the marks of the double bonds whose geometries an array has
 pub record Marks (c : ℕ) (geoms before after : List ℕ) : Type 0 where
   pub are : (bs : List DbPos) → Geometries bs geoms → after ≡ markFrom c bs 1 c before
+
+-- the double bonds set in an array, and then marked
+pub record DoublesPut (c : ℕ) (bs : List DbPos) (before after : List ℕ) : Type 0 where
+  pub plain : List ℕ
+  pub set : SetWhere (doubleAt bs) double before plain
+  pub marked : after ≡ markFrom c bs 1 c plain
 
 -- the bonds before any mark, as far as the array goes
 pub record PlainBonds (bs : List DbPos) (rs : List Ring) (bonds : List ℕ) : Type 0 where

@@ -1,8 +1,9 @@
 -- What is known of each carbon of a drawn chain. Assumes nothing.
 use Prim.Native.Nat.{ℕ, _≤_, _<_, max}
 use mathlib.Core.Path.{_≡_}
-use mathlib.Core.List.{List, []}
+use mathlib.Core.List.{List, [], _∷_}
 use lib.ListN.{length}
+use Rattle.record.specs.declared.Mod.{Mod}
 use Rattle.record.specs.Chain.{maxCarbons}
 use Rattle.chain.specs.Features.{literalEnd}
 use Rattle.drawable.specs.Drawn.{Drawn, bondsDrawn, groupsDrawn, floatsDrawn, ringsDrawn, Says}
@@ -29,12 +30,19 @@ pub record TokensOf (x : Drawn) (t : ChainTokens) : Type 0 where
   pub bonds : BondsBy (bondsDrawn x) (ringsDrawn x) (x .carbon) (t .bonds)
   pub busy : Busy (x .acyl) (groupsDrawn x) (ringsDrawn x) (t .busy)
 
--- nothing is drawn of x but its carbons, double bonds that all have a position and, on an acyl C1, a doubly bonded O
-pub record Bare (x : Drawn) : Type 0 where
+-- the groups sit on the carbons k to c, none before the one named before it
+abbrev pub Rising : ℕ → ℕ → List Mod → Type 0
+Rising k c [] = Unit {0}
+Rising k c (g ∷ gs) = (k ≤ g .pos) × (g .pos ≤ c) × Rising (g .pos) c gs
+
+-- nothing is drawn of x but its carbons, double bonds and groups that all have a position, the groups in the order of their carbons, and, on an
+-- acyl C1, a doubly bonded O
+pub record Grouped (x : Drawn) : Type 0 where
   pub first : 1 ≤ x .first
   pub some : x .first ≤ x .carbon
   pub room : x .carbon ≤ maxCarbons
   pub unlocated : x .unlocated ≡ 0
-  pub groups : groupsDrawn x ≡ []
+  pub groups : Rising (x .first) (x .carbon) (groupsDrawn x)
+  pub few : length (groupsDrawn x) ≤ 18
   pub floats : floatsDrawn x ≡ []
   pub rings : ringsDrawn x ≡ []

@@ -5,12 +5,13 @@ use record::Bridge;
 use record::Geometry;
 ghost use mathlib.Core.Path.{_≡_};
 ghost use mathlib.Core.Bool.{true};
+ghost use mathlib.Core.List.{[]};
 ghost use Prim.Native.Nat.{ℕ, _+_, _≤_, _<_, min, max};
 ghost use lib.ListN.{length, getD, set, replicate};
 ghost use Rattle.chain.specs.Bonds.{openMark, closeMark, markBond, closeByte, markFrom, bridged, double};
 ghost use Rattle.drawable.specs.Drawn.{bondsIn, groupsIn, ringsIn, drawnOf, bondsDrawn, ringsDrawn};
-ghost use Rattle.carbons.specs.ByCarbon.{geometryByte, geometryOf, doubleAt, bridgeAt, ringOn, carbonylOn, risesFrom, RowAtoms, SetWhere, Added, Geometries, Marks, Noughts, PlainBonds, BondsBy, Busy};
-ghost use Rattle.carbons.specs.Tokens.{tokens, TokensOf, Bare};
+ghost use Rattle.carbons.specs.ByCarbon.{geometryByte, geometryOf, doubleAt, bridgeAt, ringOn, carbonylOn, risesFrom, RowAtoms, SetWhere, Added, Geometries, Marks, Noughts, DoublesPut, PlainBonds, BondsBy, Busy};
+ghost use Rattle.carbons.specs.Tokens.{tokens, TokensOf};
 
 // Carbons 0 to 255.
 pub const CARBON_ROOM: usize = 256;
@@ -368,19 +369,59 @@ fn busy_carbons<'a>(
     add_groups(busy, groups, group_count);
 }
 
-// The bonds of a bare chain with their marks, in an array of noughts that goes to its last carbon: there is no bridge among them.
-pub fn bare_bonds(x: Shape, part: &[u64], bonds: &mut [u8])
-    requires { ⌜ Noughts (now bonds) × (x .carbon < length (now bonds)) ⌝ }
-    requires { ⌜ Bare (drawnOf x (now part)) ⌝ }
+// The double bonds and their marks in one pass, as long as each bond is further on than the one before it, as in nearly every name, and on the
+// chain; whether all of them are. A double bond further on may be set after the marks: one that comes next stands over a mark that was made
+// there.
+fn put_rising(bonds: &mut [u8], doubles: &[u64], count: usize, carbon: usize) -> bool
+    requires { ⌜ carbon < length (now bonds) ⌝ }
+    ensures { λ r. ⌜ (r ≡ true → DoublesPut carbon (bondsIn count (now (doubles .entry))) (now (bonds .entry)) (now (bonds .exit))) ⌝ }
+{
+    let n = drawable::bonds_len(doubles, count);
+    let mut last = 0;
+    let mut i = 0;
+    while i < n {
+        let b = drawable::nth_bond(doubles, count, i);
+        if b.pos <= last {
+            return false;
+        }
+        last = b.pos;
+        let p = b.pos as usize;
+        if carbon < p {
+            return false;
+        }
+        bonds[p] = b'=';
+        let g = b.geom;
+        mark_bond(bonds, carbon, g, p);
+        i += 1;
+    }
+    true
+}
+
+// Noughts at every carbon again.
+fn clear(bonds: &mut [u8])
+    ensures { λ _. ⌜ Noughts (now (bonds .exit)) ⌝ }
+{
+    let n = bonds.len();
+    let mut i = 0;
+    while i < n {
+        bonds[i] = 0;
+        i += 1;
+    }
+}
+
+// The bonds of a chain without rings with their marks, in an array of noughts that goes to its last carbon: there is no bridge among them.
+pub fn ringless_bonds(x: Shape, part: &[u64], bonds: &mut [u8])
+    requires { ⌜ Noughts (now bonds) × (x .carbon < length (now bonds)) × (x .carbon ≤ 255) ⌝ }
+    requires { ⌜ ringsDrawn (drawnOf x (now part)) ≡ [] ⌝ }
     ensures { λ _. ⌜ BondsBy (bondsDrawn (drawnOf x (now (part .entry)))) (ringsDrawn (drawnOf x (now (part .entry)))) (x .carbon) (now (bonds .exit)) ⌝ }
 {
     let doubles = drawable::bonds_part(part);
-    set_doubles(bonds, doubles, x.bond_count);
     let last = x.carbon as usize;
-    if rises(doubles, x.bond_count) {
-        mark_rising(bonds, doubles, x.bond_count, last);
+    if put_rising(bonds, doubles, x.bond_count, last) {
         return;
     }
+    clear(bonds);
+    set_doubles(bonds, doubles, x.bond_count);
     mark_any(bonds, doubles, x.bond_count, last);
 }
 

@@ -15,7 +15,7 @@ use Rattle.shown.specs.Chained.{shown}
 use Rattle.shown.specs.Notes.{sumList}
 use Rattle.shown.proofs.Chained.{still-marks, still-sums}
 use Rattle.placed.specs.declared.Placed.{Placed}
-use Rattle.atoms.specs.Index.{inRoom}
+use Rattle.ramps.specs.Index.{inRoom}
 use Rattle.placed.specs.Notes.{nowhere, chainsIn}
 use Rattle.placed.specs.Fragment.{gathered}
 use Rattle.placed.proofs.Notes.{length-chains}

@@ -15,7 +15,7 @@ use Rattle.template.specs.Promise.{Each}
 use Rattle.shown.specs.Notes.{sumList}
 use Rattle.shown.proofs.Chained.{sums-are}
 use Rattle.placed.specs.Fragment.{noted, gathered, Told}
-use Rattle.atoms.proofs.IndexLaws.{room-is}
+use Rattle.ramps.proofs.IndexLaws.{room-is}
 use Rattle.chain_marks.specs.Marks.{marksOf, sumsOf, marksIn, sumsIn}
 
 -- ---- a chain

@@ -5,7 +5,7 @@ use Rattle.reading.specs.Molecule.{At, Sum}
 use Rattle.chain.specs.Drawing.{markList}
 use Rattle.shown.specs.Notes.{sumList}
 use Rattle.placed.specs.declared.Placed.{Placed}
-use Rattle.atoms.specs.Index.{inRoom}
+use Rattle.ramps.specs.Index.{inRoom}
 use Rattle.placed.specs.Fragment.{gathered}
 
 -- 01, Drawing a chain: "variables sit on P+2i for i < n and on P+2n+1"; "their sum is R−n−1"

@@ -16,12 +16,12 @@ use Rattle.reading.specs.Show.{showSites}
 use Rattle.reading.specs.Part.{Part}
 use Rattle.reading.specs.Chain.{floatEnd}
 use Rattle.chain.specs.Drawing.{branchPart, siteLists}
-use Rattle.atoms.specs.Atoms.{Counts}
+use Rattle.ramps.specs.Index.{inRoom}
+use Rattle.loads.specs.Counts.{Counts}
 use Rattle.shown.specs.Chained.{shown}
 use Rattle.shown.proofs.Chained.{still-one}
 use Rattle.template.specs.Request.{headCarbons}
 use Rattle.placed.specs.declared.Placed.{Placed}
-use Rattle.atoms.specs.Index.{inRoom}
 use Rattle.placed.specs.Notes.{nowhere, chainsIn}
 use Rattle.placed.specs.Fragment.{summed}
 use Rattle.placed.proofs.Notes.{length-chains}

@@ -12,7 +12,7 @@ use Rattle.branches.specs.Text.{rowsIn}
 use Rattle.chain.specs.Features.{isAcyl, siteSkip, floating}
 use Rattle.chain.specs.Drawing.{branchPart, branches, siteLists, siteAtoms, carbonAtoms}
 use Rattle.chain.specs.Drawing as draw
-use Rattle.atoms.proofs.IndexLaws.{room-is}
+use Rattle.ramps.proofs.IndexLaws.{room-is}
 use Rattle.atoms.proofs.NumberLaws.{chain-end-shift}
 use Rattle.template.specs.Request as request
 use Rattle.template.specs.Request.{headCarbons, indicesOf, allSites}

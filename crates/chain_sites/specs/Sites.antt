@@ -7,7 +7,7 @@ use Rattle.reading.specs.Molecule.{At}
 use Rattle.chain.specs.Drawing.{branchPart, siteLists}
 use Rattle.template.specs.Request.{headCarbons}
 use Rattle.placed.specs.declared.Placed.{Placed}
-use Rattle.atoms.specs.Index.{inRoom}
+use Rattle.ramps.specs.Index.{inRoom}
 
 -- "sites are all drawn carbons but acyl C1": how many indices of a chain lead that are no sites
 abbrev pub skipped : Placed → ℕ

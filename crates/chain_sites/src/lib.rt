@@ -17,14 +17,14 @@ ghost use Rattle.chain.specs.Drawing.{branchPart, siteLists};
 ghost use Rattle.template.specs.Request.{headCarbons};
 ghost use Rattle.placed.specs.Notes.{chainsIn};
 ghost use Rattle.chain_marks.specs.Put.{PutBlocks};
-ghost use Rattle.atoms.specs.Atoms.{Counts};
+ghost use Rattle.loads.specs.Counts.{Counts};
 ghost use Rattle.chain_sites.specs.Sites.{skipped, siteListsOf, siteListsIn};
 
 // The atoms of a group's branch.
 fn wide_branch_atoms(row: u8) -> u32
     ensures { λ r. ⌜ Counts 5 (branchPart row .size) r ⌝ }
 {
-    atoms::branch_atoms(row) as u32
+    loads::branch_atoms(row) as u32
 }
 
 // A floating atom with its sites.

@@ -6,10 +6,10 @@ use native.Mathlib.Numerals.{add-one}
 use native.Mathlib.Omega.{arith}
 use mathlib.Core.Path.{_≡_, refl, sym, ap, _∙_}
 use mathlib.Core.Bool.{Bool, true, false, _||_}
-use mathlib.Core.List.{List, [], _∷_, _++_, append-nil, append-assoc}
+use mathlib.Core.List.{List, [], _∷_, _++_, append-assoc}
 use lib.Dec.{eqb}
 use lib.ListN.{length, getD}
-use borrow.Author.Tests.{eq-eqb, ne-eqb, eqb-true}
+use borrow.Author.Tests.{eq-eqb, eqb-true}
 use Rattle.emit.specs.Text.{Written}
 use Rattle.record.specs.declared.Mod.{Mod}
 use Rattle.record.specs.declared.Ring.{Ring as Closed}
@@ -96,7 +96,7 @@ regroup : (a b c d e f : List ℕ) → (a ++ b) ++ ((c ++ d) ++ (e ++ f)) ≡ a 
 regroup a b c d e f = simp append-assoc
 
 -- C k, what follows it, its bridge, and the carbons after it
-carbons-next : (acyl : Bool) (ks : List ℕ) (gs : List Mod) (rs : List Closed) (l k n : ℕ)
+pub carbons-next : (acyl : Bool) (ks : List ℕ) (gs : List Mod) (rs : List Closed) (l k n : ℕ)
     → carbonsText acyl ks gs rs l k (suc n)
     ≡ carbonText (getD ks (k - 1) 0) ++ (featuresText acyl gs rs l k ++ (bridgeText (getD ks k 0) ++ carbonsText acyl ks gs rs l (suc k) n))
 unfolding carbonsText carbonOf valuesFrom featuresText labelsText carbonylText groupsText bridgeText
@@ -105,7 +105,7 @@ carbons-next acyl ks gs rs l k n =
     (valuesFrom (carbonOf acyl ks gs) (suc k) n)
     ∙ (rw (parts-append (carbonylOf acyl k) (branches (sitting k gs))) (regroup (carbonText (getD ks (k - 1) 0)) (showLabels (labelsAt k l (ringPairs rs))) (show (partPieces (carbonylOf acyl k))) (show (partPieces (branches (sitting k gs)))) (show (bridgePieces (eqb (getD ks k 0) 79))) (show (chainPieces (ringPairs rs) l (suc k) (valuesFrom (carbonOf acyl ks gs) (suc k) n)))))
 
-carbons-none : (acyl : Bool) (ks : List ℕ) (gs : List Mod) (rs : List Closed) (l k : ℕ) → carbonsText acyl ks gs rs l k 0 ≡ []
+pub carbons-none : (acyl : Bool) (ks : List ℕ) (gs : List Mod) (rs : List Closed) (l k : ℕ) → carbonsText acyl ks gs rs l k 0 ≡ []
 unfolding carbonsText valuesFrom chainPieces show
 carbons-none acyl ks gs rs l k = refl
 
@@ -128,32 +128,6 @@ carbons-run acyl ks gs rs l k (suc m) n f =
       y,
     )
     (simp (append-assoc, x))
-
--- ---- the carbons of a bare chain
-
-bare-features : (acyl : Bool) (l k : ℕ) → featuresText acyl [] [] l k ≡ carbonylText acyl k
-unfolding featuresText labelsText labelsAt ringPairs showLabels groupsText sitting only branches partPieces show
-bare-features acyl l k = append-nil (carbonylText acyl k)
-
-bare-later : (acyl : Bool) (k : ℕ) → (k ≡ 1 → ⊥) → carbonylText acyl k ≡ []
-unfolding carbonylText carbonylOf partPieces show
-bare-later false k h = refl
-bare-later true k h = rw (ne-eqb k 1 h)
-
-bare-rest : (acyl : Bool) (ks : List ℕ) (l k n : ℕ) → 1 ≤ k
-    → bridgeText (getD ks k 0) ++ carbonsText acyl ks [] [] l (suc k) n ≡ linksText ks (suc k) n ++ bridgeText (getD ks (k + n) 0)
-unfolding linksText linkText
-bare-rest acyl ks l k zero h = rw (carbons-none acyl ks [] [] l (suc k), add-zero) (append-nil (bridgeText (getD ks k 0)))
-bare-rest acyl ks l k (suc n) h =
-    let y : k + suc n ≡ suc k + n = omega arith in
-    let x : suc k - 1 ≡ k = omega arith in
-    let e : featuresText acyl [] [] l (suc k) ≡ [] = bare-features acyl l (suc k) ∙ bare-later acyl (suc k) (λ q. omega arith) in
-    rw (carbons-next acyl ks [] [] l (suc k) n, e, bare-rest acyl ks l (suc k) n (omega arith), y) (simp (append-assoc, x))
-
-pub bare-carbons : (acyl : Bool) (ks : List ℕ) (l k n : ℕ) → 1 ≤ k
-    → carbonsText acyl ks [] [] l k (suc n)
-    ≡ carbonText (getD ks (k - 1) 0) ++ (carbonylText acyl k ++ (linksText ks (suc k) n ++ bridgeText (getD ks (k + n) 0)))
-bare-carbons acyl ks l k n h = rw (carbons-next acyl ks [] [] l k n, bare-features acyl l k, bare-rest acyl ks l k n h)
 
 -- a turn of the loop through the carbons, and its end
 module _ {xs ys ts : List ℕ} {at p : ℕ} (acyl : Bool) (ks : List ℕ) (gs : List Mod) (rs : List Closed) (l k last : ℕ) (m : length xs < 2 ^ 64)

@@ -1,17 +1,16 @@
 -- The text that is written is that of the drawing.
 -- Assumes nothing.
-use Prim.Native.Nat.{ℕ, zero, suc, _+_, _-_, _*_, _^_, _≤_, _<_, min, max}
-use native.Mathlib.Numerals.{add-one}
+use Prim.Native.Nat.{ℕ, zero, suc, _+_, _-_, _^_, _≤_, _<_, min, max}
 use native.Mathlib.Omega.{arith}
 use mathlib.Core.Path.{_≡_, refl, sym, ap, _∙_}
 use mathlib.Core.Bool.{Bool, true, false, cond}
-use mathlib.Core.List.{List, [], _∷_, _++_, append-nil, append-assoc, map}
+use mathlib.Core.List.{List, [], _∷_, _++_, append-assoc, map}
 use lib.Dec.{eqb}
 use lib.ListN.{length, take, getD}
 use lib.Seq.{getD-take}
 use borrow.Author.Tests.{ne-eqb}
 use Rattle.emit.specs.Text.{Written}
-use Rattle.emit.proofs.Laws.{written-append, written-length}
+use Rattle.emit.proofs.Laws.{written-length}
 use Rattle.record.specs.declared.DbPos.{DbPos}
 use Rattle.record.specs.declared.Mod.{Mod}
 use Rattle.record.specs.declared.Ring.{Ring as Closed}
@@ -27,20 +26,16 @@ use Rattle.chain.specs.Features.{firstDrawn, doubles, groupsOn, prefixEnd, lite
 use Rattle.chain.specs.Bonds.{bondsOf, bondAt, markOf}
 use Rattle.chain.specs.Drawing.{branches, carbonyl, groupsAt, carbonAt, literal, flexible, carbons, ringPairs, floats, chainDrawn}
 use Rattle.drawable.specs.declared.Shape.{Shape}
-use Rattle.drawable.specs.Drawn.{Drawn, groupsIn, ringsIn, groupsPart, floatsPart, ringsPart, drawnOf, bondsDrawn, groupsDrawn, floatsDrawn, ringsDrawn, Draws}
-use Rattle.branches.specs.Text.{sitting, floatsText, carbonylOf, carbonylText}
-use Rattle.backbone.specs.Text.{carbonText, bridgeText, flexibleText}
-use Rattle.runs.specs.Links.{linksText}
+use Rattle.drawable.specs.Drawn.{Drawn, groupsIn, ringsIn, groupsPart, floatsPart, ringsPart, drawnOf, groupsDrawn, floatsDrawn, ringsDrawn, Draws}
+use Rattle.branches.specs.Text.{sitting, floatsText, carbonylOf}
+use Rattle.backbone.specs.Text.{flexibleText}
 use Rattle.fragment.specs.Text.{carbonOf, carbonsText}
 use Rattle.drawable.proofs.Parts.{rings-few}
-use Rattle.carbons.specs.Tokens.{ChainTokens, tokens, TokensOf, Bare}
-use Rattle.carbons.specs.ByCarbon.{BondsBy, Busy}
+use Rattle.carbons.specs.Tokens.{ChainTokens, tokens, TokensOf}
+use Rattle.carbons.specs.ByCarbon.{Busy}
 use Rattle.fragment.specs.Segment.{segmentText, RingsOn, Readable, Segment}
 use Rattle.carbons.proofs.Left.{written-three}
-use Rattle.carbons.proofs.TokenLaws.{length-values, values-same, busyList, bare-tokens}
-use Rattle.branches.proofs.Laws.{carbonyl-length}
-use Rattle.runs.proofs.Laws.{carbon-length}
-use Rattle.fragment.proofs.RangeLaws.{bare-carbons}
+use Rattle.carbons.proofs.TokenLaws.{length-values, values-same}
 use Rattle.backbone.proofs.Laws.{chain-append, unlabelled}
 
 -- ---- what holds of every chain that x draws
@@ -186,7 +181,7 @@ segment-written : {xs ys zs ws : List ℕ} {at p q o : ℕ} (x : Drawn) (t : Cha
 unfolding segmentText
 segment-written x t l h u v w = written-three h u v w
 
-segment-drawn : {xs ys : List ℕ} {at q m : ℕ} (x : Drawn) (t : ChainTokens) (l : ℕ) → TokensOf x t → m ≡ min l 247 → Written xs at (segmentText x t m) ys q → Segment x l xs at ys q
+pub segment-drawn : {xs ys : List ℕ} {at q m : ℕ} (x : Drawn) (t : ChainTokens) (l : ℕ) → TokensOf x t → m ≡ min l 247 → Written xs at (segmentText x t m) ys q → Segment x l xs at ys q
 segment-drawn {xs} {ys} {at} {q} {m} x t l k e w =
     record {
       size = written-length w;
@@ -211,31 +206,9 @@ pub segment-done : {xs ys zs ws gs rs : List ℕ} {at p q o m : ℕ} (x : Shape)
 segment-done {m = m} x part first last bs us l h k e a b u v w =
     segment-drawn (drawnOf x part) (tokens first last bs us) l k e (segment-written (drawnOf x part) (tokens first last bs us) m h (rw (a, b) at u) v w)
 
--- ---- a bare chain
+-- ---- a chain without a tail
 
--- no tail, and no groups without a position
-bare-tail : (b : ℕ) → flexibleText b 0 ++ floatsText [] ≡ []
+-- nor groups without a position
+pub no-tail : (b : ℕ) → flexibleText b 0 ++ floatsText [] ≡ []
 unfolding flexibleText flexible floatsText branches floatPieces chainPieces show
-bare-tail b = refl
-
-module _ (x : Drawn) (bs : List ℕ) (e : Bare x) where
-  bare-text : (us : List ℕ) (l : ℕ) → segmentText x (tokens (x .first) (x .carbon) bs us) l
-      ≡ carbonText (getD bs (x .first - 1) 0) ++ (carbonylText (x .acyl) (x .first) ++ (linksText bs (x .first + 1) (x .carbon + 1 - (x .first + 1)) ++ bridgeText (getD bs (x .carbon) 0)))
-  unfolding segmentText
-  bare-text us l =
-      let z : suc (x .carbon) - x .first ≡ suc (x .carbon + 1 - (x .first + 1)) = omega (arith, e .some) in
-      let y : x .first + (x .carbon + 1 - (x .first + 1)) ≡ x .carbon = omega (arith, e .some) in
-      rw (e .groups, e .rings, e .floats, e .unlocated, bare-tail (getD bs (x .carbon) 0), append-nil, z, bare-carbons (x .acyl) bs l (x .first) (x .carbon + 1 - (x .first + 1)) (e .first), y, add-one (x .first))
-
-  pub bare-done : {xs ys zs ws vs : List ℕ} {at p q o r : ℕ} → BondsBy (bondsDrawn x) (ringsDrawn x) (x .carbon) bs → length xs < 2 ^ 64 → Written xs at (carbonText (getD bs (x .first - 1) 0)) ys p
-      → Written ys p (carbonylText (x .acyl) (x .first)) zs q → Written zs q (linksText bs (x .first + 1) (x .carbon + 1 - (x .first + 1))) ws o
-      → Written ws o (bridgeText (getD bs (x .carbon) 0)) vs r → (l : ℕ) → Segment x l xs at vs r
-  bare-done {zs = zs} b g u v w t l =
-      let s : length zs < 2 ^ 64 = omega (arith, written-length u, written-length v) in
-      segment-drawn x (tokens (x .first) (x .carbon) bs (busyList x)) l (bare-tokens e b) refl
-      (rw (bare-text (busyList x) (min l 247)) (written-three g u v (written-append s w t)))
-
-pub bare-room : {xs ys zs : List ℕ} {at p q : ℕ} (b f c : ℕ) (acyl : Bool) → 1 ≤ f → f ≤ c → at + (c * 2 + 8) ≤ length xs → Written xs at (carbonText b) ys p
-    → Written ys p (carbonylText acyl f) zs q → q + (c + 1 - (f + 1)) * 2 ≤ length zs
-bare-room b f c acyl e g h u v =
-    omega (arith, u .next, v .next, carbon-length b, carbonyl-length acyl f, written-length u, written-length v)
+no-tail b = refl

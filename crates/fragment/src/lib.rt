@@ -3,12 +3,12 @@
 use drawable::Shape;
 ghost use mathlib.Core.Path.{_≡_};
 ghost use mathlib.Core.List.{_++_};
-ghost use Prim.Native.Nat.{ℕ, suc, _+_, _-_, _*_, _≤_, _<_, min};
+ghost use Prim.Native.Nat.{suc, _+_, _-_, _≤_, _<_, min};
 ghost use lib.ListN.{length};
 ghost use Rattle.emit.specs.Text.{Written};
-ghost use Rattle.drawable.specs.Drawn.{groupsIn, ringsIn, floatsPart, drawnOf, bondsDrawn, ringsDrawn};
-ghost use Rattle.carbons.specs.Tokens.{tokens, TokensOf, Bare};
-ghost use Rattle.carbons.specs.ByCarbon.{BondsBy, Busy};
+ghost use Rattle.drawable.specs.Drawn.{groupsIn, ringsIn, floatsPart, drawnOf};
+ghost use Rattle.carbons.specs.Tokens.{tokens, TokensOf};
+ghost use Rattle.carbons.specs.ByCarbon.{Busy};
 ghost use Rattle.branches.specs.Text.{floatsText};
 ghost use Rattle.backbone.specs.Text.{carbonText, bridgeText};
 ghost use Rattle.fragment.specs.Text.{featuresText, carbonsText};
@@ -168,26 +168,4 @@ pub fn build_chain_segment<'a>(
     );
     let q = backbone::put_flexible(out, p, bond, x.unlocated);
     put_loose(out, q, part, x.float_count)
-}
-
-// The text of a chain that carries nothing but, if it is acyl, the O of its C1, where there is room for it with a bond before each carbon: no
-// carbon need be asked what it carries.
-pub fn build_bare<'a>(
-    out: &mut [u8],
-    at: usize,
-    x: Shape,
-    part: &'a [u64],
-    bonds: &'a [u8],
-) -> usize
-    requires { ⌜ Bare (drawnOf x (now part)) ⌝ }
-    requires { ⌜ BondsBy (bondsDrawn (drawnOf x (now part))) (ringsDrawn (drawnOf x (now part))) (x .carbon) (now bonds) ⌝ }
-    requires { ⌜ at + (x .carbon * 2 + 8) ≤ length (now out) ⌝ }
-    ensures { λ r. ⌜ ((l : ℕ) → Segment (drawnOf x (now (part .entry))) l (now (out .entry)) at (now (out .exit)) r) ⌝ }
-{
-    let k = x.first as usize;
-    let last = x.carbon as usize;
-    let p = backbone::put_carbon(out, at, bonds[k - 1]);
-    let q = branches::put_carbonyl(out, p, x.acyl, x.first);
-    let o = runs::put_through(out, q, bonds, k + 1, last);
-    backbone::put_bridge(out, o, bonds[last])
 }

@@ -319,7 +319,7 @@ fn wrong_count(class: Class, count: usize) -> bool
 }
 
 // Whether a request is refused, and for what; or its class, the atoms of its tail, which is read once, and its chains, which are kept in the
-// lent arrays: nine numbers for each, and its lists in a part of 77; there is room for the tokens, of which there are four at most.
+// lent arrays: eight numbers for each, and its lists in a part of 77; there is room for the tokens, of which there are four at most.
 pub fn judge<'a>(
     class: &[u8],
     tail: &[u8],

@@ -10,8 +10,7 @@ use lib.Seq.{take-suc}
 use Rattle.record.specs.declared.Mod.{Mod}
 use Rattle.chain.specs.Features.{floating}
 use Rattle.chain.specs.Drawing.{carbonAtoms}
-use Rattle.atoms.specs.Index.{indexFrom}
-use Rattle.atoms.specs.Atoms.{indices}
+use Rattle.ramps.specs.Index.{indexFrom, indices}
 use Rattle.atoms.proofs.NumberLaws.{carbon-atoms-shift}
 use Rattle.template.specs.Request as request
 use Rattle.template.specs.Request.{headCarbons, indicesOf}

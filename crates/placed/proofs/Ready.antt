@@ -21,7 +21,7 @@ use Rattle.chain.proofs.Lists.{all-append, all-both}
 use Rattle.chain.proofs.Atoms.{chainEnd-le, atomsEnd-le}
 use Rattle.chain.proofs.Accepted.{Drawable, first-one, drawn-most, carbon-most, unlocated-most}
 use Rattle.drawable.specs.Drawn.{Drawn, Draws}
-use Rattle.atoms.proofs.SumLaws.{sound-readable}
+use Rattle.atoms.proofs.Readable.{sound-readable}
 use Rattle.template.specs.declared.Class.{Class}
 use Rattle.template.specs.Template.{Element, fixed, tail, slot, chain, elements, most, roleOf, hasTail}
 use Rattle.template.specs.Request.{Placed, chainAt, unlessEmpty, nonempty, place, siteOf, fixedPieces, tailPart, atomsOfPieces, atomsAfter, variablesAfter, placedFrom, placed, indicesOf}

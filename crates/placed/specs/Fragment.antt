@@ -14,8 +14,8 @@ use Rattle.drawable.specs.Chains.{Chains}
 use Rattle.shapes.specs.Sn.{ChainAt}
 use Rattle.branches.specs.Text.{rowsIn}
 use Rattle.fragment.specs.Segment.{Readable}
-use Rattle.atoms.specs.Atoms.{indices}
-use Rattle.atoms.specs.Sum.{sumOf}
+use Rattle.ramps.specs.Index.{indices}
+use Rattle.totals.specs.Sum.{sumOf}
 use Rattle.template.specs.Request as request
 use Rattle.template.specs.Request.{nonempty, headCarbons, indicesOf}
 use Rattle.template.specs.Promise.{Each}

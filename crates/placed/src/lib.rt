@@ -5,9 +5,9 @@ ghost use mathlib.Core.List.{[], _∷_};
 ghost use Prim.Native.Nat.{_+_, _≤_, _%_};
 ghost use lib.ListN.{length, take, drop, getD, set};
 ghost use Rattle.placed.specs.Notes.{roleCode, roleIn, flagCode, nowhere, placedIn, numbersOf, chainsIn, Standing, Stored};
-pub use atoms::in_room;
 pub use drawable::MAX_CHAINS;
 pub use places::in_places;
+pub use ramps::in_room;
 
 // Where a chain stands and what is kept of it: its first atom, the atom that is its site (a base has none, and its first atom stands there), its
 // first variable, how many indices it has, those of the template among them; whether it is acyl, its double bonds without a position; the atoms

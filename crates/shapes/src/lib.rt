@@ -1,4 +1,4 @@
-// The shapes of the chains of a request as numbers of a lent array, nine for each: an array of structs goes by value and is copied at every
+// The shapes of the chains of a request as numbers of a lent array, eight for each: an array of structs goes by value and is copied at every
 // call. Every place has an answer; past the last there is an empty chain. Which numbers they are is said by specs/Shapes.antt.
 use drawable::MAX_CHAINS;
 use drawable::Shape;
@@ -6,11 +6,11 @@ ghost use mathlib.Core.Path.{_≡_};
 ghost use mathlib.Core.List.{[], _∷_};
 ghost use Prim.Native.Nat.{_+_, _≤_, _%_};
 ghost use lib.ListN.{length, take, drop, getD, set};
-ghost use Rattle.shapes.specs.Shapes.{flagCode, noShape, shapeIn, numbersOf, shapesIn, Standing, Stored};
+ghost use Rattle.shapes.specs.Shapes.{flagCode, flagsCode, noShape, shapeIn, numbersOf, shapesIn, Standing, Stored};
 ghost use Rattle.shapes.specs.Sn.{ShapeAt};
 
 // Room for four chains.
-pub const SHAPE_ROOM: usize = 36;
+pub const SHAPE_ROOM: usize = 32;
 
 fn flag_code(flag: bool) -> u64
     ensures { λ r. ⌜ r ≡ flagCode flag ⌝ }
@@ -19,6 +19,19 @@ fn flag_code(flag: bool) -> u64
         return 1;
     }
     0
+}
+
+// Whether a chain is acyl and whether an ether stands where a base should, in one number.
+fn flags_code(acyl: bool, ether: bool) -> u64
+    ensures { λ r. ⌜ r ≡ flagsCode acyl ether ⌝ }
+{
+    if ether {
+        if acyl {
+            return 3;
+        }
+        return 2;
+    }
+    flag_code(acyl)
 }
 
 fn narrow(n: u64) -> u16
@@ -44,43 +57,44 @@ fn no_shape() -> Shape
     }
 }
 
-// Three of the numbers, side by side.
-struct Three {
+// Four of the numbers, side by side.
+struct Four {
     a: u64,
     b: u64,
     c: u64,
+    d: u64,
 }
 
-// The three numbers from a place on.
-fn read_three(shapes: &[u64; SHAPE_ROOM], at: usize) -> Three
-    requires { ⌜ at + 3 ≤ 36 ⌝ }
+// The four numbers from a place on.
+fn read_four(shapes: &[u64; SHAPE_ROOM], at: usize) -> Four
+    requires { ⌜ at + 4 ≤ 32 ⌝ }
     ensures { λ r. ⌜ Standing (now (shapes .entry)) at r ⌝ }
 {
-    Three {
+    Four {
         a: shapes[at],
         b: shapes[at + 1],
         c: shapes[at + 2],
+        d: shapes[at + 3],
     }
 }
 
-// What nine numbers say of a chain.
+// What eight numbers say of a chain.
 fn read_shape(shapes: &[u64; SHAPE_ROOM], b: usize) -> Shape
-    requires { ⌜ b + 9 ≤ 36 ⌝ }
-    ensures { λ r. ⌜ r ≡ shapeIn (take 9 (drop b (now (shapes .entry)))) ⌝ }
+    requires { ⌜ b + 8 ≤ 32 ⌝ }
+    ensures { λ r. ⌜ r ≡ shapeIn (take 8 (drop b (now (shapes .entry)))) ⌝ }
 {
-    let p = read_three(shapes, b);
-    let q = read_three(shapes, b + 3);
-    let s = read_three(shapes, b + 6);
+    let p = read_four(shapes, b);
+    let q = read_four(shapes, b + 4);
     Shape {
         first: narrow(p.a),
         carbon: narrow(p.b),
-        acyl: p.c == 1,
-        ether_base: q.a == 1,
-        unlocated: narrow(q.b),
-        bond_count: q.c as usize,
-        group_count: s.a as usize,
-        float_count: s.b as usize,
-        ring_count: s.c as usize,
+        acyl: p.c % 2 == 1,
+        ether_base: 1 < p.c,
+        unlocated: narrow(p.d),
+        bond_count: q.a as usize,
+        group_count: q.b as usize,
+        float_count: q.c as usize,
+        ring_count: q.d as usize,
     }
 }
 
@@ -91,7 +105,7 @@ pub fn shape_in(shapes: &[u64; SHAPE_ROOM], i: usize) -> Shape
     if MAX_CHAINS <= i {
         return no_shape();
     }
-    read_shape(shapes, 9 * i)
+    read_shape(shapes, 8 * i)
 }
 
 // The chain of an sn, whose lists stand in the part of that sn; an empty one where the request has no such token.
@@ -108,14 +122,15 @@ pub fn shape_at(count: usize, shapes: &[u64; SHAPE_ROOM], sn: u8) -> Shape
     shape_in(shapes, i - 1)
 }
 
-// Three numbers from a place on.
-fn put_three(shapes: &mut [u64], at: usize, a: u64, b: u64, c: u64)
-    requires { ⌜ at + 3 ≤ length (now shapes) ⌝ }
-    ensures { λ _. ⌜ Stored (now (shapes .entry)) at (a ∷ b ∷ c ∷ []) (now (shapes .exit)) ⌝ }
+// Four numbers from a place on.
+fn put_four(shapes: &mut [u64], at: usize, a: u64, b: u64, c: u64, d: u64)
+    requires { ⌜ at + 4 ≤ length (now shapes) ⌝ }
+    ensures { λ _. ⌜ Stored (now (shapes .entry)) at (a ∷ b ∷ c ∷ d ∷ []) (now (shapes .exit)) ⌝ }
 {
     shapes[at] = a;
     shapes[at + 1] = b;
     shapes[at + 2] = c;
+    shapes[at + 3] = d;
 }
 
 fn wide(n: u16) -> u64
@@ -130,22 +145,24 @@ fn counted(n: usize) -> u64
     n as u64
 }
 
-// The nine numbers of a chain from a place on.
+// The eight numbers of a chain from a place on.
 fn put_shape(shapes: &mut [u64], at: usize, x: Shape)
-    requires { ⌜ at + 9 ≤ length (now shapes) ⌝ }
+    requires { ⌜ at + 8 ≤ length (now shapes) ⌝ }
     ensures { λ _. ⌜ Stored (now (shapes .entry)) at (numbersOf x) (now (shapes .exit)) ⌝ }
 {
-    put_three(shapes, at, wide(x.first), wide(x.carbon), flag_code(x.acyl));
-    put_three(
+    let flags = flags_code(x.acyl, x.ether_base);
+    put_four(
         shapes,
-        at + 3,
-        flag_code(x.ether_base),
+        at,
+        wide(x.first),
+        wide(x.carbon),
+        flags,
         wide(x.unlocated),
-        counted(x.bond_count),
     );
-    put_three(
+    put_four(
         shapes,
-        at + 6,
+        at + 4,
+        counted(x.bond_count),
         counted(x.group_count),
         counted(x.float_count),
         counted(x.ring_count),
@@ -157,7 +174,7 @@ pub fn keep_shape(shapes: &mut [u64; SHAPE_ROOM], i: usize, x: Shape)
     ensures { λ _. ⌜ shapesIn (now (shapes .exit)) ≡ set (shapesIn (now (shapes .entry))) i x ⌝ }
 {
     if i < MAX_CHAINS {
-        put_shape(shapes, 9 * i, x);
+        put_shape(shapes, 8 * i, x);
         return;
     }
 }

@@ -3,24 +3,28 @@
 use Prim.Native.Nat.{ℕ, suc, _+_, _<_, _≤_, _^_}
 use native.Mathlib.Omega.{arith}
 use mathlib.Core.Path.{_≡_, refl, ap, _∙_}
-use mathlib.Core.Bool.{Bool}
 use mathlib.Core.List.{List, [], _∷_, _++_}
-use lib.ListN.{length, length-append}
+use lib.ListN.{length, drop, getD, length-append}
 use Rattle.emit.specs.Text.{Written}
 use Rattle.emit.proofs.Laws.{written-nil, written-append, written-length}
 use Rattle.chain.specs.declared.Role.{Role}
 use Rattle.chain.specs.declared.Role.the-variants.{Slot, Acyl, Base}
 use Rattle.chain.specs.Drawing.{carbonAtoms}
-use Rattle.drawable.proofs.Parts.{floats-few, rings-few}
+use Rattle.drawable.proofs.Parts.{groups-few}
 use Rattle.drawable.specs.declared.Shape.{Shape}
-use Rattle.drawable.specs.Drawn.{Drawn, Length, groupsIn, ringsIn, groupsPart, floatsPart, ringsPart, drawnOf, floatsDrawn, ringsDrawn, Says}
+use Rattle.drawable.specs.Drawn.{Drawn, Length, noGroup, groupsIn, ringsIn, groupsPart, floatsPart, ringsPart, drawnOf}
+use Rattle.record.specs.declared.Mod.{Mod}
+use Rattle.carbons.specs.Tokens.{Rising}
+use Rattle.carbons.proofs.Fronts.{next-of, none-left}
+use Rattle.carbons.proofs.Loads.{groups-held}
 use Rattle.branches.specs.Text.{RowsPut}
 use Rattle.fragment.specs.Segment.{Segment}
 use Rattle.atoms.specs.declared.ChainAtoms.{ChainAtoms}
-use Rattle.atoms.specs.Atoms.{Counts, indices, AtomsOf}
-use Rattle.atoms.specs.Sum.{sumOf}
+use Rattle.ramps.specs.Index.{indices}
+use Rattle.loads.specs.Counts.{Counts}
+use Rattle.atoms.specs.Atoms.{AtomsOf}
 use Rattle.template.specs.Request.{headCarbons}
-use Rattle.strand.specs.Strand.{headCount, Indexed, rooms, StrandOf, BareShape, FiguresOf}
+use Rattle.strand.specs.Strand.{headCount, Indexed, rooms, StrandOf, GroupedShape}
 
 -- ---- the template's carbons
 
@@ -72,7 +76,7 @@ strand-laid {ρ} s i r =
       sizes = record { text = s .size; index = i .size; rows = r .size };
     }
 
--- ---- a bare chain
+-- ---- a chain whose groups stand in the order of their carbons
 
 none-groups : (l : List ℕ) → groupsIn 0 l ≡ []
 unfolding groupsIn
@@ -84,63 +88,42 @@ unfolding ringsIn
 none-rings [] = refl
 none-rings (n ∷ l) = refl
 
-pub shape-bare : (x : Shape) → x .«group_count» ≡ 0 → x .«ring_count» ≡ 0 → x .«float_count» ≡ 0 → x .unlocated ≡ 0 → (x .first ≡ 0 → ⊥) → x .first ≤ x .carbon → x .carbon < 96 → BareShape x
-shape-bare x g r f u n s h =
+-- if the groups from the i-th on rise from k, all do
+pub record RiseLeft (f c : ℕ) (gs : List Mod) (k i : ℕ) : Type 0 where
+  pub so : Rising k c (drop i gs) → Rising f c gs
+
+pub rise-all : (f c : ℕ) (gs : List Mod) → RiseLeft f c gs f 0
+rise-all f c gs = record { so = λ r. r }
+
+module _ {room n f c : ℕ} {gs : List Mod} (s : Length room gs n) (k i : ℕ) (w : RiseLeft f c gs k i) where
+  pub rise-more : (g : Mod) → g ≡ getD gs i noGroup → i < n → k ≤ g .pos → g .pos ≤ c → RiseLeft f c gs (g .pos) (i + 1)
+  rise-more g e h l m = record { so = λ r. w .so (rw (next-of s noGroup g i e h) (l, m, r)) }
+
+  pub rise-end : n ≤ i → Rising f c gs
+  rise-end h = w .so (rw (none-left s i h) tt)
+
+pub shape-grouped : (x : Shape) (l : List ℕ) {gs : List ℕ} → gs ≡ groupsPart l → x .«ring_count» ≡ 0 → x .«float_count» ≡ 0 → x .unlocated ≡ 0 → (x .first ≡ 0 → ⊥) → x .first ≤ x .carbon → x .carbon < 96
+    → Rising (x .first) (x .carbon) (groupsIn (x .«group_count») gs) → GroupedShape x l
+shape-grouped x l e r f u n s h w =
     record {
       short = h;
-      bare =
-          λ l.
+      grouped =
           record {
             first = omega arith;
             some = s;
             room = omega arith;
             unlocated = u;
-            groups = rw g (none-groups (groupsPart l));
+            groups = rw e at w;
+            few = groups-held (x .«group_count») (groupsPart l) (groups-few l);
             floats = rw f (none-groups (floatsPart l));
             rings = rw r (none-rings (ringsPart l));
           };
     }
 
-pub bare-heads : {xs ys hs : List ℕ} {at p h : ℕ} (c : ℕ) → Counts 2 (length hs) h → at + (c + 2) ≤ length xs → Written xs at hs ys p → p + c ≤ length ys
-bare-heads c k g w = omega (arith, k .is, k .few, w .next, written-length w)
+pub grouped-heads : {xs ys hs : List ℕ} {at p h : ℕ} (c : ℕ) → Counts 2 (length hs) h → at + (c + 2) ≤ length xs → Written xs at hs ys p → p + c ≤ length ys
+grouped-heads c k g w = omega (arith, k .is, k .few, w .next, written-length w)
 
-pub bare-laid : {ρ : Role} {first at used row : ℕ} {x : Drawn} {xs ys zs xs′ ys′ zs′ : List ℕ} {p q : ℕ} {n : ChainAtoms}
+pub grouped-laid : {ρ : Role} {first at used row : ℕ} {x : Drawn} {xs ys zs xs′ ys′ zs′ : List ℕ} {p q : ℕ} {n : ChainAtoms}
     → ((l : ℕ) → Segment x l xs at xs′ p) → Indexed ρ first x ys used ys′ n → RowsPut x zs row zs′ q
     → (l : ℕ) → StrandOf ρ first l x (rooms xs ys zs) at used row (rooms xs′ ys′ zs′) (record { at = p; used = n .at; rows = q; count = n .count; flexible = n .flexible; floats = n .floats; end = n .end })
-bare-laid s i r l = strand-laid (s l) i r
-
--- ---- what is kept beside
-
--- their numbers are small
-pub floats-fit : {A : Type 0} {l′ : List A} {fs : List ℕ} {f : ℕ} (l : List ℕ) → fs ≡ floatsPart l → Length (length fs) l′ f → f < 65536
-floats-fit {f = f} l e u = let z : f ≤ length (floatsPart l) = rw e at u .fits in omega (arith, floats-few l)
-
-pub rings-fit : {A : Type 0} {l′ : List A} {rs : List ℕ} {r : ℕ} (l : List ℕ) → rs ≡ ringsPart l → Length (length rs) l′ r → r < 65536
-rings-fit {r = r} l e u = let z : r ≤ length (ringsPart l) = rw e at u .fits in omega (arith, rings-few l)
-
-pub floats-none : (l : List ℕ) (n : ℕ) → n ≡ 0 → 0 ≡ length (groupsIn n (floatsPart l))
-floats-none l n e = rw (e, none-groups (floatsPart l))
-
-pub floats-some : {fs : List ℕ} {a f : ℕ} (l : List ℕ) (n : ℕ) → fs ≡ floatsPart l → Length a (groupsIn n fs) f → f ≡ length (groupsIn n (floatsPart l))
-floats-some l n e u = rw e at u .is
-
-pub rings-none : (l : List ℕ) (n : ℕ) → n ≡ 0 → 0 ≡ length (ringsIn n (ringsPart l))
-rings-none l n e = rw (e, none-rings (ringsPart l))
-
-pub rings-some : {rs : List ℕ} {a r : ℕ} (l : List ℕ) (n : ℕ) → rs ≡ ringsPart l → Length a (ringsIn n rs) r → r ≡ length (ringsIn n (ringsPart l))
-rings-some l n e u = rw e at u .is
-
-pub figures-are : {x : Shape} (l : List ℕ) {t f r : ℕ} → Says (drawnOf x l) t sumOf → f ≡ length (floatsDrawn (drawnOf x l)) → r ≡ length (ringsDrawn (drawnOf x l))
-    → FiguresOf (drawnOf x l) (record { acyl = x .acyl; unlocated = x .unlocated; total = t; «float_count» = f; rings = r })
-figures-are l s u v =
-    record {
-      are =
-          λ ρ d w.
-          record {
-            acyl = w .acyl;
-            unlocated = w .unlocated;
-            total = s .is ρ d w;
-            floats = u ∙ ap length (w .floats);
-            rings = v ∙ ap length (w .rings);
-          };
-    }
+grouped-laid s i r l = strand-laid (s l) i r

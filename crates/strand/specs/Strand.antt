@@ -9,20 +9,18 @@ use Rattle.reading.specs.Piece.{show}
 use Rattle.reading.specs.Chain.{chainEnd}
 use Rattle.reading.specs.Template.{chain, itemPieces}
 use Rattle.chain.specs.declared.Role.{Role}
-use Rattle.chain.specs.Features.{isAcyl, floating, drawnCount}
+use Rattle.chain.specs.Features.{floating, drawnCount}
 use Rattle.chain.specs.Drawing.{chainDrawn, carbons, carbonAtoms, flexibleAtom, atomsEnd}
 use Rattle.drawable.specs.declared.Shape.{Shape}
 use Rattle.drawable.specs.Drawn.{Drawn, drawnOf, Draws}
-use Rattle.carbons.specs.Tokens.{Bare}
+use Rattle.carbons.specs.Tokens.{Grouped}
 use Rattle.branches.specs.Text.{rowsIn}
 use Rattle.fragment.specs.Segment.{Readable}
 use Rattle.atoms.specs.declared.ChainAtoms.{ChainAtoms}
-use Rattle.atoms.specs.Atoms.{indices}
-use Rattle.atoms.specs.Sum.{sumOf}
+use Rattle.ramps.specs.Index.{indices}
 use Rattle.template.specs.Request.{headCarbons}
 use Rattle.placed.specs.Fragment.{Carries}
 use Rattle.strand.specs.declared.Strand.{Strand}
-use Rattle.strand.specs.declared.Figures.{Figures}
 
 -- ---- the indices
 
@@ -73,20 +71,7 @@ pub record StrandOf (ρ : Role) (first l : ℕ) (x : Drawn) (xs : Rooms) (at use
   pub laid : (d : Chain) → Carries ρ d x → l ≤ 247 → Laid ρ d first l xs at used row ys s
   pub sizes : Sizes xs ys
 
--- a chain with these numbers is short, and bare whatever stands in its lists
-pub record BareShape (x : Shape) : Type 0 where
+-- a chain with these numbers and lists is short, and its groups stand in the order of their carbons
+pub record GroupedShape (x : Shape) (l : List ℕ) : Type 0 where
   pub short : x .carbon < 96
-  pub bare : (l : List ℕ) → Bare (drawnOf x l)
-
--- ---- what is kept beside
-
-pub record FiguresAre (r : Role) (d : Chain) (f : Figures) : Type 0 where
-  pub acyl : f .acyl ≡ isAcyl r (d .prefix)
-  pub unlocated : f .unlocated ≡ d .unlocated
-  pub total : f .total ≡ sumOf r d
-  pub floats : f .«float_count» ≡ length (floating d)
-  pub rings : f .rings ≡ length (d .rings)
-
--- of every chain that x draws
-pub record FiguresOf (x : Drawn) (f : Figures) : Type 0 where
-  pub are : (r : Role) (d : Chain) → Draws r d x → FiguresAre r d f
+  pub grouped : Grouped (drawnOf x l)

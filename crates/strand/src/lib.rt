@@ -10,12 +10,12 @@ ghost use mathlib.Core.List.{[], _∷_};
 ghost use Prim.Native.Nat.{ℕ, _+_, _*_, _≤_, _<_};
 ghost use lib.ListN.{length};
 ghost use Rattle.emit.specs.Text.{Written};
-ghost use Rattle.drawable.specs.Drawn.{groupsIn, ringsIn, floatsPart, ringsPart, drawnOf, bondsDrawn, ringsDrawn};
+ghost use Rattle.drawable.specs.Drawn.{groupsIn, drawnOf, bondsDrawn, ringsDrawn};
 ghost use Rattle.carbons.specs.ByCarbon.{BondsBy};
-ghost use Rattle.carbons.specs.Tokens.{tokens, TokensOf, Bare};
-ghost use Rattle.atoms.specs.Atoms.{Counts};
+ghost use Rattle.carbons.specs.Tokens.{tokens, TokensOf, Rising, Grouped};
+ghost use Rattle.loads.specs.Counts.{Counts};
 ghost use Rattle.template.specs.Request.{headCarbons};
-ghost use Rattle.strand.specs.Strand.{headCount, Indexed, rooms, StrandOf, BareShape, FiguresOf};
+ghost use Rattle.strand.specs.Strand.{headCount, Indexed, rooms, StrandOf, GroupedShape};
 
 // A chain that is laid down: the places after its text, its indices and its rows; how many indices it has; and, counted from its first atom, the
 // atoms of its first flexible carbon and of its first floating group, and the atom after its last.
@@ -27,16 +27,6 @@ pub struct Strand {
     pub flexible: u16,
     pub floats: u16,
     pub end: u16,
-}
-
-// What is kept of a chain beside its atoms: whether it is acyl, its double bonds without a position, what its variables add up to, and how many
-// floating groups and rings it has.
-pub struct Figures {
-    pub acyl: bool,
-    pub unlocated: u16,
-    pub total: u16,
-    pub float_count: u16,
-    pub rings: u16,
 }
 
 // The C1 and C2 of a base, which are the template's.
@@ -126,17 +116,37 @@ fn put_laden(
     }
 }
 
-// Carbons 0 to 95, as far as the table of a bare chain goes: nearly every chain is shorter, and a table costs time for each of its bytes, since it
-// is filled with noughts first. A longer chain is laid down as one that may carry anything.
+// Carbons 0 to 95, as far as the table of a short chain goes: nearly every chain is shorter, and a table costs time for each of its bytes, since
+// it is filled with noughts first. A longer chain is laid down as one that may carry anything.
 const SHORT_ROOM: usize = 96;
 
-// Whether a chain is short and carries nothing but double bonds that all have a position and, if it is acyl, the O of its C1.
-fn is_bare(x: Shape) -> bool
-    ensures { λ r. ⌜ (r ≡ true → BareShape x) ⌝ }
+// Whether the groups sit on the carbons from the first drawn one to the last, none before the one named before it.
+fn groups_rise(groups: &[u64], count: usize, first: u16, carbon: u16) -> bool
+    ensures { λ r. ⌜ (r ≡ true → Rising first carbon (groupsIn count (now (groups .entry)))) ⌝ }
 {
-    if x.group_count != 0 {
-        return false;
+    let n = drawable::groups_len(groups, count);
+    let last = carbon as u32;
+    let mut k = first as u32;
+    let mut i = 0;
+    while i < n {
+        let g = drawable::nth_group(groups, count, i);
+        if g.pos < k {
+            return false;
+        }
+        if last < g.pos {
+            return false;
+        }
+        k = g.pos;
+        i += 1;
     }
+    true
+}
+
+// Whether a chain is short and carries nothing but double bonds and groups that all have a position, the groups in the order of their carbons,
+// and, if it is acyl, the O of its C1: as nearly every chain without rings whose name is whole.
+fn is_grouped(x: Shape, part: &[u64]) -> bool
+    ensures { λ r. ⌜ (r ≡ true → GroupedShape x (now (part .entry))) ⌝ }
+{
     if x.ring_count != 0 {
         return false;
     }
@@ -155,21 +165,29 @@ fn is_bare(x: Shape) -> bool
     if x.carbon as usize >= SHORT_ROOM {
         return false;
     }
-    true
+    groups_rise(
+        drawable::groups_part(part),
+        x.group_count,
+        x.first,
+        x.carbon,
+    )
 }
 
 // First atoms below this leave room for the indices of a chain.
 const FIRST_ROOM: u32 = 40000;
 
-// Whether there is room for the text and the indices of a bare chain, none of which can be too large.
+// Room for the first carbon with its O, and for 18 groups of at most 14 bytes.
+const TEXT_ROOM: usize = 260;
+
+// Whether there is room for the text and the indices of such a chain, none of which can be too large.
 fn has_room(carbon: u16, text: usize, at: usize, index: usize, used: usize, first: u32) -> bool
-    ensures { λ r. ⌜ (r ≡ true → (at + (carbon * 2 + 8) ≤ text) × (used + (carbon + 2) ≤ index) × (first < 40000)) ⌝ }
+    ensures { λ r. ⌜ (r ≡ true → (at + (carbon * 2 + 260) ≤ text) × (used + (carbon + 2) ≤ index) × (first < 40000)) ⌝ }
 {
     let n = carbon as usize;
     if text < at {
         return false;
     }
-    if text - at < n * 2 + 8 {
+    if text - at < n * 2 + TEXT_ROOM {
         return false;
     }
     if index < used {
@@ -184,8 +202,8 @@ fn has_room(carbon: u16, text: usize, at: usize, index: usize, used: usize, firs
     true
 }
 
-// The indices of a bare chain.
-fn bare_indices<'a>(
+// The indices of such a chain.
+fn grouped_indices<'a>(
     index: &mut [u16],
     at: usize,
     role: Role,
@@ -194,21 +212,21 @@ fn bare_indices<'a>(
     part: &'a [u64],
     bonds: &'a [u8],
 ) -> ChainAtoms
-    requires { ⌜ Bare (drawnOf x (now part)) ⌝ }
+    requires { ⌜ Grouped (drawnOf x (now part)) ⌝ }
     requires { ⌜ BondsBy (bondsDrawn (drawnOf x (now part))) (ringsDrawn (drawnOf x (now part))) (x .carbon) (now bonds) ⌝ }
     requires { ⌜ (at + (x .carbon + 2) ≤ length (now index)) × (first < 40000) ⌝ }
     ensures { λ r. ⌜ Indexed role first (drawnOf x (now (part .entry))) (now (index .entry)) at (now (index .exit)) r ⌝ }
 {
     let heads = head_count(role);
     let p = put_heads(index, at, role);
-    let mut own = atoms::number_bare(index, p, first, x, part, bonds);
+    let mut own = grouped_atoms::number_grouped(index, p, first, x, part, bonds);
     let count = heads + own.count;
     own.count = count;
     own
 }
 
-// A bare chain, where there is room for it: nothing need be asked of its carbons, and no label is written.
-fn put_bare(
+// Such a chain, where there is room for it: no carbon need be asked what it carries, and no label is written.
+fn put_grouped(
     out: &mut [u8],
     index: &mut [u16],
     rows: &mut [u8],
@@ -220,14 +238,14 @@ fn put_bare(
     role: Role,
     first: u32,
 ) -> Strand
-    requires { ⌜ Bare (drawnOf x (now part)) × (x .carbon < 96) ⌝ }
-    requires { ⌜ (at + (x .carbon * 2 + 8) ≤ length (now out)) × (used + (x .carbon + 2) ≤ length (now index)) × (first < 40000) ⌝ }
+    requires { ⌜ Grouped (drawnOf x (now part)) × (x .carbon < 96) ⌝ }
+    requires { ⌜ (at + (x .carbon * 2 + 260) ≤ length (now out)) × (used + (x .carbon + 2) ≤ length (now index)) × (first < 40000) ⌝ }
     ensures { λ r. ⌜ ((l : ℕ) → StrandOf role first l (drawnOf x (now (part .entry))) (rooms (now (out .entry)) (now (index .entry)) (now (rows .entry))) at used row (rooms (now (out .exit)) (now (index .exit)) (now (rows .exit))) r) ⌝ }
 {
     let mut bonds = [0u8; SHORT_ROOM];
-    carbons::bare_bonds(x, part, &mut bonds);
-    let next = fragment::build_bare(out, at, x, part, &bonds);
-    let own = bare_indices(index, used, role, first, x, part, &bonds);
+    carbons::ringless_bonds(x, part, &mut bonds);
+    let next = grouped_text::build_grouped(out, at, x, part, &bonds);
+    let own = grouped_indices(index, used, role, first, x, part, &bonds);
     let end = branches::put_rows(rows, row, x, part);
     Strand {
         at: next,
@@ -256,45 +274,10 @@ pub fn put_strand(
 ) -> Strand
     ensures { λ r. ⌜ StrandOf role first label (drawnOf x (now (part .entry))) (rooms (now (out .entry)) (now (index .entry)) (now (rows .entry))) at used row (rooms (now (out .exit)) (now (index .exit)) (now (rows .exit))) r ⌝ }
 {
-    if is_bare(x) {
+    if is_grouped(x, part) {
         if has_room(x.carbon, out.len(), at, index.len(), used, first) {
-            return put_bare(out, index, rows, at, used, row, x, part, role, first);
+            return put_grouped(out, index, rows, at, used, row, x, part, role, first);
         }
     }
     put_laden(out, index, rows, at, used, row, x, part, role, first, label)
-}
-
-// How many groups without a position a chain has. Most have none: then their room is not looked for.
-fn float_len(part: &[u64], count: usize) -> u16
-    ensures { λ r. ⌜ r ≡ length (groupsIn count (floatsPart (now (part .entry)))) ⌝ }
-{
-    if count == 0 {
-        return 0;
-    }
-    drawable::groups_len(drawable::floats_part(part), count) as u16
-}
-
-// How many rings it has.
-fn ring_len(part: &[u64], count: usize) -> u16
-    ensures { λ r. ⌜ r ≡ length (ringsIn count (ringsPart (now (part .entry)))) ⌝ }
-{
-    if count == 0 {
-        return 0;
-    }
-    drawable::rings_len(drawable::rings_part(part), count) as u16
-}
-
-pub fn figures_of(x: Shape, part: &[u64]) -> Figures
-    ensures { λ r. ⌜ FiguresOf (drawnOf x (now (part .entry))) r ⌝ }
-{
-    let total = atoms::sum(x, part);
-    let float_count = float_len(part, x.float_count);
-    let rings = ring_len(part, x.ring_count);
-    Figures {
-        acyl: x.acyl,
-        unlocated: x.unlocated,
-        total,
-        float_count,
-        rings,
-    }
 }

@@ -1,10 +1,8 @@
+use mathlib.Core.Path.{refl}
 use Rattle.atoms.proofs.AtomLaws.{busy-counted}
 use borrow.Author.Needs.{needs}
 use Rattle.atoms.proofs.busy_atoms.Statement.{statement}
 use Rattle.atoms.proofs.busy_atoms.Tie as tie
-
-wide-requires : tie.Need-wide-requires
-wide-requires c κs = search needs
 
 bridge-atoms-requires : tie.Need-bridge-atoms-requires
 bridge-atoms-requires c κs = search needs
@@ -13,7 +11,7 @@ add-result : tie.Need-add-result
 add-result c = search needs
 
 returns : tie.Need-returns
-returns c = busy-counted _ _ _ _ _ _ (c .before .before .before .pre) (c .before .wide .ensures) (c .bridge-atoms .ensures)
+returns c = busy-counted _ _ _ _ _ _ (c .before .before .pre) refl (c .bridge-atoms .ensures)
 
 pub busy-atoms-spec : {M : Type 1} → statement M
-busy-atoms-spec = tie.close (tie.spec wide-requires bridge-atoms-requires add-result returns)
+busy-atoms-spec = tie.close (tie.spec bridge-atoms-requires add-result returns)

@@ -2,18 +2,18 @@ use borrow.Author.Needs.{needs}
 use Rattle.strand.proofs.put_strand.Statement.{statement}
 use Rattle.strand.proofs.put_strand.Tie as tie
 
-is-bare-requires : tie.Need-is-bare-requires
-is-bare-requires c κs = search needs
+is-grouped-requires : tie.Need-is-grouped-requires
+is-grouped-requires c κs = search needs
 
 has-room-requires : tie.Need-has-room-requires
 has-room-requires c κs = search needs
 
-put-bare-requires : tie.Need-put-bare-requires
-put-bare-requires c κs =
+put-grouped-requires : tie.Need-put-grouped-requires
+put-grouped-requires c κs =
     let room = c .before .before .before in
-    let bare = room .before .before in
-    let shape = bare .before .is-bare .ensures (bare .if1 .taken) in
-    ((shape .bare _, shape .short), room .before .has-room .ensures (room .if2 .taken))
+    let grouped = room .before .before in
+    let shape = grouped .before .is-grouped .ensures (grouped .if1 .taken) in
+    ((shape .grouped, shape .short), room .before .has-room .ensures (room .if2 .taken))
 
 same-length : tie.Need-same-length
 same-length c = search needs
@@ -25,7 +25,7 @@ same-length-3 : tie.Need-same-length-3
 same-length-3 c = search needs
 
 returns : tie.Need-returns
-returns c = c .before .before .before .before .before .before .put-bare .ensures _
+returns c = c .before .before .before .before .before .before .put-grouped .ensures _
 
 put-laden-requires : tie.Need-put-laden-requires
 put-laden-requires c κs = search needs
@@ -46,9 +46,9 @@ pub put-strand-spec : {M : Type 1} → statement M
 put-strand-spec =
     tie.close
     (tie.spec
-    is-bare-requires
+    is-grouped-requires
     has-room-requires
-    put-bare-requires
+    put-grouped-requires
     same-length
     same-length-2
     same-length-3

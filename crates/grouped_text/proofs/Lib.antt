@@ -1,0 +1,3 @@
+pub mod TextLaws
+pub mod TurnLaws
+pub mod SegmentLaws

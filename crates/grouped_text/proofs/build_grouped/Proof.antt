@@ -1,0 +1,60 @@
+use native.Mathlib.Omega.{arith}
+use Rattle.grouped_text.proofs.SegmentLaws.{grouped-rising, grouped-room, grouped-done}
+use borrow.Author.Needs.{needs}
+use Rattle.grouped_text.proofs.build_grouped.Statement.{statement}
+use Rattle.grouped_text.proofs.build_grouped.Tie as tie
+
+cast-k : tie.Need-cast-k
+cast-k c = search needs
+
+cast-last : tie.Need-cast-last
+cast-last c = search needs
+
+sub-put-carbon : tie.Need-sub-put-carbon
+sub-put-carbon c = search needs
+
+shared-slice-read-put-carbon : tie.Need-shared-slice-read-put-carbon
+shared-slice-read-put-carbon c = search needs
+
+put-carbon-requires : tie.Need-put-carbon-requires
+put-carbon-requires c κs = search needs
+
+put-carbonyl-requires : tie.Need-put-carbonyl-requires
+put-carbonyl-requires c κs = search needs
+
+groups-part-requires : tie.Need-groups-part-requires
+groups-part-requires c κs = search needs
+
+add-put-stretches : tie.Need-add-put-stretches
+add-put-stretches c = search needs
+
+put-stretches-requires : tie.Need-put-stretches-requires
+put-stretches-requires c κs =
+    let second = c .before .before .before .before in
+    let first = second .before .before .before .before in
+    let start = first .before .before .before .before .before .before .before .before in
+    let rising = grouped-rising _ _ (start .pre .0) (c .groups-part .ensures) in
+    let room = grouped-room _ _ (start .pre .0) (c .groups-part .ensures) _ _ (start .pre .1 .1) (first .put-carbon .ensures) (second .put-carbonyl .ensures) in
+    (rising, ((omega arith, omega arith, omega arith, omega arith), room))
+
+same-length : tie.Need-same-length
+same-length c = search needs
+
+returns : tie.Need-returns
+returns c = search grouped-done
+
+pub build-grouped-spec : {M : Type 1} → statement M
+build-grouped-spec =
+    tie.close
+    (tie.spec
+    cast-k
+    cast-last
+    sub-put-carbon
+    shared-slice-read-put-carbon
+    put-carbon-requires
+    put-carbonyl-requires
+    groups-part-requires
+    add-put-stretches
+    put-stretches-requires
+    same-length
+    returns)

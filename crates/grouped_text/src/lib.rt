@@ -1,0 +1,94 @@
+// The text of a chain whose double bonds and groups all have a position, the groups in the order of their carbons, and which has no ring: the
+// carbons are written in runs, each up to the next group.
+use drawable::Shape;
+ghost use mathlib.Core.Path.{_≡_};
+ghost use Prim.Native.Nat.{ℕ, _+_, _-_, _*_, _≤_, _<_};
+ghost use lib.ListN.{length, drop};
+ghost use Rattle.emit.specs.Text.{Written};
+ghost use Rattle.drawable.specs.Drawn.{groupsIn, drawnOf, bondsDrawn, ringsDrawn};
+ghost use Rattle.carbons.specs.Tokens.{Rising, Grouped};
+ghost use Rattle.carbons.specs.ByCarbon.{BondsBy};
+ghost use Rattle.fragment.specs.Segment.{Segment};
+ghost use Rattle.grouped_text.specs.Text.{stopOf, nextText, restText};
+
+// The carbon of the group at a place; past the last group the last carbon.
+fn stop(groups: &[u64], count: usize, i: usize, last: usize) -> usize
+    ensures { λ r. ⌜ r ≡ stopOf (drop i (groupsIn count (now (groups .entry)))) last ⌝ }
+{
+    let n = drawable::groups_len(groups, count);
+    if i < n {
+        let g = drawable::nth_group(groups, count, i);
+        return g.pos as usize;
+    }
+    last
+}
+
+// The group at a place; past the last nothing.
+fn put_nth(out: &mut [u8], at: usize, groups: &[u64], count: usize, i: usize) -> usize
+    ensures { λ r. ⌜ Written (now (out .entry)) at (nextText (drop i (groupsIn count (now (groups .entry))))) (now (out .exit)) r ⌝ }
+{
+    let n = drawable::groups_len(groups, count);
+    if i < n {
+        let g = drawable::nth_group(groups, count, i);
+        return branches::put_group(out, at, g.row);
+    }
+    at
+}
+
+// The carbons from C k on to the last, and the groups on them and on the carbon before. The last run is written by a turn of its own, and not
+// after the loop: so the code of a run stands in one place.
+fn put_stretches<'a>(
+    out: &mut [u8],
+    at: usize,
+    bonds: &'a [u8],
+    groups: &'a [u64],
+    count: usize,
+    k: usize,
+    last: usize,
+) -> usize
+    requires { ⌜ Rising (k - 1) last (groupsIn count (now groups)) ⌝ }
+    requires { ⌜ (1 ≤ k) × (k ≤ last + 1) × (last ≤ 255) × (last < length (now bonds)) ⌝ }
+    requires { ⌜ at + ((last + 1 - k) * 2 + 14 * length (groupsIn count (now groups))) ≤ length (now out) ⌝ }
+    ensures { λ r. ⌜ Written (now (out .entry)) at (restText (now (bonds .entry)) k last (groupsIn count (now (groups .entry)))) (now (out .exit)) r ⌝ }
+{
+    let n = drawable::groups_len(groups, count);
+    let mut p = at;
+    let mut j = k;
+    let mut i = 0;
+    while i <= n {
+        let to = stop(groups, count, i, last);
+        p = runs::put_through(out, p, bonds, j, to);
+        p = put_nth(out, p, groups, count, i);
+        j = to + 1;
+        i += 1;
+    }
+    p
+}
+
+// The text of such a chain, where there is room for it with a bond before each carbon.
+pub fn build_grouped<'a>(
+    out: &mut [u8],
+    at: usize,
+    x: Shape,
+    part: &'a [u64],
+    bonds: &'a [u8],
+) -> usize
+    requires { ⌜ Grouped (drawnOf x (now part)) ⌝ }
+    requires { ⌜ BondsBy (bondsDrawn (drawnOf x (now part))) (ringsDrawn (drawnOf x (now part))) (x .carbon) (now bonds) ⌝ }
+    requires { ⌜ at + (x .carbon * 2 + 260) ≤ length (now out) ⌝ }
+    ensures { λ r. ⌜ ((l : ℕ) → Segment (drawnOf x (now (part .entry))) l (now (out .entry)) at (now (out .exit)) r) ⌝ }
+{
+    let k = x.first as usize;
+    let last = x.carbon as usize;
+    let p = backbone::put_carbon(out, at, bonds[k - 1]);
+    let q = branches::put_carbonyl(out, p, x.acyl, x.first);
+    put_stretches(
+        out,
+        q,
+        bonds,
+        drawable::groups_part(part),
+        x.group_count,
+        k + 1,
+        last,
+    )
+}

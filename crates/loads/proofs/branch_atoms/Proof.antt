@@ -1,0 +1,16 @@
+use Rattle.loads.proofs.Laws.{branch-counted}
+use borrow.Author.Needs.{needs}
+use Rattle.loads.proofs.branch_atoms.Statement.{statement}
+use Rattle.loads.proofs.branch_atoms.Tie as tie
+
+row-atoms-requires : tie.Need-row-atoms-requires
+row-atoms-requires c κs = search needs
+
+wide-requires : tie.Need-wide-requires
+wide-requires c κs = search needs
+
+returns : tie.Need-returns
+returns c = search branch-counted
+
+pub branch-atoms-spec : {M : Type 1} → statement M
+branch-atoms-spec = tie.close (tie.spec row-atoms-requires wide-requires returns)

@@ -1,0 +1,66 @@
+-- Laws of what is kept of a chain beside its atoms. Assumes nothing.
+use Prim.Native.Nat.{ℕ, _-_, _≤_, _<_}
+use native.Mathlib.Omega.{arith}
+use mathlib.Core.Path.{_≡_, refl, ap, _∙_}
+use mathlib.Core.List.{List, [], _∷_}
+use lib.ListN.{length}
+use Rattle.chain.specs.Features.{remaining}
+use Rattle.drawable.proofs.Parts.{floats-few, rings-few}
+use Rattle.drawable.specs.declared.Shape.{Shape}
+use Rattle.drawable.specs.Drawn.{Drawn, Length, groupsIn, ringsIn, floatsPart, ringsPart, drawnOf, floatsDrawn, ringsDrawn, Says}
+use Rattle.totals.specs.Sum.{sumOf}
+use Rattle.totals.specs.Totals.{FiguresOf}
+
+-- ---- the sum of its variables
+
+pub sum-none : (x : Drawn) (m : ℕ) → Says x m remaining → m ≤ x .unlocated → Says x 0 sumOf
+sum-none x m s h = record { is = λ r d w. omega (arith, s .is r d w, w .unlocated) }
+
+pub sum-some : (x : Drawn) (m : ℕ) → Says x m remaining → x .unlocated < m → Says x (m - x .unlocated - 1) sumOf
+sum-some x m s h = record { is = λ r d w. omega (arith, s .is r d w, w .unlocated) }
+
+-- ---- its floating groups and rings
+
+none-groups : (l : List ℕ) → groupsIn 0 l ≡ []
+unfolding groupsIn
+none-groups [] = refl
+none-groups (n ∷ l) = refl
+
+none-rings : (l : List ℕ) → ringsIn 0 l ≡ []
+unfolding ringsIn
+none-rings [] = refl
+none-rings (n ∷ l) = refl
+
+-- their numbers are small
+pub floats-fit : {A : Type 0} {l′ : List A} {fs : List ℕ} {f : ℕ} (l : List ℕ) → fs ≡ floatsPart l → Length (length fs) l′ f → f < 65536
+floats-fit {f = f} l e u = let z : f ≤ length (floatsPart l) = rw e at u .fits in omega (arith, floats-few l)
+
+pub rings-fit : {A : Type 0} {l′ : List A} {rs : List ℕ} {r : ℕ} (l : List ℕ) → rs ≡ ringsPart l → Length (length rs) l′ r → r < 65536
+rings-fit {r = r} l e u = let z : r ≤ length (ringsPart l) = rw e at u .fits in omega (arith, rings-few l)
+
+pub floats-none : (l : List ℕ) (n : ℕ) → n ≡ 0 → 0 ≡ length (groupsIn n (floatsPart l))
+floats-none l n e = rw (e, none-groups (floatsPart l))
+
+pub floats-some : {fs : List ℕ} {a f : ℕ} (l : List ℕ) (n : ℕ) → fs ≡ floatsPart l → Length a (groupsIn n fs) f → f ≡ length (groupsIn n (floatsPart l))
+floats-some l n e u = rw e at u .is
+
+pub rings-none : (l : List ℕ) (n : ℕ) → n ≡ 0 → 0 ≡ length (ringsIn n (ringsPart l))
+rings-none l n e = rw (e, none-rings (ringsPart l))
+
+pub rings-some : {rs : List ℕ} {a r : ℕ} (l : List ℕ) (n : ℕ) → rs ≡ ringsPart l → Length a (ringsIn n rs) r → r ≡ length (ringsIn n (ringsPart l))
+rings-some l n e u = rw e at u .is
+
+pub figures-are : {x : Shape} (l : List ℕ) {t f r : ℕ} → Says (drawnOf x l) t sumOf → f ≡ length (floatsDrawn (drawnOf x l)) → r ≡ length (ringsDrawn (drawnOf x l))
+    → FiguresOf (drawnOf x l) (record { acyl = x .acyl; unlocated = x .unlocated; total = t; «float_count» = f; rings = r })
+figures-are l s u v =
+    record {
+      are =
+          λ ρ d w.
+          record {
+            acyl = w .acyl;
+            unlocated = w .unlocated;
+            total = s .is ρ d w;
+            floats = u ∙ ap length (w .floats);
+            rings = v ∙ ap length (w .rings);
+          };
+    }
