@@ -4,7 +4,7 @@ use Prim.Native.Nat.{ℕ}
 use mathlib.Core.Path.{_≡_}
 use mathlib.Core.List.{[]}
 use Rattle.listing.specs.declared.Lists.{Lists}
-use Rattle.listing.specs.declared.Sites.{Sites}
+use Rattle.sn_sites.specs.declared.Sites.{Sites}
 use Rattle.answer.specs.Answer.{listsOf, sitesOf, refusal}
 
 -- a refusal

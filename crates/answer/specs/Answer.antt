@@ -14,7 +14,7 @@ use Rattle.template.specs.declared.Class.{Class}
 use Rattle.template.specs.Request.{placed, bySn, snSites, lineOf, indexOf}
 use Rattle.listing.specs.declared.Listed.{Listed}
 use Rattle.listing.specs.declared.Lists.{Lists}
-use Rattle.listing.specs.declared.Sites.{Sites}
+use Rattle.sn_sites.specs.declared.Sites.{Sites}
 use Rattle.rising.specs.Four.{four}
 use Rattle.listing.specs.Sites.{noSite}
 use Rattle.listing.specs.Lists.{noList, listOf}

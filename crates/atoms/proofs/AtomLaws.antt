@@ -30,7 +30,7 @@ use Rattle.carbons.proofs.TokenLaws.{length-values}
 use Rattle.fragment.proofs.RangeLaws.{or-left, or-right, no-groups, no-carbonyl}
 use Rattle.carbons.proofs.Loads.{not-busy}
 use Rattle.carbons.proofs.Left.{Left, left-all, left-less, left-none, left-length}
-use Rattle.fragment.proofs.TextLaws.{branch-size, sitting-past}
+use Rattle.fragment.proofs.TextLaws.{branch-size, sitting-first, sitting-past}
 use Rattle.loads.proofs.Laws.{carbonyl-one, carbonyl-zero, carbonyl-not}
 
 -- ---- counts that start elsewhere
@@ -71,10 +71,6 @@ parts-end-append n [] qs = refl
 parts-end-append n (p ∷ ps) qs = parts-end-append (n + p .size) ps qs
 
 -- ---- the groups of a carbon
-
-sitting-first : (k : ℕ) (g : Mod) (gs : List Mod) → g .pos ≡ k → sitting k (g ∷ gs) ≡ g ∷ sitting k gs
-unfolding sitting only
-sitting-first k g gs e = rw (eq-eqb (g .pos) k e)
 
 pub parts-plus : (a : ℕ) (ps : List Part) → partsEnd a ps ≡ a + partsEnd 0 ps
 parts-plus a ps =

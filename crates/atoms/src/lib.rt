@@ -80,7 +80,7 @@ fn idle_four(busy: &[u8], k: usize, last: usize) -> bool
     if k + 3 > last {
         return false;
     }
-    if runs::word(busy, k) == 0 {
+    if fours::word(busy, k) == 0 {
         return true;
     }
     false

@@ -15,9 +15,9 @@ use Rattle.emit.specs.Text.{Written}
 use Rattle.emit.proofs.Laws.{written-append, written-nil}
 use Rattle.form.specs.Parts.{partsAt}
 use Rattle.form.proofs.Laws.{parts-last, parts-more}
-use Rattle.sheet.specs.Cells.{LineCut}
+use Rattle.cutting.specs.Cut.{LineCut}
 use Rattle.sheet.specs.Sheet.{requestOf}
-use Rattle.cells.specs.declared.Line.{Line}
+use Rattle.cutting.specs.declared.Line.{Line}
 use Rattle.header.specs.declared.Plan.{Plan}
 use Rattle.tally.specs.declared.Counts.{Counts}
 use Rattle.beginning.specs.declared.Answered.{Answered}

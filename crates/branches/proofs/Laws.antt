@@ -25,6 +25,7 @@ use Rattle.chain.specs.Drawing.{orNone, branchPart, branches}
 use Rattle.branches.specs.Text.{branchText, groupText, sitting, groupsText, floatText, floatsText, carbonylOf, carbonylText, rowsIn, RowsPut}
 use Rattle.drawable.specs.declared.Shape.{Shape}
 use Rattle.drawable.specs.Drawn.{groupsIn, Length, noGroup, floatsPart, drawnOf}
+use Rattle.carbons.specs.Tokens.{Rising}
 use Rattle.carbons.proofs.Fronts.{next-of, none-left}
 use Rattle.carbons.proofs.Loads.{past}
 use Rattle.carbons.proofs.Left.{Left, left-less, left-same, left-none, written-three}
@@ -114,6 +115,17 @@ sitting-here k g gs e = rw (eq-eqb (g .pos) k e) (parts-cons (branchPart (g .row
 pub sitting-past : (k : ℕ) (g : Mod) (gs : List Mod) → (g .pos ≡ k → ⊥) → sitting k (g ∷ gs) ≡ sitting k gs
 unfolding sitting only
 sitting-past k g gs e = rw (ne-eqb (g .pos) k e)
+
+pub sitting-first : (k : ℕ) (g : Mod) (gs : List Mod) → g .pos ≡ k → sitting k (g ∷ gs) ≡ g ∷ sitting k gs
+unfolding sitting only
+sitting-first k g gs e = rw (eq-eqb (g .pos) k e)
+
+-- nothing sits before the first of groups that rise
+pub sitting-before : (k b c : ℕ) (gs : List Mod) → Rising b c gs → k < b → sitting k gs ≡ []
+unfolding sitting only
+sitting-before k b c [] r h = refl
+sitting-before k b c (g ∷ gs) r h =
+    sitting-past k g gs (λ e. omega (arith, r .0)) ∙ sitting-before k (g .pos) c gs (r .2) (omega (arith, r .0))
 
 pub sitting-none : (k : ℕ) → groupsText (sitting k []) ≡ []
 unfolding groupsText sitting only branches partPieces show

@@ -7,7 +7,7 @@ use lib.ListN.{getD}
 use Rattle.shown.specs.declared.Site.{Site}
 use Rattle.listing.specs.declared.Listed.{Listed}
 use Rattle.listing.specs.declared.Lists.{Lists}
-use Rattle.listing.specs.declared.Sites.{Sites}
+use Rattle.sn_sites.specs.declared.Sites.{Sites}
 use Rattle.listing.specs.Lists.{noList}
 use Rattle.listing.specs.Sites.{noSite}
 use Rattle.judge.specs.Verdict.{Verdict}

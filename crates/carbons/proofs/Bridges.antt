@@ -13,6 +13,7 @@ use lib.Seq.{getD-take, getD-set-same, getD-set-other, set-out}
 use Rattle.record.specs.declared.Geometry.{Geometry}
 use Rattle.record.specs.declared.Geometry.the-variants.{Unstated, Cis, Trans}
 use Rattle.record.specs.declared.DbPos.{DbPos}
+use Rattle.record.specs.declared.Ring.{Ring}
 use Rattle.chain.specs.Lists.{anyOf}
 use Rattle.chain.specs.Bonds.{empty, up, plainBond, plainBonds, geometryAt, openMark, opensDown, closeByte, closeMark, markBond, markFrom}
 use Rattle.carbons.specs.ByCarbon.{BondsBy}
@@ -55,15 +56,24 @@ mark-stands c Unstated p ks k h = h
 mark-stands c Cis p ks k h = mark-opens p ks k (mark-closes c false p (openMark p ks) k h)
 mark-stands c Trans p ks k h = mark-opens p ks k (mark-closes c true p (openMark p ks) k h)
 
-pub marks-stand : (c : ℕ) (bs : List DbPos) (p n : ℕ) (ks : List ℕ) (k : ℕ) → getD (markFrom c bs p n ks) k 0 ≡ 79 → getD ks k 0 ≡ 79
+marks-stand : (c : ℕ) (bs : List DbPos) (p n : ℕ) (ks : List ℕ) (k : ℕ) → getD (markFrom c bs p n ks) k 0 ≡ 79 → getD ks k 0 ≡ 79
 unfolding markFrom
 marks-stand c bs p zero ks k h = h
 marks-stand c bs p (suc n) ks k h =
     mark-stands c (geometryAt p bs) p ks k (marks-stand c bs (suc p) n (markBond c (geometryAt p bs) p ks) k h)
 
--- ---- no ring at all
+-- ---- no bridge
 
-plain-other : (b : Bool) → _≡_ {A = ℕ} (cond b 61 0) 79 → ⊥
+-- a bond that is none before any mark is none after
+pub unbridged : {rs : List Ring} {bs : List DbPos} {c : ℕ} {ks : List ℕ} (k : ℕ) → BondsBy bs rs c ks → c ≤ 255 → k ≤ c → (plainBond bs rs k ≡ 79 → ⊥) → getD ks k 0 ≡ 79 → ⊥
+unfolding plainBonds
+unbridged {rs} {bs} {c} {ks} k b h g n e =
+    let m : getD (markFrom c bs 1 c (plainBonds bs rs c)) k 0 ≡ 79
+    = ap (λ (l : List ℕ). getD l k 0) (sym (b .are h)) ∙ (getD-take (suc c) ks k 0 (omega arith) ∙ e) in
+    let v : getD (plainBonds bs rs c) k 0 ≡ plainBond bs rs k = rw (zero-add k) at (values-at (plainBond bs rs) 0 (suc c) k 0 (omega arith)) in
+    n (sym v ∙ marks-stand c bs 1 c (plainBonds bs rs c) k m)
+
+pub plain-other : (b : Bool) → _≡_ {A = ℕ} (cond b 61 0) 79 → ⊥
 plain-other true e = omega arith
 plain-other false e = omega arith
 
@@ -71,10 +81,6 @@ plain-ringless : (bs : List DbPos) (k : ℕ) → plainBond bs [] k ≡ 79 → �
 unfolding plainBond anyOf
 plain-ringless bs k h = plain-other (anyOf (λ b. eqb (b .pos) k) bs) h
 
+-- no ring at all
 pub ringless-bridge : {bs : List DbPos} {c : ℕ} {ks : List ℕ} (k : ℕ) → BondsBy bs [] c ks → c ≤ 255 → k ≤ c → getD ks k 0 ≡ 79 → ⊥
-unfolding plainBonds
-ringless-bridge {bs} {c} {ks} k b h g e =
-    let m : getD (markFrom c bs 1 c (plainBonds bs [] c)) k 0 ≡ 79
-    = ap (λ (l : List ℕ). getD l k 0) (sym (b .are h)) ∙ (getD-take (suc c) ks k 0 (omega arith) ∙ e) in
-    let v : getD (plainBonds bs [] c) k 0 ≡ plainBond bs [] k = rw (zero-add k) at (values-at (plainBond bs []) 0 (suc c) k 0 (omega arith)) in
-    plain-ringless bs k (sym v ∙ marks-stand c bs 1 c (plainBonds bs [] c) k m)
+ringless-bridge {bs} k b h g e = unbridged k b h g (plain-ringless bs k) e

@@ -1,7 +1,8 @@
 -- The chains of a request as they are drawn. Assumes nothing.
-use Prim.Native.Nat.{ℕ, _-_, _*_}
+use Prim.Native.Nat.{ℕ}
 use mathlib.Core.List.{List, [], _∷_}
 use lib.ListN.{take, drop}
+unfoldable pub use Rattle.ranges.specs.Ranges.{partOf}
 use Rattle.drawable.specs.declared.Shape.{Shape}
 use Rattle.drawable.specs.Drawn.{Drawn, drawnOf}
 
@@ -13,10 +14,6 @@ pub record Chains : Type 0 where
 -- those that count
 unfoldable pub drawnIn : Chains → List Drawn
 drawnIn x = take (x .count) (x .items)
-
--- the part of the chain with an sn
-unfoldable pub partOf : ℕ → List ℕ → List ℕ
-partOf sn l = take 77 (drop (77 * (sn - 1)) l)
 
 -- the chains of numbers and parts, one by one
 unfoldable pub itemsOf : List Shape → List ℕ → List Drawn

@@ -4,7 +4,7 @@ use mathlib.Core.Path.{_≡_}
 use mathlib.Core.List.{List, map}
 use mathlib.Core.Bool.{Bool}
 use lib.Dec.{eqb}
-use lib.ListN.{length, take, drop}
+use lib.ListN.{length, take}
 use Rattle.record.specs.declared.Geometry.the-variants.{Unstated}
 use Rattle.record.specs.declared.Bridge.the-variants.{Epoxide}
 use Rattle.record.specs.declared.DbPos.{DbPos}
@@ -16,6 +16,7 @@ use Rattle.parsed.specs.declared.ParsedChain.{ParsedChain}
 use Rattle.chain.specs.declared.Role.{Role}
 use Rattle.chain.specs.Features.{firstDrawn, isAcyl, doubles, groupsOn, floating}
 use Rattle.chain.specs.Refusals.{etherBase}
+unfoldable pub use Rattle.ranges.specs.Ranges.{bondsPart, groupsPart, floatsPart, ringsPart}
 use Rattle.drawable.specs.declared.Shape.{Shape}
 
 -- what an array of numbers with a count holds
@@ -73,19 +74,6 @@ pub record Drawn : Type 0 where
   pub groups : List ℕ
   pub floats : List ℕ
   pub rings : List ℕ
-
--- the rooms of the lists in the part of a chain
-unfoldable pub bondsPart : List ℕ → List ℕ
-bondsPart l = take 33 l
-
-unfoldable pub groupsPart : List ℕ → List ℕ
-groupsPart l = take 18 (drop 33 l)
-
-unfoldable pub floatsPart : List ℕ → List ℕ
-floatsPart l = take 18 (drop 51 l)
-
-unfoldable pub ringsPart : List ℕ → List ℕ
-ringsPart l = take 8 (drop 69 l)
 
 -- the drawn chain that numbers of the code and a part say
 abbrev pub drawnOf : Shape → List ℕ → Drawn

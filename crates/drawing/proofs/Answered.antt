@@ -24,7 +24,7 @@ use Rattle.rising.specs.Order.{placesIn, picked}
 use Rattle.rising.proofs.Picked.{picked-few}
 use Rattle.listing.specs.declared.Listed.{Listed}
 use Rattle.listing.specs.declared.Lists.{Lists}
-use Rattle.listing.specs.declared.Sites.{Sites}
+use Rattle.sn_sites.specs.declared.Sites.{Sites}
 use Rattle.listing.specs.Lists.{noList, listOf, listIn, listsAt, ListsHeld}
 use Rattle.listing.specs.Sites.{allSiteList, SitesAre}
 use Rattle.listing.proofs.PlacedLaws.{sns-told, places-few, sites-placed}

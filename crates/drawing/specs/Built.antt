@@ -12,7 +12,7 @@ use Rattle.placed.specs.declared.Placed.{Placed}
 use Rattle.placed.specs.Fragment.{noted, gathered}
 use Rattle.rising.specs.declared.Rising.{Rising}
 use Rattle.rising.specs.Order.{InOrder}
-use Rattle.listing.specs.declared.Sites.{Sites}
+use Rattle.sn_sites.specs.declared.Sites.{Sites}
 use Rattle.listing.specs.Sites.{allSiteList, SitesAre}
 
 -- the line of the chains ds was written into vs, which is then zs, and ends at a place; a number of places of l are those of its chains, by

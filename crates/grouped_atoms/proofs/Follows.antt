@@ -6,13 +6,12 @@ use mathlib.Core.Path.{_≡_, refl, ap, _∙_}
 use mathlib.Core.Bool.{false}
 use mathlib.Core.List.{List, [], _∷_, _++_, append-assoc}
 use lib.ListN.{length}
-use borrow.Author.Tests.{eq-eqb}
 use Rattle.record.specs.declared.Mod.{Mod}
 use Rattle.reading.specs.Chain.{Carbon, partsEnd, bridgeEnd, carbonEnd, chainEnd}
 use Rattle.chain.specs.Lists.{only, valuesFrom}
 use Rattle.chain.specs.Drawing.{branchPart, branches}
 use Rattle.fragment.specs.Text.{sitting}
-use Rattle.fragment.proofs.TextLaws.{sitting-past}
+use Rattle.branches.proofs.Laws.{sitting-first, sitting-past, sitting-before}
 use Rattle.carbons.specs.Tokens.{Rising}
 use Rattle.carbons.proofs.TokenLaws.{length-values}
 use Rattle.ramps.specs.Index.{ups}
@@ -48,17 +47,6 @@ follows-append {n} {cs = cs} {ds} u v =
     }
 
 -- ---- the groups of a carbon
-
-sitting-first : (k : ℕ) (g : Mod) (gs : List Mod) → g .pos ≡ k → sitting k (g ∷ gs) ≡ g ∷ sitting k gs
-unfolding sitting only
-sitting-first k g gs e = rw (eq-eqb (g .pos) k e)
-
--- none sits before the first
-sitting-before : (k j c : ℕ) (gs : List Mod) → Rising j c gs → k < j → sitting k gs ≡ []
-unfolding sitting only
-sitting-before k j c [] r h = refl
-sitting-before k j c (g ∷ gs) r h =
-    sitting-past k g gs (λ e. omega (arith, r .0)) ∙ sitting-before k (g .pos) c gs (r .2) (omega (arith, r .0))
 
 no-branches : (n : ℕ) → partsEnd n (branches []) ≡ n
 unfolding branches partsEnd

@@ -25,7 +25,7 @@ use Rattle.ramps.proofs.Runs.{indices-small}
 use Rattle.loads.specs.Counts.{Counts}
 use Rattle.atoms.specs.Atoms.{literalOf, AtomsOf}
 use Rattle.atoms.proofs.AtomLaws.{parts-plus, parts-end-append}
-use Rattle.atoms.proofs.Bridges.{ringless-bridge}
+use Rattle.carbons.proofs.Bridges.{ringless-bridge}
 use Rattle.atoms.proofs.NumberLaws.{literal-alone}
 use Rattle.grouped_atoms.specs.declared.Reached.{Reached}
 use Rattle.grouped_atoms.specs.Groups.{groupStarts, groupEnd, groupCarbon, Fits, GroupsNumbered}

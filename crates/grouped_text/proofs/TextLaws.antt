@@ -5,7 +5,7 @@ use native.Mathlib.Nat.{add-zero, suc-add}
 use native.Mathlib.Numerals.{add-one}
 use native.Mathlib.Decide.{ℕ-discrete}
 use native.Mathlib.Omega.{arith}
-use mathlib.Core.Path.{_≡_, refl, ap, _∙_}
+use mathlib.Core.Path.{_≡_, refl, sym, ap, _∙_}
 use mathlib.Core.Bool.{Bool, true, false}
 use mathlib.Core.List.{List, [], _∷_, _++_, append-nil, append-assoc}
 use lib.ListN.{getD}
@@ -17,7 +17,7 @@ use Rattle.chain.specs.Drawing.{ringPairs}
 use Rattle.carbons.specs.Tokens.{Rising}
 use Rattle.labels.specs.Text.{labelsText}
 use Rattle.branches.specs.Text.{groupText, sitting, groupsText, carbonylOf, carbonylText}
-use Rattle.branches.proofs.Laws.{sitting-here, sitting-past, sitting-none}
+use Rattle.branches.proofs.Laws.{sitting-here, sitting-past, sitting-before, sitting-none}
 use Rattle.backbone.specs.Text.{carbonText, bridgeText}
 use Rattle.runs.specs.Links.{linkText, linksText}
 use Rattle.fragment.specs.Text.{featuresText, carbonsText}
@@ -42,12 +42,8 @@ no-bridge-text : (b : ℕ) → (b ≡ 79 → ⊥) → bridgeText b ≡ []
 unfolding bridgeText bridgePieces show
 no-bridge-text b h = rw (ne-eqb b 79 h)
 
--- nothing sits before the first of groups that rise
-sitting-before : (k b c : ℕ) (gs : List Mod) → Rising b c gs → k < b → groupsText (sitting k gs) ≡ []
-sitting-before k b c [] w h = sitting-none k
-sitting-before k b c (g ∷ gs) w h =
-    let low : b ≤ g .pos = w .0 in
-    ap groupsText (sitting-past k g gs (λ e. omega arith)) ∙ sitting-before k (g .pos) c gs (w .2) (omega arith)
+nothing-before : (k b c : ℕ) (gs : List Mod) → Rising b c gs → k < b → groupsText (sitting k gs) ≡ []
+nothing-before k b c gs r h = ap groupsText (sitting-before k b c gs r h ∙ sym (sitting-before k b c [] tt h)) ∙ sitting-none k
 
 -- ---- a run, and what follows it
 
@@ -136,10 +132,10 @@ module _ (acyl : Bool) (ks : List ℕ) (gs : List Mod) (l c : ℕ) (last : getD 
         let y : j + suc n ≡ g .pos = omega arith in
         let x : g .pos + 1 - (j + 1) ≡ suc n = omega arith in
         let up : Rising (g .pos) c (g ∷ hs) = (omega arith, d, w) in
-        let free : (k : ℕ) → j < k → k ≤ j + n → groupsText (sitting k gs) ≡ [] = λ k p q. ap groupsText (u k p) ∙ sitting-before k (g .pos) c (g ∷ hs) up (omega arith) in
+        let free : (k : ℕ) → j < k → k ≤ j + n → groupsText (sitting k gs) ≡ [] = λ k p q. ap groupsText (u k p) ∙ nothing-before k (g .pos) c (g ∷ hs) up (omega arith) in
         let v : Unwritten (g .pos) hs = λ k p. u k (omega arith) ∙ sitting-past k g hs (λ q. omega arith) in
         rw (
-          sitting-before j (g .pos) c (g ∷ hs) up b,
+          nothing-before j (g .pos) c (g ∷ hs) up b,
           z,
           run-next acyl ks gs l j n m a free,
           y,

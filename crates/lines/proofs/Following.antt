@@ -22,7 +22,7 @@ use Rattle.placed.specs.declared.Placed.{Placed}
 use Rattle.placed.specs.Fragment.{noted, rowsOf, gathered, Told}
 use Rattle.placed.specs.Notes.{chainsIn}
 use Rattle.placed.proofs.Laws.{index-lists}
-use Rattle.listing.specs.declared.Sites.{Sites}
+use Rattle.sn_sites.specs.declared.Sites.{Sites}
 use Rattle.listing.specs.Sites.{sitesAt, SitesHeld, allSiteList, SitesAre}
 use Rattle.listing.specs.Order.{placesIn, InOrder}
 use Rattle.listing.proofs.SitesLaws.{sites-in-order, placed-sites}

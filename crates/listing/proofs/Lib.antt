@@ -1,3 +1,3 @@
-pub mod PlacedLaws
+pub use Rattle.sn_sites.proofs.PlacedLaws
+pub use Rattle.sn_sites.proofs.SitesLaws
 pub mod ListsLaws
-pub mod SitesLaws

@@ -19,6 +19,7 @@ use Rattle.rising.proofs.FourLaws.{filled-none, added-more}
 use Rattle.rising.proofs.OrderLaws.{take-places}
 use Rattle.rising.proofs.Picked.{picked-here, picked-past}
 use Rattle.rising.proofs.Sorted.{in-order}
+use Rattle.sn_sites.proofs.SitesLaws.{first-alone, first-two}
 use Rattle.listing.specs.declared.Listed.{Listed}
 use Rattle.listing.specs.Lists.{noList, listOf, listIn, listsAt}
 
@@ -53,10 +54,6 @@ list-here ps k p d m h e = lists-more ps (k ∷ 0 ∷ 0 ∷ 0 ∷ []) 0 1 0 (rep
 pub list-past : (ps : List Placed) (k : ℕ) → length ps ≡ 4 → 4 ≤ k → Filled noList (listsAt ps (k ∷ [])) 0 (replicate 4 noList)
 list-past ps k m h = lists-past ps (k ∷ 0 ∷ 0 ∷ 0 ∷ []) 0 1 0 (replicate 4 noList) m refl (omega arith) (omega arith) h (lists-first ps)
 
-pub first-alone : (l : List ℕ) → 0 < length l → take 1 l ≡ getD l 0 0 ∷ []
-first-alone [] h = absurd (omega arith)
-first-alone (x ∷ l) h = refl
-
 pub list-alone : (ps : List Placed) (l : List ℕ) (n count q : ℕ) (xs : List Listed) → length l ≡ 4 → n ≡ min count 4 → n ≡ 1 → Filled noList (listsAt ps (getD l 0 0 ∷ [])) q xs
     → Filled noList (listsAt ps (take count l)) q xs
 list-alone ps l n count q xs k e f h = rw (← take-places l 4 count n k e, f, first-alone l (omega arith)) h
@@ -71,11 +68,6 @@ pub lists-here : (ps : List Placed) (a b : ℕ) (x y : Listed) (d : Placed) → 
 lists-here ps a b x y d m h g e f =
     let one : Filled noList (listsAt ps (a ∷ [])) 1 (x ∷ noList ∷ noList ∷ noList ∷ []) = rw e (list-here ps a (getD ps a d) d m h refl) in
     rw f (lists-more ps (a ∷ b ∷ 0 ∷ 0 ∷ []) 1 2 1 (x ∷ noList ∷ noList ∷ noList ∷ []) (getD ps b d) d m refl (omega arith) (omega arith) g (omega arith) refl one)
-
-pub first-two : (l : List ℕ) → 1 < length l → take 2 l ≡ getD l 0 0 ∷ getD l 1 0 ∷ []
-first-two [] h = absurd (omega arith)
-first-two (x ∷ []) h = absurd (omega arith)
-first-two (x ∷ y ∷ l) h = refl
 
 pub lists-both : (ps : List Placed) (l : List ℕ) (n count q : ℕ) (xs : List Listed) → length l ≡ 4 → n ≡ min count 4 → n ≡ 2 → Filled noList (listsAt ps (getD l 0 0 ∷ getD l 1 0 ∷ [])) q xs
     → Filled noList (listsAt ps (take count l)) q xs

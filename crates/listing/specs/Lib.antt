@@ -1,4 +1,4 @@
 pub use Rattle.rising.specs.Four
 pub use Rattle.rising.specs.Order
-pub mod Sites
+pub use Rattle.sn_sites.specs.Sites
 pub mod Lists

@@ -18,7 +18,6 @@ use Rattle.shown.proofs.Laws.{part-more}
 use Rattle.listing.specs.declared.Listed.{Listed}
 use Rattle.heads.specs.Text.{ended, tabbed, Carbons, chainText, chainsText, headText, rowText}
 use Rattle.rows.specs.Chains.{carbonsOf}
-use Rattle.rows.specs.Near.{Pairs}
 
 -- ---- texts
 
@@ -109,8 +108,3 @@ pub row-text : {xs ys zs ws vs : List ℕ} {a p q r s : ℕ} (answer token : ℕ
 unfolding rowText headText tabbed ended joined led
 row-text answer token line cs g w u v t =
     simp (append-assoc, append-nil) (simp append-assoc at (written-append g (written-append g (written-append g w u) v) t))
-
--- ---- the empty table
-
-pub no-pairs : (xs : List ℕ) → Pairs (take (0 - 0) xs)
-no-pairs xs = record { pair = λ k i l. absurd (omega arith) }

@@ -103,9 +103,10 @@ module _ (ks : List ℕ) (k : ℕ) (h : 1 ≤ k) where
       let g : getD ks (k - 1 + 3) 0 ≡ 0 = omega arith in
       rw (links-four, a, b, d, g, link-empty) v
 
-  pub four-linked : {xs ys zs : List ℕ} {at p q : ℕ} → length xs < 2 ^ 64 → Written xs at (linkText (getD ks (k - 1) 0) ++ linkText (getD ks (k - 1 + 1) 0)) ys p
-      → Written ys p (linkText (getD ks (k - 1 + 2) 0) ++ linkText (getD ks (k - 1 + 3) 0)) zs q → Written xs at (linksText ks k 4) zs q
-  four-linked g v w = rw links-four (written-append g v w)
+  pub four-linked : {xs ys : List ℕ} {at p : ℕ}
+      → Written xs at ((linkText (getD ks (k - 1) 0) ++ linkText (getD ks (k - 1 + 1) 0)) ++ (linkText (getD ks (k - 1 + 2) 0) ++ linkText (getD ks (k - 1 + 3) 0))) ys p
+      → Written xs at (linksText ks k 4) ys p
+  four-linked v = rw links-four v
 
 -- ---- how far they are written
 

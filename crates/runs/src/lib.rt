@@ -13,20 +13,6 @@ pub struct Reached {
     pub carbon: usize,
 }
 
-fn wide(x: u8) -> u32
-    ensures { λ r. ⌜ (r ≡ x) × (r < 256) ⌝ }
-{
-    x as u32
-}
-
-// Four bytes as one number, which is 0 exactly if each of them is: one load and one test in place of four.
-pub fn word(xs: &[u8], i: usize) -> u32
-    requires { ⌜ i + 3 < length (now xs) ⌝ }
-    ensures { λ r. ⌜ r ≡ getD (now (xs .entry)) i 0 + getD (now (xs .entry)) (i + 1) 0 * 256 + getD (now (xs .entry)) (i + 2) 0 * 65536 + getD (now (xs .entry)) (i + 3) 0 * 16777216 ⌝ }
-{
-    wide(xs[i]) + wide(xs[i + 1]) * 256 + wide(xs[i + 2]) * 65536 + wide(xs[i + 3]) * 16777216
-}
-
 // The place after a bond's own byte: an empty bond has none.
 fn past_bond(at: usize, bond: u8) -> usize
     requires { ⌜ at < 18446744073709551615 ⌝ }
@@ -66,17 +52,25 @@ fn put_plain(out: &mut [u8], at: usize) -> usize
     at + 4
 }
 
+// Four carbons, each after the bond before it: the bonds stand from i on.
+fn put_marked<'a>(out: &mut [u8], at: usize, bonds: &'a [u8], i: usize) -> usize
+    requires { ⌜ (at + 8 ≤ length (now out)) × (i + 3 < length (now bonds)) ⌝ }
+    ensures { λ r. ⌜ Written (now (out .entry)) at ((linkText (getD (now (bonds .entry)) i 0) ++ linkText (getD (now (bonds .entry)) (i + 1) 0)) ++ (linkText (getD (now (bonds .entry)) (i + 2) 0) ++ linkText (getD (now (bonds .entry)) (i + 3) 0))) (now (out .exit)) r ⌝ }
+{
+    let p = put_two(out, at, bonds[i], bonds[i + 1]);
+    put_two(out, p, bonds[i + 2], bonds[i + 3])
+}
+
 // The four carbons from C k on, each after the bond before it.
 fn put_four<'a>(out: &mut [u8], at: usize, bonds: &'a [u8], k: usize) -> usize
     requires { ⌜ (at + 8 ≤ length (now out)) × (1 ≤ k) × (k + 2 < length (now bonds)) ⌝ }
     ensures { λ r. ⌜ Written (now (out .entry)) at (linksText (now (bonds .entry)) k 4) (now (out .exit)) r ⌝ }
 {
     let i = k - 1;
-    if word(bonds, i) == 0 {
+    if fours::word(bonds, i) == 0 {
         return put_plain(out, at);
     }
-    let p = put_two(out, at, bonds[i], bonds[i + 1]);
-    put_two(out, p, bonds[i + 2], bonds[i + 3])
+    put_marked(out, at, bonds, i)
 }
 
 // The carbons from C k on that carry nothing, as long as there are four of them.
@@ -94,7 +88,7 @@ fn put_fours<'a>(
     let mut p = at;
     let mut j = k;
     while j + 3 <= last {
-        if word(busy, j) != 0 {
+        if fours::word(busy, j) != 0 {
             return Reached { at: p, carbon: j };
         }
         p = put_four(out, p, bonds, j);

@@ -2,7 +2,8 @@
 // byte string is defined for; a row that is unreadable (42) is an answer. What it is, is said by specs/Sheet.antt.
 ghost use mathlib.Core.Path.{_≡_};
 ghost use Rattle.cellwords.specs.Words.{lastNonblank};
-ghost use Rattle.cells.specs.Cells.{snCells, Cut};
+ghost use Rattle.cells.specs.Cells.{snCells};
+ghost use Rattle.cutting.specs.Cut.{Cut};
 ghost use Rattle.sheet.specs.Sheet.{requestOf, told, Unreadable};
 pub use cells::STARTS;
 pub use cells::Swap;

@@ -4,6 +4,7 @@ use atoms::ChainAtoms;
 use carbons::CARBON_ROOM;
 use chain::Role;
 use drawable::Shape;
+use ramps::FIRST_ROOM;
 ghost use mathlib.Core.Path.{_≡_};
 ghost use mathlib.Core.Bool.{true};
 ghost use mathlib.Core.List.{[], _∷_};
@@ -172,9 +173,6 @@ fn is_grouped(x: Shape, part: &[u64]) -> bool
         x.carbon,
     )
 }
-
-// First atoms below this leave room for the indices of a chain.
-const FIRST_ROOM: u32 = 40000;
 
 // Room for the first carbon with its O, and for 18 groups of at most 14 bytes.
 const TEXT_ROOM: usize = 260;

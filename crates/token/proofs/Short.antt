@@ -49,7 +49,7 @@ use Rattle.token.specs.declared.ReadToken.{ReadToken}
 use Rattle.token.specs.Lent.{MissingIs, Ends, Tells, noToken}
 use Rattle.segment.proofs.Laws.{segments-none}
 use Rattle.token.proofs.Laws.{rest-empty}
-use Rattle.token.specs.Short.{Passed, HeadAt, Headed, bonded, bondsIn, listLeft, SpotOf, Spotted, Listing, mayFollow, Follows, Lists, laden, groupsIn, Grouped, ringsIn, RingFirst, Starts, Plain, PlainIn}
+use Rattle.token.specs.Short.{Numbered, Passed, HeadAt, Headed, bonded, bondsIn, listLeft, SpotOf, Spotted, Listing, mayFollow, Follows, Lists, laden, groupsIn, Grouped, ringsIn, RingFirst, Starts, Plain, PlainIn}
 
 -- ---- the bytes that are passed
 
@@ -148,10 +148,16 @@ letter-range x h = go (eqb x 100) (eqb x 68) (eqb x 116) (eqb x 84) refl refl re
     go false false false true a b c d h = (omega (arith, eqb-true x 84 d), omega (arith, eqb-true x 84 d))
     go false false false false a b c d h = absurd (omega arith)
 
-pub head-counted : (t : List ℕ) (p : ChainPrefix) (at : ℕ) (a b d : Bool) (x y z : ℕ) → 4 ≤ length t → a ≡ isDigit (getD t 0 0) → not a ≡ false → b ≡ isDigit (getD t 1 0) → not b ≡ false → getD t 2 0 ≡ 58
-    → d ≡ isDigit (getD t 3 0) → not d ≡ false → x ≡ getD t 0 0 - 48 → y ≡ getD t 1 0 - 48 → z ≡ getD t 3 0 - 48 → HeadAt t p at (record { prefix = p; carbon = x * 10 + y; declared = z; rest = at + 4 })
-head-counted t p at a b d x y z l ea na eb nb c ed nd e f g =
-    rw (e, f, g) (record { counted = record { room = l; ten = digit-is _ a ea na; one = digit-is _ b eb nb; colon = c; bonds = digit-is _ d ed nd }; is = refl })
+pub counted-is : (t : List ℕ) (a b d : Bool) → 4 ≤ length t → a ≡ isDigit (getD t 0 0) → not a ≡ false → b ≡ isDigit (getD t 1 0) → not b ≡ false → getD t 2 0 ≡ 58
+    → d ≡ isDigit (getD t 3 0) → d ≡ true → Numbered t
+counted-is t a b d l ea na eb nb c ed nd = record { room = l; ten = digit-is _ a ea na; one = digit-is _ b eb nb; colon = c; bonds = sym ed ∙ nd }
+
+pub numbered-is : (t : List ℕ) (b : Bool) → (b ≡ true → Numbered t) → not b ≡ false → Numbered t
+numbered-is t b w n = w (not-false b n)
+
+pub head-counted : (t : List ℕ) (p : ChainPrefix) (at : ℕ) (b : Bool) (x y z : ℕ) → (b ≡ true → Numbered t) → not b ≡ false → x ≡ getD t 0 0 - 48 → y ≡ getD t 1 0 - 48 → z ≡ getD t 3 0 - 48
+    → HeadAt t p at (record { prefix = p; carbon = x * 10 + y; declared = z; rest = at + 4 })
+head-counted t p at b x y z w n e f g = rw (e, f, g) (record { counted = numbered-is t b w n; is = refl })
 
 pub head-room : (s : List ℕ) (r : Head) → ((r .rest ≡ 0 → ⊥) → Headed s r) → (r .rest ≡ 0 → ⊥) → r .rest ≤ length s
 head-room s r w n = w n .room

@@ -42,7 +42,7 @@ pub record Passed (s v : List ℕ) : Type 0 where
 -- ---- the head
 
 -- `18:1`: two digits, a colon and a digit
-pub record Counted (t : List ℕ) : Type 0 where
+pub record Numbered (t : List ℕ) : Type 0 where
   pub room : 4 ≤ length t
   pub ten : isDigit (getD t 0 0) ≡ true
   pub one : isDigit (getD t 1 0) ≡ true
@@ -51,7 +51,7 @@ pub record Counted (t : List ℕ) : Type 0 where
 
 -- the head that those say, after a prefix of so many bytes
 pub record HeadAt (t : List ℕ) (p : ChainPrefix) (at : ℕ) (r : Head) : Type 0 where
-  pub counted : Counted t
+  pub counted : Numbered t
   pub is : r ≡ record { prefix = p; carbon = (getD t 0 0 - 48) * 10 + (getD t 1 0 - 48); declared = getD t 3 0 - 48; rest = at + 4 }
 
 -- the head of a whole token, which no space leads; and what is left of it

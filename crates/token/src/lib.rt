@@ -25,7 +25,7 @@ ghost use Rattle.parsed.specs.Parsed.{Collects, gather};
 ghost use Rattle.scan.specs.Number.{isDigit};
 ghost use Rattle.token.specs.Token.{printable, allPrintable, maxBytes, missingOf, finished, restOf, countedList, listedOf, afterCount, bondsOf, namedChain, trimmedOf, tokenOf};
 ghost use Rattle.token.specs.Lent.{MissingIs, Bare, Finishes, listedAs, Ends, EndsBegun, Tells, noToken, tokenIn};
-ghost use Rattle.token.specs.Short.{HeadAt, Headed, bondsIn, SpotOf, Spotted, Listing, Lists, Follows, isPlain, PlainRun, Leads, Itemed, laden, groupsIn, Grouped, Sized, Spanned, Enclosed, ringsIn, RingFirst, Starts, Plain, PlainIn};
+ghost use Rattle.token.specs.Short.{Numbered, HeadAt, Headed, bondsIn, SpotOf, Spotted, Listing, Lists, Follows, isPlain, PlainRun, Leads, Itemed, laden, groupsIn, Grouped, Sized, Spanned, Enclosed, ringsIn, RingFirst, Starts, Plain, PlainIn};
 
 // The longest token.
 const MAX_BYTES: usize = 255;
@@ -389,24 +389,31 @@ fn figure(b: u8) -> u32
     (b - 48) as u32
 }
 
-// Two digits, a colon and a digit, after a prefix of so many bytes.
+// Whether two digits, a colon and a digit lead.
+fn is_counted(t: &[u8]) -> bool
+    ensures { λ r. ⌜ (r ≡ true → Numbered (now (t .entry))) ⌝ }
+{
+    if t.len() < 4 {
+        return false;
+    }
+    if !scan::is_digit(t[0]) {
+        return false;
+    }
+    if !scan::is_digit(t[1]) {
+        return false;
+    }
+    if t[2] != b':' {
+        return false;
+    }
+    scan::is_digit(t[3])
+}
+
+// Those, after a prefix of so many bytes.
 fn head_at(t: &[u8], prefix: ChainPrefix, at: usize) -> Head
     requires { ⌜ at ≤ 1 ⌝ }
     ensures { λ r. ⌜ ((r .rest ≡ 0 → ⊥) → HeadAt (now (t .entry)) prefix at r) ⌝ }
 {
-    if t.len() < 4 {
-        return no_head();
-    }
-    if !scan::is_digit(t[0]) {
-        return no_head();
-    }
-    if !scan::is_digit(t[1]) {
-        return no_head();
-    }
-    if t[2] != b':' {
-        return no_head();
-    }
-    if !scan::is_digit(t[3]) {
+    if !is_counted(t) {
         return no_head();
     }
     let ten = figure(t[0]);

@@ -1,0 +1,13 @@
+use Rattle.ranges.proofs.Laws.{bonds-between}
+use borrow.Author.Needs.{needs}
+use Rattle.ranges.proofs.bonds_part.Statement.{statement}
+use Rattle.ranges.proofs.bonds_part.Tie as tie
+
+between-requires : tie.Need-between-requires
+between-requires c κs = search needs
+
+returns : tie.Need-returns
+returns c = search bonds-between
+
+pub bonds-part-spec : {M : Type 1} → statement M
+bonds-part-spec = tie.close (tie.spec between-requires returns)

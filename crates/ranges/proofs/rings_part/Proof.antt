@@ -1,0 +1,13 @@
+use Rattle.ranges.proofs.Laws.{rings-between}
+use borrow.Author.Needs.{needs}
+use Rattle.ranges.proofs.rings_part.Statement.{statement}
+use Rattle.ranges.proofs.rings_part.Tie as tie
+
+between-requires : tie.Need-between-requires
+between-requires c κs = search needs
+
+returns : tie.Need-returns
+returns c = search rings-between
+
+pub rings-part-spec : {M : Type 1} → statement M
+rings-part-spec = tie.close (tie.spec between-requires returns)
