@@ -98,7 +98,10 @@ fn put_chain_sites(
     ensures { λ r. ⌜ PutBlocks (map showSites (siteListsOf p (take (p .count) (drop from (now (numbers .entry)))) (take (p .«float_count») (drop row (now (rows .entry)))))) (now (out .entry)) next (now (out .exit)) r ⌝ }
 {
     if p.float_count == 0 {
-        return next;
+        return Next {
+            at: next.at,
+            first: next.first,
+        };
     }
     let to = within(from + p.count as usize, numbers.len());
     let start = within(from + first_site(p), to);
@@ -126,7 +129,12 @@ pub fn put_all_sites(
     let mut i = 0;
     while i < n {
         let p = placed::placed_at(notes, i);
-        b = put_chain_sites(out, b, numbers, rows, p, from, row);
+        // Field by field: a whole `Next` is copied with its padding, and that waits for the stores before it.
+        let c = put_chain_sites(out, b, numbers, rows, p, from, row);
+        b = Next {
+            at: c.at,
+            first: c.first,
+        };
         from += p.count as usize;
         row += p.float_count as usize;
         i += 1;
