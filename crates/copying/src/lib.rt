@@ -1,11 +1,11 @@
 // Indices that were made elsewhere, copied to a place of a lent slice: without the look at the end that `emit` has for each, where there is room
 // for all of them.
 ghost use Prim.Native.Nat.{_+_, _≤_};
-ghost use lib.ListN.{length};
+ghost use lib.ListN.{length, take, drop};
 ghost use Rattle.emit.specs.Text.{Written};
 
-// Indices for which there is room.
-fn copy_all(out: &mut [u16], at: usize, numbers: &[u16]) -> usize
+// Indices for which there is room, one by one.
+fn copy_each(out: &mut [u16], at: usize, numbers: &[u16]) -> usize
     requires { ⌜ at + length (now numbers) ≤ length (now out) ⌝ }
     ensures { λ r. ⌜ Written (now (out .entry)) at (now (numbers .entry)) (now (out .exit)) r ⌝ }
 {
@@ -15,6 +15,41 @@ fn copy_all(out: &mut [u16], at: usize, numbers: &[u16]) -> usize
         i += 1;
     }
     at + i
+}
+
+// Four indices from a place on. All are read before one is stored: so they are copied as one number.
+fn copy_four(out: &mut [u16], at: usize, numbers: &[u16], i: usize) -> usize
+    requires { ⌜ (i + 4 ≤ length (now numbers)) × (at + 4 ≤ length (now out)) ⌝ }
+    ensures { λ r. ⌜ Written (now (out .entry)) at (take 4 (drop i (now (numbers .entry)))) (now (out .exit)) r ⌝ }
+{
+    let a = numbers[i];
+    let b = numbers[i + 1];
+    let c = numbers[i + 2];
+    let d = numbers[i + 3];
+    out[at] = a;
+    out[at + 1] = b;
+    out[at + 2] = c;
+    out[at + 3] = d;
+    at + 4
+}
+
+// Indices for which there is room, four at a time, and the last four once more or for the first time: how many are left over makes no branch.
+fn copy_all(out: &mut [u16], at: usize, numbers: &[u16]) -> usize
+    requires { ⌜ at + length (now numbers) ≤ length (now out) ⌝ }
+    ensures { λ r. ⌜ Written (now (out .entry)) at (now (numbers .entry)) (now (out .exit)) r ⌝ }
+{
+    let n = numbers.len();
+    if n < 4 {
+        return copy_each(out, at, numbers);
+    }
+    let last = n - 4;
+    let mut i = 0;
+    let mut p = at;
+    while i < last {
+        p = copy_four(out, p, numbers, i);
+        i += 4;
+    }
+    copy_four(out, at + last, numbers, last)
 }
 
 // Indices at a place, as far as there is room.

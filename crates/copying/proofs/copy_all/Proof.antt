@@ -1,37 +1,34 @@
 use borrow.Author.Needs.{needs}
-use Prim.Native.Nat.{_+_, _≤_, _-_}
+use Prim.Native.Nat.{_+_, _-_, _≤_}
 use native.Mathlib.Omega.{arith}
-use mathlib.Core.Path.{_≡_, refl}
-use lib.ListN.{length, take, length-set}
+use mathlib.Core.Path.{_≡_, refl, _∙_}
+use lib.ListN.{length, take}
 use Rattle.emit.specs.Text.{Written}
-use Rattle.emit.proofs.Laws.{written-whole, written-length}
-use Rattle.emit.proofs.Copied.{copied-none, copied-byte}
+use Rattle.emit.proofs.Laws.{written-length, written-nil}
+use Rattle.copying.proofs.Laws.{four-more, four-next, all-copied}
 use Rattle.copying.proofs.copy_all.Statement.{statement}
 use Rattle.copying.proofs.copy_all.Tie as tie
 
 abbrev Inv-loop : tie.InvT-loop
-Inv-loop out₀ at numbers i₀ out i = (i ≤ length numbers) × (length out ≡ length out₀) × Written out₀ at (take i numbers) out (at + i)
+Inv-loop out₀ at numbers n last i₀ p₀ out i p = (i ≤ last + 3) × (p ≡ at + i) × (length out ≡ length out₀) × Written out₀ at (take i numbers) out p
 
 abbrev μ-loop : tie.MeasureT-loop
-μ-loop out₀ at numbers i₀ out i = length numbers - i
+μ-loop out₀ at numbers n last i₀ p₀ out i p = last + 3 - i
+
+copy-each-requires : tie.Need-copy-each-requires Inv-loop μ-loop
+copy-each-requires c κs = search needs
+
+same-length : tie.Need-same-length Inv-loop μ-loop
+same-length c = search written-length
+
+returns : tie.Need-returns Inv-loop μ-loop
+returns c = search needs
 
 loop-holds : tie.Need-loop-holds Inv-loop μ-loop
-loop-holds c = (omega arith, refl, copied-none _ _ (omega arith))
+loop-holds c = (omega arith, omega arith, refl, written-nil _ _ (omega arith))
 
-mul-out : tie.Need-mul-out Inv-loop μ-loop
-mul-out c = search needs
-
-shared-slice-read-out : tie.Need-shared-slice-read-out Inv-loop μ-loop
-shared-slice-read-out c = search needs
-
-add-out : tie.Need-add-out Inv-loop μ-loop
-add-out c = search needs
-
-mul-out-2 : tie.Need-mul-out-2 Inv-loop μ-loop
-mul-out-2 c = search needs
-
-slice-write-out : tie.Need-slice-write-out Inv-loop μ-loop
-slice-write-out c = search needs
+copy-four-requires : tie.Need-copy-four-requires Inv-loop μ-loop
+copy-four-requires c κs = search needs
 
 add-i : tie.Need-add-i Inv-loop μ-loop
 add-i c = search needs
@@ -40,16 +37,30 @@ loop-less : tie.Need-loop-less Inv-loop μ-loop
 loop-less c = search needs
 
 loop-again : tie.Need-loop-again Inv-loop μ-loop
-loop-again c = (omega arith, search (length-set, arith), search (copied-byte, arith))
+loop-again c =
+    let v = c .before .before .before .before .before .loop .inv in
+    let t = c .before .before .before .before .loop-test .taken in
+    let w = c .before .before .copy-four .ensures in
+    let ns = c .before .before .before .before .before .before .before .before .before .args .numbers .now in
+    let i = c .before .before .before .before .before .loop .i in
+    let next = four-next ns i (omega (arith, t)) (omega (arith, t, v .1)) w in
+    (omega (arith, t), omega (arith, next, v .1), written-length w ∙ v .2, four-more ns i (omega arith) (v .3) w)
 
-add-result : tie.Need-add-result Inv-loop μ-loop
-add-result c = search needs
+add-copy-four : tie.Need-add-copy-four Inv-loop μ-loop
+add-copy-four c = search needs
 
-same-length : tie.Need-same-length Inv-loop μ-loop
-same-length c = search written-length
+copy-four-requires-2 : tie.Need-copy-four-requires-2 Inv-loop μ-loop
+copy-four-requires-2 c κs = search needs
 
-returns : tie.Need-returns Inv-loop μ-loop
-returns c = search written-whole
+same-length-2 : tie.Need-same-length-2 Inv-loop μ-loop
+same-length-2 c = search needs
+
+returns-2 : tie.Need-returns-2 Inv-loop μ-loop
+returns-2 c =
+    let v = c .before .before .before .before .before .loop .inv in
+    let t = c .before .before .before .before .loop-test .left in
+    let ns = c .before .before .before .before .before .before .before .before .before .args .numbers .now in
+    all-copied ns (c .before .before .before .before .before .loop .i) (length ns - 4) (omega arith) (omega arith) (omega arith) (omega (arith, t)) refl (v .3) (c .before .before .copy-four2 .ensures)
 
 pub copy-all-spec : {M : Type 1} → statement M
 copy-all-spec =
@@ -57,15 +68,15 @@ copy-all-spec =
     (tie.spec
     Inv-loop
     μ-loop
+    copy-each-requires
+    same-length
+    returns
     loop-holds
-    mul-out
-    shared-slice-read-out
-    add-out
-    mul-out-2
-    slice-write-out
+    copy-four-requires
     add-i
     loop-less
     loop-again
-    add-result
-    same-length
-    returns)
+    add-copy-four
+    copy-four-requires-2
+    same-length-2
+    returns-2)
