@@ -16,7 +16,7 @@ use Rattle.sheet.proofs.Long.{cut-header, cut-row}
 use Rattle.beginning.specs.declared.Stage.{Stage}
 use Rattle.beginning.specs.declared.Stage.the-variants.{Header, Rows, Over}
 use Rattle.remnant.specs.Kept.{kept}
-use Rattle.batch.specs.Batch.{repliesAt, stageAfter, planAfter, lineAt, indexAt, Held, batchAfter, heldAfter, heldFrom, isHeader, isLine, heldLast, heldEnd}
+use Rattle.batch.specs.Batch.{repliesAt, stageAfter, planAfter, indexAt, Held, batchAfter, heldAfter, heldFrom, isHeader, isLine, heldLast, heldEnd}
 
 -- ---- the parts of bytes that are joined
 
@@ -88,10 +88,10 @@ end-after h (l ∷ ls) ps s = go (ls ++ ps) (later ls s) ∙ end-after (heldAfte
 -- ---- a line of which only its plan, or its request, matters
 
 module _ (l k : List ℕ) (e : planOf l ≡ planOf k) (f : (p : Plan) → requestOf p l ≡ requestOf p k) where
-  same-replies : (s : Stage) (p : Plan) (line index : ℕ) → repliesAt s p l line index ≡ repliesAt s p k line index
-  same-replies Header p line index = rw e
-  same-replies Rows p line index = rw (f p)
-  same-replies Over p line index = refl
+  same-replies : (s : Stage) (p : Plan) (index : ℕ) → repliesAt s p l index ≡ repliesAt s p k index
+  same-replies Header p index = rw e
+  same-replies Rows p index = rw (f p)
+  same-replies Over p index = refl
 
   same-stage : (s : Stage) → stageAfter s l ≡ stageAfter s k
   same-stage Header = rw e
@@ -103,25 +103,19 @@ module _ (l k : List ℕ) (e : planOf l ≡ planOf k) (f : (p : Plan) → reques
   same-plan Rows p = refl
   same-plan Over p = refl
 
-  same-line : (s : Stage) (p : Plan) (line index : List ℕ) → lineAt s p l line index ≡ lineAt s p k line index
-  same-line Header p line index = refl
-  same-line Rows p line index = rw (f p)
-  same-line Over p line index = refl
-
-  same-index : (s : Stage) (p : Plan) (line index : List ℕ) → indexAt s p l line index ≡ indexAt s p k line index
-  same-index Header p line index = refl
-  same-index Rows p line index = rw (f p)
-  same-index Over p line index = refl
+  same-index : (s : Stage) (p : Plan) (index : List ℕ) → indexAt s p l index ≡ indexAt s p k index
+  same-index Header p index = refl
+  same-index Rows p index = rw (f p)
+  same-index Over p index = refl
 
   same-after : (h : Held) → heldAfter h l ≡ heldAfter h k
   unfolding heldAfter batchAfter
   same-after h =
       rw (
-        same-replies (h .batch .stage) (h .batch .plan) (length (h .line)) (length (h .index)),
+        same-replies (h .batch .stage) (h .batch .plan) (length (h .index)),
         same-stage (h .batch .stage),
         same-plan (h .batch .stage) (h .batch .plan),
-        same-line (h .batch .stage) (h .batch .plan) (h .line) (h .index),
-        same-index (h .batch .stage) (h .batch .plan) (h .line) (h .index),
+        same-index (h .batch .stage) (h .batch .plan) (h .index),
       )
 
   same-end : (h : Held) (qs : List (List ℕ)) → isLine (isHeader (h .batch .stage)) l ≡ isLine (isHeader (h .batch .stage)) k → heldEnd h (l ∷ qs) ≡ heldEnd h (k ∷ qs)

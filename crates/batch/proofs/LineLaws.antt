@@ -33,36 +33,35 @@ use Rattle.batch.specs.Batch.{Held, batchAfter, heldAfter, heldFrom, isH
 
 -- ---- a row
 
-pub row-counted : (b : Batch) (l xs is os : List ℕ) (at : ℕ) (ys js ps : List ℕ) (a : Answered) (counted : Counts)
-    → RowAnswered (requestOf (b .plan) l) xs is os at ys js ps a → counted ≡ counting (withAnswer (b .counts .times) (a .number))
-    → Holds os at (heldAfter (before (staged Rows b) xs is) l) (record { stage = Rows; plan = b .plan; counts = counted }) ys js ps (a .next)
+pub row-counted : (b : Batch) (l is os : List ℕ) (at : ℕ) (js ps : List ℕ) (a : Answered) (counted : Counts)
+    → RowAnswered (requestOf (b .plan) l) is os at js ps a → counted ≡ counting (withAnswer (b .counts .times) (a .number))
+    → Holds os at (heldAfter (before (staged Rows b) is) l) (record { stage = Rows; plan = b .plan; counts = counted }) js ps (a .next)
 unfolding heldAfter batchAfter textsOf numbersOf timesFrom
-row-counted b l xs is os at ys js ps a counted w c =
+row-counted b l is os at js ps a counted w c =
     record {
       batch = (rw (c, w .answer));
-      line = w .line;
       index = w .index;
       text = (rw append-nil (w .text));
     }
 
 -- ---- a line
 
-module _ (b : Batch) (l xs is os : List ℕ) (at : ℕ) where
+module _ (b : Batch) (l is os : List ℕ) (at : ℕ) where
   pub line-header : (ps : List ℕ) (r : Lined) → b .stage ≡ Header → HeaderAnswered b l os at ps r
-      → Holds os at (heldAfter (before b xs is) l) (r .batch) xs is ps (r .next)
+      → Holds os at (heldAfter (before b is) l) (r .batch) is ps (r .next)
   unfolding heldAfter batchAfter headerBatch
-  line-header ps r e w = rw e (record { batch = w .batch; line = refl; index = refl; text = w .text })
+  line-header ps r e w = rw e (record { batch = w .batch; index = refl; text = w .text })
 
-  pub line-row : (ys js ps : List ℕ) (r : Lined) → b .stage ≡ Rows → Holds os at (heldAfter (before (staged Rows b) xs is) l) (r .batch) ys js ps (r .next)
-      → Holds os at (heldAfter (before b xs is) l) (r .batch) ys js ps (r .next)
+  pub line-row : (js ps : List ℕ) (r : Lined) → b .stage ≡ Rows → Holds os at (heldAfter (before (staged Rows b) is) l) (r .batch) js ps (r .next)
+      → Holds os at (heldAfter (before b is) l) (r .batch) js ps (r .next)
   unfolding heldAfter batchAfter
-  line-row ys js ps r e w = rw e w
+  line-row js ps r e w = rw e w
 
-  pub line-over : b .stage ≡ Over → at < 2 ^ 64 → Holds os at (heldAfter (before b xs is) l) b xs is os at
+  pub line-over : b .stage ≡ Over → at < 2 ^ 64 → Holds os at (heldAfter (before b is) l) b is os at
   unfolding heldAfter batchAfter textsOf numbersOf timesFrom
   line-over e g =
       let q : b ≡ staged Over b = ap (λ (s : Stage). staged s b) e in
-      subst (λ (x : Batch). Holds os at (heldAfter (before x xs is) l) x xs is os at) (sym q) (record { batch = refl; line = refl; index = refl; text = written-nil os at g })
+      subst (λ (x : Batch). Holds os at (heldAfter (before x is) l) x is os at) (sym q) (record { batch = refl; index = refl; text = written-nil os at g })
 
 -- ---- the lines of a text
 
@@ -72,45 +71,43 @@ held-snoc h [] l = refl
 held-snoc h (k ∷ ls) l = held-snoc (heldAfter h k) ls l
 
 -- the lines so far, and the text t that is left
-pub record Turned (b₀ : Batch) (text xs is os : List ℕ) (at : ℕ) (ys js ps : List ℕ) (b : Batch) (t : List ℕ) (p : ℕ) : Type 0 where
+pub record Turned (b₀ : Batch) (text is os : List ℕ) (at : ℕ) (js ps : List ℕ) (b : Batch) (t : List ℕ) (p : ℕ) : Type 0 where
   pub lines : List (List ℕ)
   pub parts : partsAt 10 text ≡ lines ++ partsAt 10 t
-  pub holds : Holds os at (heldFrom (before b₀ xs is) lines) b ys js ps p
+  pub holds : Holds os at (heldFrom (before b₀ is) lines) b js ps p
   pub rest : t ≡ drop (length text - length t) text
   pub within : length t ≤ length text
 
-pub turn-start : (b : Batch) (text xs is os : List ℕ) (at : ℕ) → at < 2 ^ 64 → Turned b text xs is os at xs is os b text at
+pub turn-start : (b : Batch) (text is os : List ℕ) (at : ℕ) → at < 2 ^ 64 → Turned b text is os at is os b text at
 unfolding heldFrom
-turn-start b text xs is os at g =
+turn-start b text is os at g =
     record {
       lines = [];
       parts = refl;
-      holds = record { batch = refl; line = refl; index = refl; text = written-nil os at g };
+      holds = record { batch = refl; index = refl; text = written-nil os at g };
       rest = (let z : length text - length text ≡ 0 = omega arith in rw z);
       within = omega arith;
     }
 
 -- one line after others
-held-more : (os : List ℕ) (at : ℕ) (h : Held) (b : Batch) (ys js ps : List ℕ) (p : ℕ) (l : List ℕ) (c : Batch) (zs ks qs : List ℕ) (q : ℕ) → length os < 2 ^ 64
-    → Holds os at h b ys js ps p → Holds ps p (heldAfter (before b ys js) l) c zs ks qs q → Holds os at (heldAfter h l) c zs ks qs q
+held-more : (os : List ℕ) (at : ℕ) (h : Held) (b : Batch) (js ps : List ℕ) (p : ℕ) (l : List ℕ) (c : Batch) (ks qs : List ℕ) (q : ℕ) → length os < 2 ^ 64
+    → Holds os at h b js ps p → Holds ps p (heldAfter (before b js) l) c ks qs q → Holds os at (heldAfter h l) c ks qs q
 unfolding heldAfter
-held-more os at h b ys js ps p l c zs ks qs q g v w =
+held-more os at h b js ps p l c ks qs q g v w =
     let e : b ≡ h .batch = v .batch in
-    let f : ys ≡ h .line = v .line in
     let i : js ≡ h .index = v .index in
     record {
-      batch = (rw (e, f, i) at (w .batch));
-      line = (rw (e, f, i) at (w .line));
-      index = (rw (e, f, i) at (w .index));
-      text = written-append g (v .text) (rw (e, f, i) at (w .text));
+      batch = (rw (e, i) at (w .batch));
+      index = (rw (e, i) at (w .index));
+      text = written-append g (v .text) (rw (e, i) at (w .text));
     }
 
-module _ (b₀ : Batch) (text xs is os : List ℕ) (at : ℕ) (ys js ps : List ℕ) (b : Batch) (t : List ℕ) (p n : ℕ) (h : Turned b₀ text xs is os at ys js ps b t p)
+module _ (b₀ : Batch) (text is os : List ℕ) (at : ℕ) (js ps : List ℕ) (b : Batch) (t : List ℕ) (p n : ℕ) (h : Turned b₀ text is os at js ps b t p)
     (f : Place t (indexOf 10 t) n) where
-  pub turn-more : (c : Batch) (zs ks qs : List ℕ) (q : ℕ) → length os < 2 ^ 64 → (n ≡ length t → ⊥)
-      → Holds ps p (heldAfter (before b ys js) (take (n - 0) t)) c zs ks qs q
-      → Turned b₀ text xs is os at zs ks qs c (take (length t - (n + 1)) (drop (n + 1) t)) q
-  turn-more c zs ks qs q g d w =
+  pub turn-more : (c : Batch) (ks qs : List ℕ) (q : ℕ) → length os < 2 ^ 64 → (n ≡ length t → ⊥)
+      → Holds ps p (heldAfter (before b js) (take (n - 0) t)) c ks qs q
+      → Turned b₀ text is os at ks qs c (take (length t - (n + 1)) (drop (n + 1) t)) q
+  turn-more c ks qs q g d w =
       let s : length (drop (n + 1) t) ≡ length t - (n + 1) = length-drop (n + 1) t in
       let r : t ≡ drop (length text - length t) text = h .rest in
       let i : n < length t = omega (arith, f .within, d) in
@@ -118,12 +115,12 @@ module _ (b₀ : Batch) (text xs is os : List ℕ) (at : ℕ) (ys js ps : List �
       record {
         lines = h .lines ++ take (n - 0) t ∷ [];
         parts = h .parts ∙ ap (λ (l : List (List ℕ)). h .lines ++ l) (parts-more 10 t n f d) ∙ sym (append-assoc (h .lines) (take (n - 0) t ∷ []) (partsAt 10 (take (length t - (n + 1)) (drop (n + 1) t))));
-        holds = (rw held-snoc (held-more os at (heldFrom (before b₀ xs is) (h .lines)) b ys js ps p (take (n - 0) t) c zs ks qs q g (h .holds) w));
+        holds = (rw held-snoc (held-more os at (heldFrom (before b₀ is) (h .lines)) b js ps p (take (n - 0) t) c ks qs q g (h .holds) w));
         rest = (rw (to-end (n + 1) t) (ap (λ (u : List ℕ). drop (n + 1) u) r ∙ drop-drop (n + 1) (length text - length t) text ∙ ap (λ (m : ℕ). drop m text) k));
         within = (rw (to-end (n + 1) t) (omega (arith, s, h .within)));
       }
 
-  pub turn-last : (limit : ℕ) → n ≡ length t → LinesAnswered b₀ text xs is os at limit ys js ps (record { batch = b; used = length text - length t; next = p; whole = true })
+  pub turn-last : (limit : ℕ) → n ≡ length t → LinesAnswered b₀ text is os at limit js ps (record { batch = b; used = length text - length t; next = p; whole = true })
   turn-last limit e =
       let r : t ≡ drop (length text - length t) text = h .rest in
       let w : partsAt 10 t ≡ t ∷ [] = parts-last 10 t n f e ∙ ap (λ (l : List ℕ). l ∷ []) (rw sub-zero (take-all n t (omega arith))) in
@@ -136,9 +133,9 @@ module _ (b₀ : Batch) (text xs is os : List ℕ) (at : ℕ) (ys js ps : List �
         some = λ z. absurd (true≢false z);
       }
 
-pub turn-full : (b₀ : Batch) (text xs is os : List ℕ) (at : ℕ) (ys js ps : List ℕ) (b : Batch) (t : List ℕ) (p limit : ℕ) → Turned b₀ text xs is os at ys js ps b t p
-    → limit < p → LinesAnswered b₀ text xs is os at limit ys js ps (record { batch = b; used = length text - length t; next = p; whole = false })
-turn-full b₀ text xs is os at ys js ps b t p limit h g =
+pub turn-full : (b₀ : Batch) (text is os : List ℕ) (at : ℕ) (js ps : List ℕ) (b : Batch) (t : List ℕ) (p limit : ℕ) → Turned b₀ text is os at js ps b t p
+    → limit < p → LinesAnswered b₀ text is os at limit js ps (record { batch = b; used = length text - length t; next = p; whole = false })
+turn-full b₀ text is os at js ps b t p limit h g =
     record {
       lines = h .lines;
       parts = (subst (λ (u : List ℕ). partsAt 10 text ≡ h .lines ++ partsAt 10 u) (h .rest) (h .parts));
@@ -150,22 +147,22 @@ turn-full b₀ text xs is os at ys js ps b t p limit h g =
 
 -- ---- the rows of a text, counted where the counts stand
 
-module _ (plan : Plan) (ts₀ text xs is os : List ℕ) (at : ℕ) (ys js ps ts t : List ℕ) (p : ℕ) (h : Turned (among plan ts₀) text xs is os at ys js ps (among plan ts) t p) where
-  pub rows-more : (n : ℕ) → Place t (indexOf 10 t) n → (zs ks qs us : List ℕ) (a : Answered) → length os < 2 ^ 64 → (n ≡ length t → ⊥)
-      → RowAnswered (requestOf plan (take (n - 0) t)) ys js ps p zs ks qs a → us ≡ withAnswer ts (a .number)
-      → Turned (among plan ts₀) text xs is os at zs ks qs (among plan us) (take (length t - (n + 1)) (drop (n + 1) t)) (a .next)
-  rows-more n f zs ks qs us a g d w e =
-      turn-more (among plan ts₀) text xs is os at ys js ps (among plan ts) t p n h f (among plan us) zs ks qs (a .next) g d
-      (row-counted (among plan ts) (take (n - 0) t) ys js ps p zs ks qs a (counting us) w (ap counting e))
+module _ (plan : Plan) (ts₀ text is os : List ℕ) (at : ℕ) (js ps ts t : List ℕ) (p : ℕ) (h : Turned (among plan ts₀) text is os at js ps (among plan ts) t p) where
+  pub rows-more : (n : ℕ) → Place t (indexOf 10 t) n → (ks qs us : List ℕ) (a : Answered) → length os < 2 ^ 64 → (n ≡ length t → ⊥)
+      → RowAnswered (requestOf plan (take (n - 0) t)) js ps p ks qs a → us ≡ withAnswer ts (a .number)
+      → Turned (among plan ts₀) text is os at ks qs (among plan us) (take (length t - (n + 1)) (drop (n + 1) t)) (a .next)
+  rows-more n f ks qs us a g d w e =
+      turn-more (among plan ts₀) text is os at js ps (among plan ts) t p n h f (among plan us) ks qs (a .next) g d
+      (row-counted (among plan ts) (take (n - 0) t) js ps p ks qs a (counting us) w (ap counting e))
 
   pub rows-last : (starts : List ℕ) (l : Line) → LineCut t starts l → (limit : ℕ) → l .end ≡ length t
-      → LinesAnswered (among plan ts₀) text xs is os at limit ys js ps (passedIn plan ts (record { used = length text - length t; next = p; whole = true }))
-  rows-last starts l f limit e = turn-last (among plan ts₀) text xs is os at ys js ps (among plan ts) t p (l .end) h (f .end) limit e
+      → LinesAnswered (among plan ts₀) text is os at limit js ps (passedIn plan ts (record { used = length text - length t; next = p; whole = true }))
+  rows-last starts l f limit e = turn-last (among plan ts₀) text is os at js ps (among plan ts) t p (l .end) h (f .end) limit e
 
-pub rows-full : (plan : Plan) (ts₀ text xs is os : List ℕ) (at : ℕ) (ys js ps ts t : List ℕ) (p limit : ℕ)
-    → Turned (among plan ts₀) text xs is os at ys js ps (among plan ts) t p → limit < p
-    → LinesAnswered (among plan ts₀) text xs is os at limit ys js ps (passedIn plan ts (record { used = length text - length t; next = p; whole = false }))
-rows-full plan ts₀ text xs is os at ys js ps ts t p limit h g = turn-full (among plan ts₀) text xs is os at ys js ps (among plan ts) t p limit h g
+pub rows-full : (plan : Plan) (ts₀ text is os : List ℕ) (at : ℕ) (js ps ts t : List ℕ) (p limit : ℕ)
+    → Turned (among plan ts₀) text is os at js ps (among plan ts) t p → limit < p
+    → LinesAnswered (among plan ts₀) text is os at limit js ps (passedIn plan ts (record { used = length text - length t; next = p; whole = false }))
+rows-full plan ts₀ text is os at js ps ts t p limit h g = turn-full (among plan ts₀) text is os at js ps (among plan ts) t p limit h g
 
 -- a batch among its rows
 rows-batch : (b : Batch) → isRows (b .stage) ≡ true → b ≡ among (b .plan) (b .counts .times)
@@ -176,38 +173,38 @@ rows-batch b e = ap (λ (s : Stage). staged s b) (go (b .stage) e)
     go Rows e = refl
     go Over e = absurd (true≢false (sym e))
 
-pub rows-answered : (b : Batch) (q : Bool) (text xs is os : List ℕ) (at limit : ℕ) (ys js ps us : List ℕ) (r : Passed) → q ≡ isRows (b .stage) → not q ≡ false
-    → LinesAnswered (among (b .plan) (b .counts .times)) text xs is os at limit ys js ps (passedIn (b .plan) us r)
-    → LinesAnswered b text xs is os at limit ys js ps
+pub rows-answered : (b : Batch) (q : Bool) (text is os : List ℕ) (at limit : ℕ) (js ps us : List ℕ) (r : Passed) → q ≡ isRows (b .stage) → not q ≡ false
+    → LinesAnswered (among (b .plan) (b .counts .times)) text is os at limit js ps (passedIn (b .plan) us r)
+    → LinesAnswered b text is os at limit js ps
     (record { batch = record { stage = Rows; plan = b .plan; counts = record { times = us } }; used = r .used; next = r .next; whole = r .whole })
-rows-answered b q text xs is os at limit ys js ps us r e n w =
+rows-answered b q text is os at limit js ps us r e n w =
     let z : b ≡ among (b .plan) (b .counts .times) = rows-batch b (sym e ∙ not-false q n) in
-    subst (λ (x : Batch). LinesAnswered x text xs is os at limit ys js ps (passedIn (b .plan) us r)) (sym z) w
+    subst (λ (x : Batch). LinesAnswered x text is os at limit js ps (passedIn (b .plan) us r)) (sym z) w
 
 -- ---- the end of a sheet
 
-module _ (b : Batch) (xs is os : List ℕ) (at : ℕ) where
+module _ (b : Batch) (is os : List ℕ) (at : ℕ) where
   pub last-none : (l : List ℕ) (r : Bool) → length l ≡ 0 → r ≡ isHeader (b .stage) → not r ≡ true → at < 2 ^ 64
-      → Holds os at (heldLast (before b xs is) l) b xs is os at
+      → Holds os at (heldLast (before b is) l) b is os at
   unfolding heldLast
-  last-none [] r h e n g = rw (sym e ∙ not-true r n) (record { batch = refl; line = refl; index = refl; text = written-nil os at g })
+  last-none [] r h e n g = rw (sym e ∙ not-true r n) (record { batch = refl; index = refl; text = written-nil os at g })
   last-none (x ∷ l) r h e n g = absurd (omega arith)
 
   -- the header, though it has no bytes
-  pub last-header : (l ys js ps : List ℕ) (c : Batch) (q : ℕ) (r : Bool) → length l ≡ 0 → r ≡ isHeader (b .stage) → not r ≡ false
-      → Holds os at (heldAfter (before b xs is) l) c ys js ps q → Holds os at (heldLast (before b xs is) l) c ys js ps q
+  pub last-header : (l js ps : List ℕ) (c : Batch) (q : ℕ) (r : Bool) → length l ≡ 0 → r ≡ isHeader (b .stage) → not r ≡ false
+      → Holds os at (heldAfter (before b is) l) c js ps q → Holds os at (heldLast (before b is) l) c js ps q
   unfolding heldLast
-  last-header [] ys js ps c q r h e n w = rw (sym e ∙ not-false r n) w
-  last-header (x ∷ l) ys js ps c q r h e n w = absurd (omega arith)
+  last-header [] js ps c q r h e n w = rw (sym e ∙ not-false r n) w
+  last-header (x ∷ l) js ps c q r h e n w = absurd (omega arith)
 
-  pub last-some : (l ys js ps : List ℕ) (c : Batch) (q : ℕ) → (length l ≡ 0 → ⊥)
-      → Holds os at (heldAfter (before b xs is) l) c ys js ps q → Holds os at (heldLast (before b xs is) l) c ys js ps q
+  pub last-some : (l js ps : List ℕ) (c : Batch) (q : ℕ) → (length l ≡ 0 → ⊥)
+      → Holds os at (heldAfter (before b is) l) c js ps q → Holds os at (heldLast (before b is) l) c js ps q
   unfolding heldLast
-  last-some [] ys js ps c q h w = absurd (h refl)
-  last-some (x ∷ l) ys js ps c q h w = w
+  last-some [] js ps c q h w = absurd (h refl)
+  last-some (x ∷ l) js ps c q h w = w
 
-  pub finished : (l ys js ps qs : List ℕ) (c : Batch) (p r : ℕ) → length os < 2 ^ 64 → Holds os at (heldLast (before b xs is) l) c ys js ps p
-      → Written ps p (countLines (c .counts .times)) qs r → Finished b l xs is os at ys js qs r
-  finished l ys js ps qs c p r g h w =
-      let e : c ≡ heldLast (before b xs is) l .batch = h .batch in
-      record { line = h .line; index = h .index; text = written-append g (h .text) (rw e at w) }
+  pub finished : (l js ps qs : List ℕ) (c : Batch) (p r : ℕ) → length os < 2 ^ 64 → Holds os at (heldLast (before b is) l) c js ps p
+      → Written ps p (countLines (c .counts .times)) qs r → Finished b l is os at js qs r
+  finished l js ps qs c p r g h w =
+      let e : c ≡ heldLast (before b is) l .batch = h .batch in
+      record { index = h .index; text = written-append g (h .text) (rw e at w) }

@@ -1,13 +1,14 @@
 -- Laws of the answer to a row: what is written of an answer of the call is the reply to the row.
 -- Assumes nothing.
-use Prim.Native.Nat.{ℕ, suc, _+_, _-_, _≤_, min}
+use Prim.Native.Nat.{ℕ, suc, _+_, _-_, _≤_, _<_, _^_, min}
 use native.Mathlib.Omega.{arith}
-use mathlib.Core.Path.{_≡_, refl, ap, _∙_, subst}
-use mathlib.Core.Bool.{Bool, true, false, cond, not}
+use mathlib.Core.Path.{_≡_, refl, sym, ap, _∙_, subst}
+use mathlib.Core.Bool.{Bool, true, false, cond, not, _||_, true≢false}
 use mathlib.Core.List.{List, [], _∷_, _++_, map, append-assoc}
 use lib.ListN.{length, take, drop, replicate, length-map}
 use lib.Seq.{take-take, take-append-seam, drop-append-seam}
 use lib.Dec.{leb}
+use borrow.Author.Tests.{ltb-false}
 use Rattle.emit.specs.Text.{Written}
 use Rattle.record.specs.Chain.{Chain}
 use Rattle.template.specs.declared.Class.{Class}
@@ -19,7 +20,7 @@ use Rattle.listing.specs.Lists.{noList, listOf}
 use Rattle.listing.proofs.PlacedLaws.{places-few}
 use Rattle.answer.specs.declared.Answer.{Answer}
 use Rattle.forward.specs.Answer.{refusal, acceptance, short, answerTo, atStart, lineAfter, indexAfter, Answers}
-use Rattle.forward.specs.Call.{Called}
+use Rattle.forward.specs.Call.{Kept, Called}
 use Rattle.header.specs.declared.Plan.{Plan}
 use Rattle.sheet.specs.declared.Asked.{Asked}
 use Rattle.sheet.specs.Cells.{cellOf, snCells}
@@ -27,9 +28,11 @@ use Rattle.sheet.specs.Sheet.{requestOf, told}
 use Rattle.sheet.proofs.Requested.{asked-nothing, asked-request, asked-count}
 use Rattle.beginning.specs.declared.Answered.{Answered}
 use Rattle.rows.specs.Chains.{carbonsOf}
-use Rattle.rows.specs.Text.{rowText}
+use Rattle.reading.specs.Parting.{joined, led}
+use Rattle.emit.proofs.Laws.{written-append}
+use Rattle.rows.specs.Text.{ended, tabbed, chainsText, headText, rowText}
 use Rattle.beginning.specs.Beginning.{refused, replyText, UnreadableWritten}
-use Rattle.batch.specs.Reply.{carbonsIn, accepted, replyTo, answerText, RowAnswered}
+use Rattle.batch.specs.Reply.{carbonsIn, accepted, lineRoom, replyTo, answerText, indexTo, Drawn, RowAnswered}
 use Rattle.rows.proofs.Laws.{part-taken}
 
 -- ---- what is written of an answer
@@ -80,37 +83,113 @@ refused-told : (n p : ℕ) (ys js : List ℕ) → answerText (refusal n p) ys js
 unfolding replyText carbonsOf
 refused-told n p ys js = refl
 
+pub refused-text : {xs ys zs : List ℕ} {at p q : ℕ} (number token : ℕ) → length xs < 2 ^ 64 → Written xs at (headText number token) ys p → Written ys p (9 ∷ 10 ∷ []) zs q
+    → Written xs at (replyText (refused number token)) zs q
+unfolding replyText rowText headText tabbed ended joined led chainsText
+refused-text number token g w u = simp append-assoc (simp append-assoc at (written-append g w u))
+
 accepted-told : (c : Class) (swap : Bool) (t : List ℕ) (ds : List Chain) (xs is : List ℕ)
     → answerText (acceptance c swap t ds) (atStart (lineOf c swap t ds) xs) (atStart (indexOf c t ds) is) ≡ replyText (accepted c swap t ds)
 unfolding replyText acceptance accepted atStart
 accepted-told c swap t ds xs is =
     rw (take-append-seam (lineOf c swap t ds) (drop (length (lineOf c swap t ds)) xs), chains-told c t ds (drop (length (indexOf c t ds)) is))
 
-module _ (swap : Bool) (t xs is : List ℕ) where
+-- a line slice of this length
+module _ (swap : Bool) (t xs is : List ℕ) (e : length xs ≡ lineRoom) where
   told-by : (v : Verdict) → answerText (answerTo v swap t (length xs) (length is)) (lineAfter v swap t xs is) (indexAfter v swap t xs is)
-      ≡ replyText (replyTo v swap t (length xs) (length is))
+      ≡ replyText (replyTo v swap t (length is))
   told-by (Refused n p) = refused-told n p xs is
-  told-by (Drawable c ds) = go (short c swap t ds (length xs) (length is))
+  told-by (Drawable c ds) = rw e (go (short c swap t ds lineRoom (length is)))
     where
       go : (b : Bool) → answerText (cond b (refusal 41 0) (acceptance c swap t ds)) (cond b xs (atStart (lineOf c swap t ds) xs)) (cond b is (atStart (indexOf c t ds) is))
           ≡ replyText (cond b (refused 41 0) (accepted c swap t ds))
       go true = refused-told 41 0 xs is
       go false = accepted-told c swap t ds xs is
 
-  number-by : (v : Verdict) → answerTo v swap t (length xs) (length is) .number ≡ replyTo v swap t (length xs) (length is) .number
+  number-by : (v : Verdict) → answerTo v swap t (length xs) (length is) .number ≡ replyTo v swap t (length is) .number
   unfolding acceptance accepted
   number-by (Refused n p) = refl
-  number-by (Drawable c ds) = go (short c swap t ds (length xs) (length is))
+  number-by (Drawable c ds) = rw e (go (short c swap t ds lineRoom (length is)))
     where
       go : (b : Bool) → cond b (refusal 41 0) (acceptance c swap t ds) .number ≡ cond b (refused 41 0) (accepted c swap t ds) .number
       go true = refl
       go false = refl
 
-  pub answer-told : (v : Verdict) (a : Answer) (ys js : List ℕ) → Answers v swap t xs is ys js a → answerText a ys js ≡ replyText (replyTo v swap t (length xs) (length is))
-  answer-told v a ys js h = rw (h .answer, h .line, h .index) (told-by v)
+  index-by : (v : Verdict) → indexAfter v swap t xs is ≡ indexTo v swap t is
+  index-by (Refused n p) = refl
+  index-by (Drawable c ds) = rw e
 
-  pub number-told : (v : Verdict) (a : Answer) (ys js : List ℕ) → Answers v swap t xs is ys js a → a .number ≡ replyTo v swap t (length xs) (length is) .number
-  number-told v a ys js h = ap (λ (b : Answer). b .number) (h .answer) ∙ number-by v
+  -- what is written of an answer is the reply
+  pub answered : {os ys js ps : List ℕ} {at q : ℕ} (v : Verdict) (a : Answer) → Answers v swap t xs is ys js a
+      → Written os at (replyText (replyTo v swap t (length is))) ps q → Drawn v swap t is os at js ps (record { number = a .number; next = q })
+  answered v a h w =
+      record {
+        text = w;
+        answer = ap (λ (b : Answer). b .number) (h .answer) ∙ number-by v;
+        index = h .index ∙ index-by v;
+      }
+
+  pub drawn-apart : {os ys js ps : List ℕ} {at q : ℕ} (v : Verdict) (a : Answer) → Called v swap t xs is ys js a → Written os at (answerText a ys js) ps q
+      → Drawn v swap t is os at js ps (record { number = a .number; next = q })
+  drawn-apart {ys = ys} {js = js} v a c w =
+      let h : answerText a ys js ≡ replyText (replyTo v swap t (length is)) = rw (c .answers .answer, c .answers .line, c .answers .index) (told-by v) in
+      answered v a (c .answers) (rw h at w)
+
+-- ---- an answer of the call by its number
+
+pub either-left : (a b : Bool) → (a || b) ≡ false → a ≡ false
+either-left true b e = absurd (true≢false e)
+either-left false b e = refl
+
+pub either-right : (a b : Bool) → (a || b) ≡ false → b ≡ false
+either-right true b e = absurd (true≢false e)
+either-right false b e = e
+
+-- an accepted request: its line stands at the start of the line slice
+pub record Stands (v : Verdict) (swap : Bool) (t xs is ys js : List ℕ) (a : Answer) : Type 0 where
+  pub line : List ℕ
+  pub size : a .length ≡ length line
+  pub room : length line ≤ lineRoom
+  pub drawn : ys ≡ atStart line xs
+  pub reply : rowText 0 0 line (carbonsOf (take (a .lists .count) (a .lists .items)) js) ≡ replyText (replyTo v swap t (length is))
+
+-- a refused request: the line slice is as it was
+pub record Left (v : Verdict) (swap : Bool) (t xs is ys : List ℕ) (a : Answer) : Type 0 where
+  pub same : ys ≡ xs
+  pub reply : refused (a .number) (a .token) ≡ replyTo v swap t (length is)
+
+module _ (swap : Bool) (t xs is : List ℕ) (e : length xs ≡ lineRoom) (ys js : List ℕ) (a : Answer) where
+  stands-by : (c : Class) (ds : List Chain) → Answers (Drawable c ds) swap t xs is ys js a → a .number ≡ 0 → Stands (Drawable c ds) swap t xs is ys js a
+  unfolding replyText acceptance accepted atStart short
+  stands-by c ds h z =
+      go (short c swap t ds lineRoom (length is)) refl (h .answer ∙ rw e) (h .line ∙ rw e) (h .index ∙ rw e)
+    where
+      go : (b : Bool) → short c swap t ds lineRoom (length is) ≡ b → a ≡ cond b (refusal 41 0) (acceptance c swap t ds)
+          → ys ≡ cond b xs (atStart (lineOf c swap t ds) xs) → js ≡ cond b is (atStart (indexOf c t ds) is) → Stands (Drawable c ds) swap t xs is ys js a
+      go true s f l i = let y : a .number ≡ 41 = ap (λ (b : Answer). b .number) f in absurd (omega arith)
+      go false s f l i =
+          record {
+            line = lineOf c swap t ds;
+            size = ap (λ (b : Answer). b .length) f;
+            room = ltb-false lineRoom (length (lineOf c swap t ds)) (either-left _ _ s);
+            drawn = l;
+            reply = (rw (s, f, i) (rw (chains-told c t ds (drop (length (indexOf c t ds)) is))));
+          }
+
+  pub stands : (v : Verdict) → Called v swap t xs is ys js a → a .number ≡ 0 → Stands v swap t xs is ys js a
+  stands v c z =
+      let k : Kept v swap t ys js a = c .kept z in
+      subst (λ (w : Verdict). Answers w swap t xs is ys js a → Stands w swap t xs is ys js a) (sym (k .judged)) (λ h. stands-by (k .class) (k .chains) h z) (c .answers)
+
+  pub left : (v : Verdict) → Answers v swap t xs is ys js a → (a .number ≡ 0 → ⊥) → Left v swap t xs is ys a
+  unfolding acceptance
+  left (Refused n p) h z = record { same = h .line; reply = (rw (h .answer)) }
+  left (Drawable c ds) h z = go (short c swap t ds lineRoom (length is)) refl (h .answer ∙ rw e) (h .line ∙ rw e)
+    where
+      go : (b : Bool) → short c swap t ds lineRoom (length is) ≡ b → a ≡ cond b (refusal 41 0) (acceptance c swap t ds)
+          → ys ≡ cond b xs (atStart (lineOf c swap t ds) xs) → Left (Drawable c ds) swap t xs is ys a
+      go true s f l = record { same = l; reply = (rw (s, f)) }
+      go false s f l = absurd (z (ap (λ (b : Answer). b .number) f))
 
 -- ---- a row
 
@@ -120,22 +199,15 @@ pub drawn-row : (p : Plan) (row class t s1 s2 s3 s4 : List ℕ) (count : ℕ) (s
     → Called (verdict (cellOf p 0 row) (cellOf p 2 row) count (take count (snCells p row))) swap (cellOf p 2 row) xs is ys js a
 drawn-row p row class t s1 s2 s3 s4 count swap xs is ys js a e f g h i j k = rw (e, f, g, h, i, j) at k
 
-module _ (p : Plan) (row : List ℕ) (k : Asked) (e : k ≡ told (requestOf p row)) (xs is os : List ℕ) (at : ℕ) where
-  pub row-unreadable : (ps : List ℕ) (r : Answered) → not (k .readable) ≡ true → UnreadableWritten os at ps r → RowAnswered (requestOf p row) xs is os at xs is ps r
-  row-unreadable ps r h w = rw (asked-nothing p row k e h) (record { text = w .text; answer = w .answer; line = refl; index = refl })
+module _ (p : Plan) (row : List ℕ) (k : Asked) (e : k ≡ told (requestOf p row)) (is os : List ℕ) (at : ℕ) where
+  pub row-unreadable : (ps : List ℕ) (r : Answered) → not (k .readable) ≡ true → UnreadableWritten os at ps r → RowAnswered (requestOf p row) is os at is ps r
+  row-unreadable ps r h w = rw (asked-nothing p row k e h) (record { text = w .text; answer = w .answer; index = refl })
 
-  pub row-drawn : {ys js ps : List ℕ} {q : ℕ} (a : Answer) → not (k .readable) ≡ false
-      → Called (verdict (cellOf p 0 row) (cellOf p 2 row) (k .count) (take (k .count) (snCells p row))) (k .swap) (cellOf p 2 row) xs is ys js a
-      → Written os at (answerText a ys js) ps q → RowAnswered (requestOf p row) xs is os at ys js ps (record { number = a .number; next = q })
-  row-drawn {ys} {js} {ps} {q} a h d w =
+  pub row-drawn : (js ps : List ℕ) (r : Answered) → not (k .readable) ≡ false
+      → Drawn (verdict (cellOf p 0 row) (cellOf p 2 row) (k .count) (take (k .count) (snCells p row))) (k .swap) (cellOf p 2 row) is os at js ps r
+      → RowAnswered (requestOf p row) is os at js ps r
+  row-drawn js ps r h d =
       let ts : List (List ℕ) = take (k .count) (snCells p row) in
-      let v : Verdict = verdict (cellOf p 0 row) (cellOf p 2 row) (length ts) ts in
-      let c : Called v (k .swap) (cellOf p 2 row) xs is ys js a
-      = subst (λ (n : ℕ). Called (verdict (cellOf p 0 row) (cellOf p 2 row) n ts) (k .swap) (cellOf p 2 row) xs is ys js a) (asked-count p row k e h) d in
-      rw (asked-request p row k e h)
-      (record {
-        text = (rw (answer-told (k .swap) (cellOf p 2 row) xs is v a ys js (c .answers)) at w);
-        answer = number-told (k .swap) (cellOf p 2 row) xs is v a ys js (c .answers);
-        line = c .answers .line;
-        index = c .answers .index;
-      })
+      let w : Drawn (verdict (cellOf p 0 row) (cellOf p 2 row) (length ts) ts) (k .swap) (cellOf p 2 row) is os at js ps r
+      = subst (λ (n : ℕ). Drawn (verdict (cellOf p 0 row) (cellOf p 2 row) n ts) (k .swap) (cellOf p 2 row) is os at js ps r) (asked-count p row k e h) d in
+      rw (asked-request p row k e h) (record { text = w .text; answer = w .answer; index = w .index })

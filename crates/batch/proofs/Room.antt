@@ -1,4 +1,4 @@
--- How long a row of the output is: a reply has room in the slices' lengths, five bytes to an index, and 20 bytes more. So a row that is begun
+-- How long a row of the output is: a reply has room in the length of the line slice, five bytes to a number of the index slice, and 20 bytes more. So a row that is begun
 -- in a slice with that much room is written whole. Assumes nothing.
 use Prim.Native.Nat.{ℕ, _+_, _*_, _≤_, _<_}
 use native.Mathlib.Omega.{arith}
@@ -30,9 +30,8 @@ use Rattle.rows.specs.Text.{chainText, chainsText}
 use Rattle.tally.specs.Counts.{answers}
 use Rattle.heads.proofs.Room.{digits-few, total, joined-total, numbers-total, row-length}
 use Rattle.beginning.specs.Beginning.{refused, replyText}
-use Rattle.batch.specs.Reply.{carbonsIn, accepted, replyTo, replyOf}
-use Rattle.batch.proofs.ReplyLaws.{length-sorted}
-use Rattle.batch.proofs.Whole.{either-left, either-right}
+use Rattle.batch.specs.Reply.{carbonsIn, accepted, lineRoom, replyTo, replyOf}
+use Rattle.batch.proofs.ReplyLaws.{length-sorted, either-left, either-right}
 use Rattle.batch.proofs.Tallied.{refusal-small}
 
 -- ---- the chains
@@ -70,23 +69,23 @@ accepted-room c swap t ds line index a e =
     let z : length (decimal 0) ≤ 1 = digits-few 0 0 (omega arith) in
     omega (arith, row-length 0 0 (lineOf c swap t ds) (map carbonsIn ps), joined-total 59 (map chainText (map carbonsIn ps)), l, i, few, w, z)
 
--- every reply to a row, for slices of these lengths
-pub reply-room : (p : Plan) (row : List ℕ) (line index : ℕ) → length (replyText (replyOf (requestOf p row) line index)) ≤ line + 5 * index + 20
-reply-room p row line index = go (told (requestOf p row) .readable) refl
+-- every reply to a row, for an index slice of this length
+pub reply-room : (p : Plan) (row : List ℕ) (index : ℕ) → length (replyText (replyOf (requestOf p row) index)) ≤ lineRoom + 5 * index + 20
+reply-room p row index = go (told (requestOf p row) .readable) refl
   where
     a : Asked
     a = told (requestOf p row)
 
     drawn : (swap : Bool) (t : List ℕ) (v : Verdict) → ((n q : ℕ) → v ≡ Refused n q → (isRefusal n ≡ true) × (q ≤ 4)) → ((c : Class) (ds : List Chain) → v ≡ Drawable c ds → Accepted c t ds)
-        → length (replyText (replyTo v swap t line index)) ≤ line + 5 * index + 20
+        → length (replyText (replyTo v swap t index)) ≤ lineRoom + 5 * index + 20
     drawn swap t (Refused n q) f g = let z = f n q refl in omega (arith, refused-room n q (refusal-small n (z .0)) (z .1))
-    drawn swap t (Drawable c ds) f g = whole (short c swap t ds line index) refl
+    drawn swap t (Drawable c ds) f g = whole (short c swap t ds lineRoom index) refl
       where
-        whole : (b : Bool) → short c swap t ds line index ≡ b → length (replyText (cond b (refused 41 0) (accepted c swap t ds))) ≤ line + 5 * index + 20
+        whole : (b : Bool) → short c swap t ds lineRoom index ≡ b → length (replyText (cond b (refused 41 0) (accepted c swap t ds))) ≤ lineRoom + 5 * index + 20
         whole true e = omega (arith, refused-room 41 0 (omega arith) (omega arith))
-        whole false e = accepted-room c swap t ds line index (g c ds refl) e
+        whole false e = accepted-room c swap t ds lineRoom index (g c ds refl) e
 
-    go : (b : Bool) → told (requestOf p row) .readable ≡ b → length (replyText (replyOf (requestOf p row) line index)) ≤ line + 5 * index + 20
+    go : (b : Bool) → told (requestOf p row) .readable ≡ b → length (replyText (replyOf (requestOf p row) index)) ≤ lineRoom + 5 * index + 20
     go true e =
         let h : not (a .readable) ≡ false = ap not e in
         let ts : List (List ℕ) = take (a .count) (snCells p row) in

@@ -19,7 +19,7 @@ use Rattle.sheet.specs.Sheet.{requestOf, told}
 use Rattle.sheet.proofs.Requested.{asked-nothing, asked-request, asked-count}
 use Rattle.tally.specs.Counts.{answers}
 use Rattle.beginning.specs.Beginning.{refused}
-use Rattle.batch.specs.Reply.{accepted, replyTo, replyOf}
+use Rattle.batch.specs.Reply.{accepted, lineRoom, replyTo, replyOf}
 
 -- ---- every answer has a count
 
@@ -43,22 +43,22 @@ refusal-small n e =
     (omega arith, (omega arith, (omega arith, (omega arith, (omega arith, (omega arith, (omega arith, (omega arith, (omega arith, (omega arith, (omega arith, (omega arith, tt)))))))))))) e
 
 -- the number of a reply to a row
-pub reply-counted : (p : Plan) (row : List ℕ) (line index : ℕ) → replyOf (requestOf p row) line index .number < answers
+pub reply-counted : (p : Plan) (row : List ℕ) (index : ℕ) → replyOf (requestOf p row) index .number < answers
 unfolding accepted
-reply-counted p row line index = go (told (requestOf p row) .readable) refl
+reply-counted p row index = go (told (requestOf p row) .readable) refl
   where
     a : Asked
     a = told (requestOf p row)
 
-    drawn : (swap : Bool) (t : List ℕ) (v : Verdict) → ((n q : ℕ) → v ≡ Refused n q → isRefusal n ≡ true) → replyTo v swap t line index .number < answers
+    drawn : (swap : Bool) (t : List ℕ) (v : Verdict) → ((n q : ℕ) → v ≡ Refused n q → isRefusal n ≡ true) → replyTo v swap t index .number < answers
     drawn swap t (Refused n q) f = refusal-small n (f n q refl)
-    drawn swap t (Drawable c ds) f = whole (short c swap t ds line index)
+    drawn swap t (Drawable c ds) f = whole (short c swap t ds lineRoom index)
       where
         whole : (b : Bool) → cond b (refused 41 0) (accepted c swap t ds) .number < answers
         whole true = omega arith
         whole false = omega arith
 
-    go : (b : Bool) → told (requestOf p row) .readable ≡ b → replyOf (requestOf p row) line index .number < answers
+    go : (b : Bool) → told (requestOf p row) .readable ≡ b → replyOf (requestOf p row) index .number < answers
     go true e =
         let h : not (a .readable) ≡ false = ap not e in
         let ts : List (List ℕ) = take (a .count) (snCells p row) in

@@ -10,7 +10,7 @@ use lib.Dec.{ltb}
 use borrow.Author.Tests.{ltb-false}
 use Rattle.template.specs.Request.{lineOf, indexOf}
 use Rattle.judge.specs.Verdict.{Verdict, Refused, Drawable, verdict}
-use Rattle.forward.specs.Answer.{short, atStart, lineAfter, indexAfter}
+use Rattle.forward.specs.Answer.{short, atStart}
 use Rattle.form.specs.Parts.{partsAt}
 use Rattle.header.specs.declared.Plan.{Plan}
 use Rattle.sheet.specs.Header.{planOf}
@@ -18,141 +18,119 @@ use Rattle.sheet.specs.Sheet.{Row, Unreadable, Asks, requestOf}
 use Rattle.beginning.specs.declared.Stage.the-variants.{Rows, Over}
 use Rattle.tally.specs.Counts.{counting, noTimes, timesFrom, timesOf, countLines}
 use Rattle.beginning.specs.Beginning.{Reply, refused, replyText, textsOf, numbersOf, titles, noBatch}
-use Rattle.batch.specs.Reply.{replyOf, lineIn, indexIn}
+use Rattle.batch.specs.Reply.{lineRoom, replyOf, indexTo, indexIn}
+use Rattle.batch.proofs.ReplyLaws.{either-right}
 use Rattle.batch.specs.Batch.{rowsOf, repliesTo, repliesIn, batchText, Held, batchAfter, heldAfter, heldLast, heldEnd, before}
 
--- ---- the slices keep their lengths
+-- ---- the index slice keeps its length
 
 start-length : (text xs : List ℕ) → length text ≤ length xs → length (atStart text xs) ≡ length xs
 unfolding atStart
 start-length text xs h = omega (arith, length-append text (drop (length text) xs), length-drop (length text) xs)
 
-pub either-left : (a b : Bool) → (a || b) ≡ false → a ≡ false
-either-left true b e = absurd (true≢false e)
-either-left false b e = refl
+index-to : (is : List ℕ) (v : Verdict) (swap : Bool) (t : List ℕ) → length (indexTo v swap t is) ≡ length is
+unfolding short
+index-to is (Refused n p) swap t = refl
+index-to is (Drawable c ds) swap t = go (short c swap t ds lineRoom (length is)) refl
+  where
+    go : (b : Bool) → short c swap t ds lineRoom (length is) ≡ b → length (cond b is (atStart (indexOf c t ds) is)) ≡ length is
+    go true e = refl
+    go false e = start-length (indexOf c t ds) is (ltb-false (length is) (length (indexOf c t ds)) (either-right (ltb lineRoom (length (lineOf c swap t ds))) (ltb (length is) (length (indexOf c t ds))) e))
 
-pub either-right : (a b : Bool) → (a || b) ≡ false → b ≡ false
-either-right true b e = absurd (true≢false e)
-either-right false b e = e
-
-module _ (xs is : List ℕ) where
-  line-after : (v : Verdict) (swap : Bool) (t : List ℕ) → length (lineAfter v swap t xs is) ≡ length xs
-  unfolding short
-  line-after (Refused n p) swap t = refl
-  line-after (Drawable c ds) swap t = go (short c swap t ds (length xs) (length is)) refl
-    where
-      go : (b : Bool) → short c swap t ds (length xs) (length is) ≡ b → length (cond b xs (atStart (lineOf c swap t ds) xs)) ≡ length xs
-      go true e = refl
-      go false e = start-length (lineOf c swap t ds) xs (ltb-false (length xs) (length (lineOf c swap t ds)) (either-left (ltb (length xs) (length (lineOf c swap t ds))) (ltb (length is) (length (indexOf c t ds))) e))
-
-  index-after : (v : Verdict) (swap : Bool) (t : List ℕ) → length (indexAfter v swap t xs is) ≡ length is
-  unfolding short
-  index-after (Refused n p) swap t = refl
-  index-after (Drawable c ds) swap t = go (short c swap t ds (length xs) (length is)) refl
-    where
-      go : (b : Bool) → short c swap t ds (length xs) (length is) ≡ b → length (cond b is (atStart (indexOf c t ds) is)) ≡ length is
-      go true e = refl
-      go false e = start-length (indexOf c t ds) is (ltb-false (length is) (length (indexOf c t ds)) (either-right (ltb (length xs) (length (lineOf c swap t ds))) (ltb (length is) (length (indexOf c t ds))) e))
-
-  pub line-length : (w : Row) → length (lineIn w xs is) ≡ length xs
-  line-length Unreadable = refl
-  line-length (Asks class swap t ts) = line-after (verdict class t (length ts) ts) swap t
-
-  pub index-length : (w : Row) → length (indexIn w xs is) ≡ length is
-  index-length Unreadable = refl
-  index-length (Asks class swap t ts) = index-after (verdict class t (length ts) ts) swap t
+pub index-length : (is : List ℕ) (w : Row) → length (indexIn w is) ≡ length is
+index-length is Unreadable = refl
+index-length is (Asks class swap t ts) = index-to is (verdict class t (length ts) ts) swap t
 
 -- ---- among the rows
 
 module _ (p : Plan) where
-  abbrev among : List ℕ → List ℕ → List ℕ → List ℕ → Held
-  among ts xs is w = record { batch = record { stage = Rows; plan = p; counts = counting ts }; line = xs; index = is; text = w }
+  abbrev among : List ℕ → List ℕ → List ℕ → Held
+  among ts is w = record { batch = record { stage = Rows; plan = p; counts = counting ts }; index = is; text = w }
 
-  abbrev replies : List (List ℕ) → ℕ → ℕ → List Reply
-  replies rows line index = map (λ row. replyOf (requestOf p row) line index) rows
+  abbrev replies : List (List ℕ) → ℕ → List Reply
+  replies rows index = map (λ row. replyOf (requestOf p row) index) rows
 
 -- what some parts leave
-record RowsTold (p : Plan) (parts : List (List ℕ)) (ts xs is w : List ℕ) : Type 0 where
-  text : heldEnd (among p ts xs is w) parts .text ≡ w ++ textsOf (replies p (rowsOf parts) (length xs) (length is))
-  times : heldEnd (among p ts xs is w) parts .batch .counts .times ≡ timesFrom ts (numbersOf (replies p (rowsOf parts) (length xs) (length is)))
+record RowsTold (p : Plan) (parts : List (List ℕ)) (ts is w : List ℕ) : Type 0 where
+  text : heldEnd (among p ts is w) parts .text ≡ w ++ textsOf (replies p (rowsOf parts) (length is))
+  times : heldEnd (among p ts is w) parts .batch .counts .times ≡ timesFrom ts (numbersOf (replies p (rowsOf parts) (length is)))
 
-rows-told : (p : Plan) (parts : List (List ℕ)) (ts xs is w : List ℕ) → RowsTold p parts ts xs is w
+rows-told : (p : Plan) (parts : List (List ℕ)) (ts is w : List ℕ) → RowsTold p parts ts is w
 unfolding heldEnd heldLast heldAfter batchAfter textsOf numbersOf rowsOf timesFrom
-rows-told p [] ts xs is w = record { text = sym (append-nil w); times = refl }
-rows-told p ([] ∷ []) ts xs is w = record { text = sym (append-nil w); times = refl }
-rows-told p ((x ∷ l) ∷ []) ts xs is w = record { text = refl; times = refl }
-rows-told p (l ∷ k ∷ ls) ts xs is w = go (rows-told p (k ∷ ls) (timesFrom ts (r .number ∷ [])) (lineIn q xs is) (indexIn q xs is) (w ++ (replyText r ++ [])))
+rows-told p [] ts is w = record { text = sym (append-nil w); times = refl }
+rows-told p ([] ∷ []) ts is w = record { text = sym (append-nil w); times = refl }
+rows-told p ((x ∷ l) ∷ []) ts is w = record { text = refl; times = refl }
+rows-told p (l ∷ k ∷ ls) ts is w = go (rows-told p (k ∷ ls) (timesFrom ts (r .number ∷ [])) (indexIn q is) (w ++ (replyText r ++ [])))
   where
     q : Row
     q = requestOf p l
 
     r : Reply
-    r = replyOf q (length xs) (length is)
+    r = replyOf q (length is)
 
     joining : (rest : List ℕ) → (w ++ (replyText r ++ [])) ++ rest ≡ w ++ (replyText r ++ rest)
     joining rest = rw (append-nil (replyText r), append-assoc w (replyText r) rest)
 
-    go : RowsTold p (k ∷ ls) (timesFrom ts (r .number ∷ [])) (lineIn q xs is) (indexIn q xs is) (w ++ (replyText r ++ [])) → RowsTold p (l ∷ k ∷ ls) ts xs is w
+    go : RowsTold p (k ∷ ls) (timesFrom ts (r .number ∷ [])) (indexIn q is) (w ++ (replyText r ++ [])) → RowsTold p (l ∷ k ∷ ls) ts is w
     go h =
         record {
-          text = (rw (line-length xs is q, index-length xs is q) at (h .text)) ∙ joining (textsOf (replies p (rowsOf (k ∷ ls)) (length xs) (length is)));
-          times = (rw (line-length xs is q, index-length xs is q) at (h .times));
+          text = (rw (index-length is q) at (h .text)) ∙ joining (textsOf (replies p (rowsOf (k ∷ ls)) (length is)));
+          times = (rw (index-length is q) at (h .times));
         }
 
 -- after a header that ends the batch nothing changes
-over-told : (p : Plan) (parts : List (List ℕ)) (ts xs is w : List ℕ)
-    → heldEnd (record { batch = record { stage = Over; plan = p; counts = counting ts }; line = xs; index = is; text = w }) parts
-    ≡ record { batch = record { stage = Over; plan = p; counts = counting ts }; line = xs; index = is; text = w }
+over-told : (p : Plan) (parts : List (List ℕ)) (ts is w : List ℕ)
+    → heldEnd (record { batch = record { stage = Over; plan = p; counts = counting ts }; index = is; text = w }) parts
+    ≡ record { batch = record { stage = Over; plan = p; counts = counting ts }; index = is; text = w }
 unfolding heldEnd heldLast heldAfter batchAfter textsOf numbersOf timesFrom
-over-told p [] ts xs is w = refl
-over-told p ([] ∷ []) ts xs is w = refl
-over-told p ((x ∷ l) ∷ []) ts xs is w = rw (append-nil w)
-over-told p (l ∷ k ∷ ls) ts xs is w = rw (append-nil w) (over-told p (k ∷ ls) ts xs is w)
+over-told p [] ts is w = refl
+over-told p ([] ∷ []) ts is w = refl
+over-told p ((x ∷ l) ∷ []) ts is w = rw (append-nil w)
+over-told p (l ∷ k ∷ ls) ts is w = rw (append-nil w) (over-told p (k ∷ ls) ts is w)
 
 -- ---- the whole batch
 
 -- what all parts of the input leave, and what is printed after them
-pub record WholeTold (parts : List (List ℕ)) (xs is : List ℕ) : Type 0 where
-  pub text : heldEnd (before noBatch xs is) parts .text ≡ textsOf (repliesIn parts (length xs) (length is))
-  pub times : heldEnd (before noBatch xs is) parts .batch .counts .times ≡ timesOf (numbersOf (repliesIn parts (length xs) (length is)))
+pub record WholeTold (parts : List (List ℕ)) (is : List ℕ) : Type 0 where
+  pub text : heldEnd (before noBatch is) parts .text ≡ textsOf (repliesIn parts (length is))
+  pub times : heldEnd (before noBatch is) parts .batch .counts .times ≡ timesOf (numbersOf (repliesIn parts (length is)))
 
 -- after the header
-abbrev headed : Bool → List ℕ → List ℕ → List ℕ → Held
-headed b l xs is =
+abbrev headed : Bool → List ℕ → List ℕ → Held
+headed b l is =
     record {
       batch = record { stage = cond b Rows Over; plan = planOf l; counts = counting (timesFrom noTimes (numbersOf (cond b [] (refused 42 0 ∷ [])))) };
-      line = xs;
       index = is;
       text = textsOf (cond b [] (refused 42 0 ∷ []));
     }
 
-headed-text : (b : Bool) (l : List ℕ) (parts : List (List ℕ)) (xs is : List ℕ)
-    → heldEnd (headed b l xs is) parts .text ≡ textsOf (cond b (replies (planOf l) (rowsOf parts) (length xs) (length is)) (refused 42 0 ∷ []))
+headed-text : (b : Bool) (l : List ℕ) (parts : List (List ℕ)) (is : List ℕ)
+    → heldEnd (headed b l is) parts .text ≡ textsOf (cond b (replies (planOf l) (rowsOf parts) (length is)) (refused 42 0 ∷ []))
 unfolding textsOf numbersOf timesFrom
-headed-text true l parts xs is = rows-told (planOf l) parts noTimes xs is [] .text
-headed-text false l parts xs is = ap (λ (h : Held). h .text) (over-told (planOf l) parts (timesFrom noTimes (42 ∷ [])) xs is (textsOf (refused 42 0 ∷ [])))
+headed-text true l parts is = rows-told (planOf l) parts noTimes is [] .text
+headed-text false l parts is = ap (λ (h : Held). h .text) (over-told (planOf l) parts (timesFrom noTimes (42 ∷ [])) is (textsOf (refused 42 0 ∷ [])))
 
-headed-times : (b : Bool) (l : List ℕ) (parts : List (List ℕ)) (xs is : List ℕ)
-    → heldEnd (headed b l xs is) parts .batch .counts .times
-    ≡ timesOf (numbersOf (cond b (replies (planOf l) (rowsOf parts) (length xs) (length is)) (refused 42 0 ∷ [])))
+headed-times : (b : Bool) (l : List ℕ) (parts : List (List ℕ)) (is : List ℕ)
+    → heldEnd (headed b l is) parts .batch .counts .times
+    ≡ timesOf (numbersOf (cond b (replies (planOf l) (rowsOf parts) (length is)) (refused 42 0 ∷ [])))
 unfolding textsOf numbersOf timesFrom timesOf
-headed-times true l parts xs is = rows-told (planOf l) parts noTimes xs is [] .times
-headed-times false l parts xs is = ap (λ (h : Held). h .batch .counts .times) (over-told (planOf l) parts (timesFrom noTimes (42 ∷ [])) xs is (textsOf (refused 42 0 ∷ [])))
+headed-times true l parts is = rows-told (planOf l) parts noTimes is [] .times
+headed-times false l parts is = ap (λ (h : Held). h .batch .counts .times) (over-told (planOf l) parts (timesFrom noTimes (42 ∷ [])) is (textsOf (refused 42 0 ∷ [])))
 
-pub whole-told : (parts : List (List ℕ)) (xs is : List ℕ) → WholeTold parts xs is
+pub whole-told : (parts : List (List ℕ)) (is : List ℕ) → WholeTold parts is
 unfolding heldEnd heldLast heldAfter batchAfter textsOf numbersOf timesFrom timesOf repliesTo rowsOf
-whole-told [] xs is = record { text = refl; times = refl }
-whole-told ([] ∷ []) xs is = record { text = refl; times = refl }
-whole-told ((x ∷ l) ∷ []) xs is = record { text = refl; times = refl }
-whole-told (l ∷ k ∷ ls) xs is =
+whole-told [] is = record { text = refl; times = refl }
+whole-told ([] ∷ []) is = record { text = refl; times = refl }
+whole-told ((x ∷ l) ∷ []) is = record { text = refl; times = refl }
+whole-told (l ∷ k ∷ ls) is =
     record {
-      text = headed-text (planOf l .readable) l (k ∷ ls) xs is;
-      times = headed-times (planOf l .readable) l (k ∷ ls) xs is;
+      text = headed-text (planOf l .readable) l (k ∷ ls) is;
+      times = headed-times (planOf l .readable) l (k ∷ ls) is;
     }
 
 -- what is printed, when the input has ended
-pub batch-told : (sheet xs is : List ℕ)
-    → titles ++ (heldEnd (before noBatch xs is) (partsAt 10 sheet) .text ++ countLines (heldEnd (before noBatch xs is) (partsAt 10 sheet) .batch .counts .times))
-    ≡ batchText sheet (length xs) (length is)
+pub batch-told : (sheet is : List ℕ)
+    → titles ++ (heldEnd (before noBatch is) (partsAt 10 sheet) .text ++ countLines (heldEnd (before noBatch is) (partsAt 10 sheet) .batch .counts .times))
+    ≡ batchText sheet (length is)
 unfolding batchText
-batch-told sheet xs is = let h = whole-told (partsAt 10 sheet) xs is in rw (h .text, h .times)
+batch-told sheet is = let h = whole-told (partsAt 10 sheet) is in rw (h .text, h .times)

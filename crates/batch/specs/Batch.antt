@@ -17,7 +17,7 @@ use Rattle.batch.specs.declared.Lines.{Lines}
 use Rattle.batch.specs.declared.Passed.{Passed}
 use Rattle.tally.specs.Counts.{counting, timesFrom, timesOf, countLines}
 use Rattle.beginning.specs.Beginning.{Reply, refused, textsOf, numbersOf, titles, headerReplies}
-use Rattle.batch.specs.Reply.{replyOf, lineIn, indexIn}
+use Rattle.batch.specs.Reply.{replyOf, indexIn}
 
 -- ---- the whole batch
 
@@ -31,29 +31,29 @@ rowsOf [] = []
 rowsOf (l ∷ []) = unlessBlank l
 rowsOf (l ∷ k ∷ ls) = l ∷ rowsOf (k ∷ ls)
 
--- the replies to a header and its rows, for a line slice and an index slice of these lengths
-unfoldable pub repliesTo : List ℕ → List (List ℕ) → ℕ → ℕ → List Reply
-repliesTo header rows line index =
-    cond (planOf header .readable) (map (λ row. replyOf (requestOf (planOf header) row) line index) rows) (refused 42 0 ∷ [])
+-- the replies to a header and its rows, for an index slice of this length
+unfoldable pub repliesTo : List ℕ → List (List ℕ) → ℕ → List Reply
+repliesTo header rows index =
+    cond (planOf header .readable) (map (λ row. replyOf (requestOf (planOf header) row) index) rows) (refused 42 0 ∷ [])
 
 -- "Lines end in LF, the last at will": the first line is the header, of no bytes where the input has none
-abbrev pub repliesIn : List (List ℕ) → ℕ → ℕ → List Reply
-repliesIn [] line index = []
-repliesIn (header ∷ ls) line index = repliesTo header (rowsOf ls) line index
+abbrev pub repliesIn : List (List ℕ) → ℕ → List Reply
+repliesIn [] index = []
+repliesIn (header ∷ ls) index = repliesTo header (rowsOf ls) index
 
 -- what is printed
-unfoldable pub batchText : List ℕ → ℕ → ℕ → List ℕ
-batchText sheet line index =
-    let rs = repliesIn (partsAt 10 sheet) line index in
+unfoldable pub batchText : List ℕ → ℕ → List ℕ
+batchText sheet index =
+    let rs = repliesIn (partsAt 10 sheet) index in
     titles ++ (textsOf rs ++ countLines (timesOf (numbersOf rs)))
 
 -- ---- line by line
 
 -- the replies to a line
-abbrev pub repliesAt : Stage → Plan → List ℕ → ℕ → ℕ → List Reply
-repliesAt Header plan l line index = headerReplies l
-repliesAt Rows plan l line index = replyOf (requestOf plan l) line index ∷ []
-repliesAt Over plan l line index = []
+abbrev pub repliesAt : Stage → Plan → List ℕ → ℕ → List Reply
+repliesAt Header plan l index = headerReplies l
+repliesAt Rows plan l index = replyOf (requestOf plan l) index ∷ []
+repliesAt Over plan l index = []
 
 -- what follows it
 abbrev pub stageAfter : Stage → List ℕ → Stage
@@ -66,40 +66,33 @@ planAfter Header plan l = planOf l
 planAfter Rows plan l = plan
 planAfter Over plan l = plan
 
--- what it leaves in the lent slices
-abbrev pub lineAt : Stage → Plan → List ℕ → List ℕ → List ℕ → List ℕ
-lineAt Header plan l line index = line
-lineAt Rows plan l line index = lineIn (requestOf plan l) line index
-lineAt Over plan l line index = line
+-- what it leaves in the lent index slice
+abbrev pub indexAt : Stage → Plan → List ℕ → List ℕ → List ℕ
+indexAt Header plan l index = index
+indexAt Rows plan l index = indexIn (requestOf plan l) index
+indexAt Over plan l index = index
 
-abbrev pub indexAt : Stage → Plan → List ℕ → List ℕ → List ℕ → List ℕ
-indexAt Header plan l line index = index
-indexAt Rows plan l line index = indexIn (requestOf plan l) line index
-indexAt Over plan l line index = index
-
--- a batch with its lent slices and what it has written
+-- a batch with its lent index slice and what it has written
 pub record Held : Type 0 where
   pub batch : Batch
-  pub line : List ℕ
   pub index : List ℕ
   pub text : List ℕ
 
 -- after one more line
-unfoldable pub batchAfter : Batch → List ℕ → ℕ → ℕ → Batch
-batchAfter b l line index =
+unfoldable pub batchAfter : Batch → List ℕ → ℕ → Batch
+batchAfter b l index =
     record {
       stage = stageAfter (b .stage) l;
       plan = planAfter (b .stage) (b .plan) l;
-      counts = counting (timesFrom (b .counts .times) (numbersOf (repliesAt (b .stage) (b .plan) l line index)));
+      counts = counting (timesFrom (b .counts .times) (numbersOf (repliesAt (b .stage) (b .plan) l index)));
     }
 
 unfoldable pub heldAfter : Held → List ℕ → Held
 heldAfter h l =
     record {
-      batch = batchAfter (h .batch) l (length (h .line)) (length (h .index));
-      line = lineAt (h .batch .stage) (h .batch .plan) l (h .line) (h .index);
-      index = indexAt (h .batch .stage) (h .batch .plan) l (h .line) (h .index);
-      text = h .text ++ textsOf (repliesAt (h .batch .stage) (h .batch .plan) l (length (h .line)) (length (h .index)));
+      batch = batchAfter (h .batch) l (length (h .index));
+      index = indexAt (h .batch .stage) (h .batch .plan) l (h .index);
+      text = h .text ++ textsOf (repliesAt (h .batch .stage) (h .batch .plan) l (length (h .index)));
     }
 
 -- after some lines
@@ -132,22 +125,21 @@ heldEnd h (l ∷ k ∷ ls) = heldEnd (heldAfter h l) (k ∷ ls)
 abbrev pub staged : Stage → Batch → Batch
 staged s b = record { stage = s; plan = b .plan; counts = b .counts }
 
--- h is what some output, ps after os, and the slices hold
-pub record Holds (os : List ℕ) (at : ℕ) (h : Held) (b : Batch) (ys js ps : List ℕ) (next : ℕ) : Type 0 where
+-- h is what some output, ps after os, and the index slice hold
+pub record Holds (os : List ℕ) (at : ℕ) (h : Held) (b : Batch) (js ps : List ℕ) (next : ℕ) : Type 0 where
   pub batch : b ≡ h .batch
-  pub line : ys ≡ h .line
   pub index : js ≡ h .index
   pub text : Written os at (h .text) ps next
 
-abbrev pub before : Batch → List ℕ → List ℕ → Held
-before b xs is = record { batch = b; line = xs; index = is; text = [] }
+abbrev pub before : Batch → List ℕ → Held
+before b is = record { batch = b; index = is; text = [] }
 
 -- some lines of a text were answered: those before the place `used`, after which its other parts begin; there is only one where no line was
 -- left
-pub record LinesAnswered (b : Batch) (text xs is os : List ℕ) (at limit : ℕ) (ys js ps : List ℕ) (r : Lines) : Type 0 where
+pub record LinesAnswered (b : Batch) (text is os : List ℕ) (at limit : ℕ) (js ps : List ℕ) (r : Lines) : Type 0 where
   pub lines : List (List ℕ)
   pub parts : partsAt 10 text ≡ lines ++ partsAt 10 (drop (r .used) text)
-  pub holds : Holds os at (heldFrom (before b xs is) lines) (r .batch) ys js ps (r .next)
+  pub holds : Holds os at (heldFrom (before b is) lines) (r .batch) js ps (r .next)
   pub within : r .used ≤ length text
   pub all : r .whole ≡ true → partsAt 10 (drop (r .used) text) ≡ drop (r .used) text ∷ []
   pub some : r .whole ≡ false → limit < r .next
@@ -166,7 +158,6 @@ abbrev pub passedIn : Plan → List ℕ → Passed → Lines
 passedIn plan times r = record { batch = among plan times; used = r .used; next = r .next; whole = r .whole }
 
 -- the last answer and the counts were written; h is held then
-pub record Finished (b : Batch) (l xs is os : List ℕ) (at : ℕ) (ys js ps : List ℕ) (r : ℕ) : Type 0 where
-  pub line : ys ≡ heldLast (before b xs is) l .line
-  pub index : js ≡ heldLast (before b xs is) l .index
-  pub text : Written os at (heldLast (before b xs is) l .text ++ countLines (heldLast (before b xs is) l .batch .counts .times)) ps r
+pub record Finished (b : Batch) (l is os : List ℕ) (at : ℕ) (js ps : List ℕ) (r : ℕ) : Type 0 where
+  pub index : js ≡ heldLast (before b is) l .index
+  pub text : Written os at (heldLast (before b is) l .text ++ countLines (heldLast (before b is) l .batch .counts .times)) ps r

@@ -1,7 +1,7 @@
 // A sheet of requests answered row by row: each row is taken apart, drawn, and written as a row of the output; the answers are counted. What
 // is written of a row is said by specs/Reply.antt, and of a sheet by specs/Batch.antt.
 ghost use mathlib.Core.Path.{_≡_};
-ghost use Prim.Native.Nat.{min};
+ghost use Prim.Native.Nat.{min, _+_, _≤_};
 ghost use lib.ListN.{length, take};
 ghost use Rattle.emit.specs.Text.{Written};
 ghost use Rattle.judge.specs.Verdict.{verdict};
@@ -9,7 +9,9 @@ ghost use Rattle.forward.specs.Call.{Called};
 ghost use Rattle.cutting.specs.Cut.{Cut};
 ghost use Rattle.sheet.specs.Cells.{cellOf, snCells};
 ghost use Rattle.sheet.specs.Sheet.{requestOf};
-ghost use Rattle.batch.specs.Reply.{answerText, RowAnswered};
+ghost use Rattle.beginning.specs.Beginning.{refused, replyText};
+ghost use Rattle.rows.specs.Chains.{carbonsOf};
+ghost use Rattle.batch.specs.Reply.{lineRoom, answerText, Around, Drawn, RowAnswered};
 ghost use Rattle.pairs.specs.Pairs.{Pairs};
 ghost use Rattle.beginning.specs.declared.Stage.the-variants.{Rows};
 ghost use Rattle.batch.specs.Batch.{heldAfter, before, staged, Holds, LinesAnswered, among, passedIn, isRows, isHeader, heldLast, Finished};
@@ -22,14 +24,23 @@ pub use beginning::put_titles;
 use beginning::put_unreadable;
 use drawable::LIST_ROOM;
 use forward::Answer;
+use listing::Lists;
 use pairs::PAIRS;
 use pairs::fill_pairs;
 pub use remnant::keep;
+use rows::put_head;
+use rows::put_rest;
 use rows::put_row_by;
 use sheet::Plan;
 use tally::Counts;
 use tally::count_in;
 use tally::put_count_lines;
+
+// The length of the line slice.
+pub const LINE: usize = 65536;
+
+// What stands before the line in the row of an accepted request: `0`, a tab, `0` and a tab.
+const HEAD: usize = 4;
 
 // How much of the line slice is the line.
 fn in_line(size: usize, line: &[u8]) -> usize
@@ -103,13 +114,81 @@ fn draw_row(
     )
 }
 
-// A row that is cut into so many cells: its answer, written at a place of the output, with a table of digits, which may be empty.
-fn answer_cut(
+// The row of a refused request.
+fn put_refused(out: &mut [u8], at: usize, number: u16, token: usize) -> usize
+    ensures { λ r. ⌜ Written (now (out .entry)) at (replyText (refused number token)) (now (out .exit)) r ⌝ }
+{
+    let p = put_head(out, at, number, token);
+    emit::put_text(out, p, b"\t\n")
+}
+
+// The row of an accepted request whose line, of so many bytes, stands in its place already: its head, and what follows the line.
+fn put_around(
+    out: &mut [u8],
+    at: usize,
+    size: usize,
+    lists: Lists,
+    index: &[u16],
+    pairs: &[u16],
+) -> usize
+    requires { ⌜ (at + 4 + size ≤ length (now out)) × Pairs (now pairs) ⌝ }
+    ensures { λ r. ⌜ Around (now (out .entry)) at size (carbonsOf (take (lists .count) (lists .items)) (now (index .entry))) (now (out .exit)) r ⌝ }
+{
+    put_head(out, at, 0, 0);
+    put_rest(out, at + HEAD + size, lists, index, pairs)
+}
+
+// A row that is readable and cut into so many cells, drawn where its line is to stand in the output: four bytes after the place of the row,
+// for the head of an accepted request is `0`, a tab, `0` and a tab. The part that is lent for the line has the length of the line slice, so
+// that a line too long is refused here as anywhere; a refused request leaves it as it was, and then the head is written over it.
+fn answer_in_place(
     plan: Plan,
     row: &[u8],
     cells: usize,
     starts: &[usize],
-    line: &mut [u8],
+    swap: bool,
+    count: usize,
+    index: &mut [u16],
+    out: &mut [u8],
+    at: usize,
+    pairs: &[u16],
+    lists: &mut [u64; LIST_ROOM],
+) -> Answered
+    requires { ⌜ Cut (now row) (now starts) cells × Pairs (now pairs) × (at + 4 + lineRoom ≤ length (now out)) ⌝ }
+    ensures { λ r. ⌜ Drawn (verdict (cellOf plan 0 (now (row .entry))) (cellOf plan 2 (now (row .entry))) count (take count (snCells plan (now (row .entry))))) swap (cellOf plan 2 (now (row .entry))) (now (index .entry)) (now (out .entry)) at (now (index .exit)) (now (out .exit)) r ⌝ }
+{
+    let from = at + HEAD;
+    let to = from + LINE;
+    let answer = draw_row(
+        plan,
+        row,
+        cells,
+        starts,
+        swap,
+        count,
+        &mut out[from..to],
+        index,
+        lists,
+    );
+    let number = answer.number;
+    if number == 0 {
+        let listed = answer.lists;
+        let next = put_around(out, at, answer.length, listed, index, pairs);
+        return Answered { number, next };
+    }
+    let next = put_refused(out, at, number, answer.token);
+    Answered { number, next }
+}
+
+// The same where the output has less room: the line is drawn apart and copied. Two calls lead here, and so the compiler does not lay this
+// function, with its long array, into the one that runs for every row.
+fn answer_apart(
+    plan: Plan,
+    row: &[u8],
+    cells: usize,
+    starts: &[usize],
+    swap: bool,
+    count: usize,
     index: &mut [u16],
     out: &mut [u8],
     at: usize,
@@ -117,40 +196,94 @@ fn answer_cut(
     lists: &mut [u64; LIST_ROOM],
 ) -> Answered
     requires { ⌜ Cut (now row) (now starts) cells × Pairs (now pairs) ⌝ }
-    ensures { λ r. ⌜ RowAnswered (requestOf plan (now (row .entry))) (now (line .entry)) (now (index .entry)) (now (out .entry)) at (now (line .exit)) (now (index .exit)) (now (out .exit)) r ⌝ }
+    ensures { λ r. ⌜ Drawn (verdict (cellOf plan 0 (now (row .entry))) (cellOf plan 2 (now (row .entry))) count (take count (snCells plan (now (row .entry))))) swap (cellOf plan 2 (now (row .entry))) (now (index .entry)) (now (out .entry)) at (now (index .exit)) (now (out .exit)) r ⌝ }
 {
-    let asked = sheet::read_cut(plan, row, cells, starts);
-    if !asked.readable {
-        return put_unreadable(out, at);
-    }
+    let mut line = [0u8; LINE];
     let answer = draw_row(
         plan,
         row,
         cells,
         starts,
-        asked.swap,
-        asked.count,
-        line,
+        swap,
+        count,
+        &mut line,
         index,
         lists,
     );
-    let next = put_answer(out, at, answer, line, index, pairs);
+    let next = put_answer(out, at, answer, &line, index, pairs);
     Answered {
         number: answer.number,
         next,
     }
 }
 
-// A row of the sheet: its answer, written at a place of the output.
-pub fn answer_row(
+// A row that is cut into so many cells: its answer, written at a place of the output, with a table of digits, which may be empty.
+fn answer_cut(
     plan: Plan,
     row: &[u8],
-    line: &mut [u8],
+    cells: usize,
+    starts: &[usize],
     index: &mut [u16],
     out: &mut [u8],
     at: usize,
+    pairs: &[u16],
+    lists: &mut [u64; LIST_ROOM],
 ) -> Answered
-    ensures { λ r. ⌜ RowAnswered (requestOf plan (now (row .entry))) (now (line .entry)) (now (index .entry)) (now (out .entry)) at (now (line .exit)) (now (index .exit)) (now (out .exit)) r ⌝ }
+    requires { ⌜ Cut (now row) (now starts) cells × Pairs (now pairs) ⌝ }
+    ensures { λ r. ⌜ RowAnswered (requestOf plan (now (row .entry))) (now (index .entry)) (now (out .entry)) at (now (index .exit)) (now (out .exit)) r ⌝ }
+{
+    let asked = sheet::read_cut(plan, row, cells, starts);
+    if !asked.readable {
+        return put_unreadable(out, at);
+    }
+    if out.len() < HEAD + LINE {
+        return answer_apart(
+            plan,
+            row,
+            cells,
+            starts,
+            asked.swap,
+            asked.count,
+            index,
+            out,
+            at,
+            pairs,
+            lists,
+        );
+    }
+    if out.len() - (HEAD + LINE) < at {
+        return answer_apart(
+            plan,
+            row,
+            cells,
+            starts,
+            asked.swap,
+            asked.count,
+            index,
+            out,
+            at,
+            pairs,
+            lists,
+        );
+    }
+    answer_in_place(
+        plan,
+        row,
+        cells,
+        starts,
+        asked.swap,
+        asked.count,
+        index,
+        out,
+        at,
+        pairs,
+        lists,
+    )
+}
+
+// A row of the sheet: its answer, written at a place of the output.
+pub fn answer_row(plan: Plan, row: &[u8], index: &mut [u16], out: &mut [u8], at: usize) -> Answered
+    ensures { λ r. ⌜ RowAnswered (requestOf plan (now (row .entry))) (now (index .entry)) (now (out .entry)) at (now (index .exit)) (now (out .exit)) r ⌝ }
 {
     let mut starts = [0usize; sheet::STARTS];
     let cells = sheet::cut(row, &mut starts);
@@ -161,7 +294,6 @@ pub fn answer_row(
         row,
         cells,
         &starts,
-        line,
         index,
         out,
         at,
@@ -179,19 +311,12 @@ pub struct Lines {
 }
 
 // A row, answered and counted.
-fn count_row(
-    batch: Batch,
-    row: &[u8],
-    line: &mut [u8],
-    index: &mut [u16],
-    out: &mut [u8],
-    at: usize,
-) -> Lined
-    ensures { λ r. ⌜ Holds (now (out .entry)) at (heldAfter (before (staged Rows batch) (now (line .entry)) (now (index .entry))) (now (row .entry))) (r .batch) (now (line .exit)) (now (index .exit)) (now (out .exit)) (r .next) ⌝ }
+fn count_row(batch: Batch, row: &[u8], index: &mut [u16], out: &mut [u8], at: usize) -> Lined
+    ensures { λ r. ⌜ Holds (now (out .entry)) at (heldAfter (before (staged Rows batch) (now (index .entry))) (now (row .entry))) (r .batch) (now (index .exit)) (now (out .exit)) (r .next) ⌝ }
 {
     let plan = batch.plan;
     let counts = batch.counts;
-    let answered = answer_row(plan, row, line, index, out, at);
+    let answered = answer_row(plan, row, index, out, at);
     let counted = counts.count(answered.number);
     let next = Batch {
         stage: Stage::Rows,
@@ -205,20 +330,13 @@ fn count_row(
 }
 
 // A line of the sheet, without its LF.
-pub fn answer_line(
-    batch: Batch,
-    text: &[u8],
-    line: &mut [u8],
-    index: &mut [u16],
-    out: &mut [u8],
-    at: usize,
-) -> Lined
-    ensures { λ r. ⌜ Holds (now (out .entry)) at (heldAfter (before batch (now (line .entry)) (now (index .entry))) (now (text .entry))) (r .batch) (now (line .exit)) (now (index .exit)) (now (out .exit)) (r .next) ⌝ }
+pub fn answer_line(batch: Batch, text: &[u8], index: &mut [u16], out: &mut [u8], at: usize) -> Lined
+    ensures { λ r. ⌜ Holds (now (out .entry)) at (heldAfter (before batch (now (index .entry))) (now (text .entry))) (r .batch) (now (index .exit)) (now (out .exit)) (r .next) ⌝ }
 {
     let stage = batch.stage;
     match stage {
         Stage::Header => answer_header(batch, text, out, at),
-        Stage::Rows => count_row(batch, text, line, index, out, at),
+        Stage::Rows => count_row(batch, text, index, out, at),
         Stage::Over => Lined { batch, next: at },
     }
 }
@@ -236,7 +354,6 @@ fn answer_rows(
     plan: Plan,
     times: &mut [u64],
     text: &[u8],
-    line: &mut [u8],
     index: &mut [u16],
     out: &mut [u8],
     at: usize,
@@ -244,7 +361,7 @@ fn answer_rows(
     pairs: &[u16],
 ) -> Passed
     requires { ⌜ Pairs (now pairs) ⌝ }
-    ensures { λ r. ⌜ LinesAnswered (among plan (now (times .entry))) (now (text .entry)) (now (line .entry)) (now (index .entry)) (now (out .entry)) at limit (now (line .exit)) (now (index .exit)) (now (out .exit)) (passedIn plan (now (times .exit)) r) ⌝ }
+    ensures { λ r. ⌜ LinesAnswered (among plan (now (times .entry))) (now (text .entry)) (now (index .entry)) (now (out .entry)) at limit (now (index .exit)) (now (out .exit)) (passedIn plan (now (times .exit)) r) ⌝ }
 {
     let mut lists = [0u64; LIST_ROOM];
     let mut t = text;
@@ -266,7 +383,6 @@ fn answer_rows(
             &t[0..n],
             found.cells,
             &starts,
-            line,
             index,
             out,
             p,
@@ -288,13 +404,12 @@ fn answer_rows(
 fn answer_each(
     batch: Batch,
     text: &[u8],
-    line: &mut [u8],
     index: &mut [u16],
     out: &mut [u8],
     at: usize,
     limit: usize,
 ) -> Lines
-    ensures { λ r. ⌜ LinesAnswered batch (now (text .entry)) (now (line .entry)) (now (index .entry)) (now (out .entry)) at limit (now (line .exit)) (now (index .exit)) (now (out .exit)) r ⌝ }
+    ensures { λ r. ⌜ LinesAnswered batch (now (text .entry)) (now (index .entry)) (now (out .entry)) at limit (now (index .exit)) (now (out .exit)) r ⌝ }
 {
     let mut b = batch;
     let mut t = text;
@@ -310,7 +425,7 @@ fn answer_each(
             };
         }
         let rest = &t[n + 1..];
-        let lined = answer_line(b, &t[0..n], line, index, out, p);
+        let lined = answer_line(b, &t[0..n], index, out, p);
         let after = lined.batch;
         b = after;
         p = lined.next;
@@ -328,24 +443,23 @@ fn answer_each(
 pub fn answer_lines(
     batch: Batch,
     text: &[u8],
-    line: &mut [u8],
     index: &mut [u16],
     out: &mut [u8],
     at: usize,
     limit: usize,
 ) -> Lines
-    ensures { λ r. ⌜ LinesAnswered batch (now (text .entry)) (now (line .entry)) (now (index .entry)) (now (out .entry)) at limit (now (line .exit)) (now (index .exit)) (now (out .exit)) r ⌝ }
+    ensures { λ r. ⌜ LinesAnswered batch (now (text .entry)) (now (index .entry)) (now (out .entry)) at limit (now (index .exit)) (now (out .exit)) r ⌝ }
 {
     let stage = batch.stage;
     if !is_rows(stage) {
-        return answer_each(batch, text, line, index, out, at, limit);
+        return answer_each(batch, text, index, out, at, limit);
     }
     let plan = batch.plan;
     let counts = batch.counts;
     let mut times = counts.times;
     let mut pairs = [0u16; PAIRS];
     fill_pairs(&mut pairs);
-    let passed = answer_rows(plan, &mut times, text, line, index, out, at, limit, &pairs);
+    let passed = answer_rows(plan, &mut times, text, index, out, at, limit, &pairs);
     let counted = Counts { times };
     let after = Batch {
         stage: Stage::Rows,
@@ -381,38 +495,24 @@ fn is_header(stage: Stage) -> bool
 }
 
 // What follows the last LF of the sheet: a line where it has bytes, or where it is the header.
-fn answer_last(
-    batch: Batch,
-    text: &[u8],
-    line: &mut [u8],
-    index: &mut [u16],
-    out: &mut [u8],
-    at: usize,
-) -> Lined
-    ensures { λ r. ⌜ Holds (now (out .entry)) at (heldLast (before batch (now (line .entry)) (now (index .entry))) (now (text .entry))) (r .batch) (now (line .exit)) (now (index .exit)) (now (out .exit)) (r .next) ⌝ }
+fn answer_last(batch: Batch, text: &[u8], index: &mut [u16], out: &mut [u8], at: usize) -> Lined
+    ensures { λ r. ⌜ Holds (now (out .entry)) at (heldLast (before batch (now (index .entry))) (now (text .entry))) (r .batch) (now (index .exit)) (now (out .exit)) (r .next) ⌝ }
 {
     let stage = batch.stage;
     if text.len() == 0 {
         if !is_header(stage) {
             return Lined { batch, next: at };
         }
-        return answer_line(batch, text, line, index, out, at);
+        return answer_line(batch, text, index, out, at);
     }
-    answer_line(batch, text, line, index, out, at)
+    answer_line(batch, text, index, out, at)
 }
 
 // The end of the sheet, with what follows its last LF: the last answer, if there is one, and the counts. Answers the place after them.
-pub fn finish(
-    batch: Batch,
-    text: &[u8],
-    line: &mut [u8],
-    index: &mut [u16],
-    out: &mut [u8],
-    at: usize,
-) -> usize
-    ensures { λ r. ⌜ Finished batch (now (text .entry)) (now (line .entry)) (now (index .entry)) (now (out .entry)) at (now (line .exit)) (now (index .exit)) (now (out .exit)) r ⌝ }
+pub fn finish(batch: Batch, text: &[u8], index: &mut [u16], out: &mut [u8], at: usize) -> usize
+    ensures { λ r. ⌜ Finished batch (now (text .entry)) (now (index .entry)) (now (out .entry)) at (now (index .exit)) (now (out .exit)) r ⌝ }
 {
-    let last = answer_last(batch, text, line, index, out, at);
+    let last = answer_last(batch, text, index, out, at);
     let end = last.batch;
     let counts = end.counts;
     put_count_lines(out, last.next, counts)

@@ -11,14 +11,12 @@ use libc::STDOUT_FILENO;
 // Bytes that are read at once, less what is left of the block before.
 const BLOCK: usize = 65536;
 
-// The line slice and the index slice.
-const LINE: usize = 65536;
-
+// The index slice.
 const INDICES: usize = 4096;
 
 // Room for the output, and how full it may be before one more row. A row has the bytes of the line slice, five to a number of the index
 // slice and 20 more at most, and the counts have 26 to each of 43 answers (proofs/Room.antt of `batch` and of `tally`): together less than
-// 98,304.
+// 98,304. So there is room for the line slice in the output too, and each line is drawn where it stands there.
 const OUT: usize = 262144;
 
 const LIMIT: usize = 163840;
@@ -48,21 +46,14 @@ struct Step {
 }
 
 // All lines of a text that end in LF. The output is put out whenever it is full enough.
-fn answer_text(
-    batch: Batch,
-    text: &[u8],
-    line: &mut [u8],
-    index: &mut [u16],
-    out: &mut [u8],
-    at: usize,
-) -> Step {
+fn answer_text(batch: Batch, text: &[u8], index: &mut [u16], out: &mut [u8], at: usize) -> Step {
     let mut b = batch;
     let mut rest = text;
     let mut p = at;
     let mut turns = u64::MAX;
     while turns > 0 {
         turns -= 1;
-        let lines = batch::answer_lines(b, rest, line, index, out, p, LIMIT);
+        let lines = batch::answer_lines(b, rest, index, out, p, LIMIT);
         let used = lines.used;
         let after = lines.batch;
         b = after;
@@ -120,15 +111,8 @@ fn read_more(block: &mut [u8], fill: usize) -> Block
 }
 
 // The end of the input, with what is left of it.
-fn end_all(
-    batch: Batch,
-    text: &[u8],
-    line: &mut [u8],
-    index: &mut [u16],
-    out: &mut [u8],
-    at: usize,
-) {
-    let end = batch::finish(batch, text, line, index, out, at);
+fn end_all(batch: Batch, text: &[u8], index: &mut [u16], out: &mut [u8], at: usize) {
+    let end = batch::finish(batch, text, index, out, at);
     flush(out, end);
 }
 
@@ -161,14 +145,13 @@ fn answer_block(
     state: State,
     block: &mut [u8],
     total: usize,
-    line: &mut [u8],
     index: &mut [u16],
     out: &mut [u8],
 ) -> State
     requires { ⌜ total ≤ length (now block) ⌝ }
 {
     let b = state.batch;
-    let step = answer_text(b, &block[0..total], line, index, out, state.at);
+    let step = answer_text(b, &block[0..total], index, out, state.at);
     let after = step.batch;
     if !step.ok {
         return ended(after);
@@ -183,13 +166,7 @@ fn answer_block(
 }
 
 // One read and what it brings.
-fn turn(
-    state: State,
-    block: &mut [u8],
-    line: &mut [u8],
-    index: &mut [u16],
-    out: &mut [u8],
-) -> State {
+fn turn(state: State, block: &mut [u8], index: &mut [u16], out: &mut [u8]) -> State {
     let b = state.batch;
     let fill = state.fill;
     let read = read_more(block, fill);
@@ -199,19 +176,19 @@ fn turn(
         return ended(b);
     }
     if total == fill {
-        end_all(b, &block[0..total], line, index, out, state.at);
+        end_all(b, &block[0..total], index, out, state.at);
         return ended(b);
     }
-    answer_block(state, block, total, line, index, out)
+    answer_block(state, block, total, index, out)
 }
 
 // A proved loop ends, and nothing says that the input does: the turns count down from a number that no run uses up.
-fn answer_all(state: State, block: &mut [u8], line: &mut [u8], index: &mut [u16], out: &mut [u8]) {
+fn answer_all(state: State, block: &mut [u8], index: &mut [u16], out: &mut [u8]) {
     let mut s = state;
     let mut turns = u64::MAX;
     while turns > 0 {
         turns -= 1;
-        let after = turn(s, block, line, index, out);
+        let after = turn(s, block, index, out);
         if !after.more {
             return;
         }
@@ -221,7 +198,6 @@ fn answer_all(state: State, block: &mut [u8], line: &mut [u8], index: &mut [u16]
 
 fn main() {
     let mut block = [0u8; BLOCK];
-    let mut line = [0u8; LINE];
     let mut index = [0u16; INDICES];
     let mut out = [0u8; OUT];
     let at = batch::put_titles(&mut out, 0);
@@ -232,5 +208,5 @@ fn main() {
         fill: 0,
         at,
     };
-    answer_all(start, &mut block, &mut line, &mut index, &mut out);
+    answer_all(start, &mut block, &mut index, &mut out);
 }

@@ -17,7 +17,7 @@ use Rattle.shown.specs.Chained.{listed}
 use Rattle.shown.proofs.Laws.{part-more}
 use Rattle.listing.specs.declared.Listed.{Listed}
 use Rattle.heads.specs.Text.{ended, tabbed, Carbons, chainText, chainsText, headText, rowText}
-use Rattle.rows.specs.Chains.{carbonsOf}
+use Rattle.rows.specs.Chains.{carbonsOf, restText}
 
 -- ---- texts
 
@@ -108,3 +108,13 @@ pub row-text : {xs ys zs ws vs : List ℕ} {a p q r s : ℕ} (answer token : ℕ
 unfolding rowText headText tabbed ended joined led
 row-text answer token line cs g w u v t =
     simp (append-assoc, append-nil) (simp append-assoc at (written-append g (written-append g (written-append g w u) v) t))
+
+pub rest-text : {xs ys zs ws : List ℕ} {a p q r : ℕ} (cs : List Carbons) → length xs < 2 ^ 64 → Written xs a (9 ∷ []) ys p → Written ys p (chainsText cs) zs q
+    → Written zs q (10 ∷ []) ws r → Written xs a (restText cs) ws r
+unfolding restText ended
+rest-text cs g w u v = written-append g (written-append g w u) v
+
+-- the text of a row is its head, its line and what follows it
+pub row-parts : (answer token : ℕ) (line : List ℕ) (cs : List Carbons) → headText answer token ++ (line ++ restText cs) ≡ rowText answer token line cs
+unfolding rowText headText tabbed ended joined led restText
+row-parts answer token line cs = simp (append-assoc, append-nil)

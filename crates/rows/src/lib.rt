@@ -1,6 +1,6 @@
 // A row of the output, written: its answer and the token's place as `heads` has them, the line, and the chains, whose indices are written as
-// `carbon_lists` has it. Each writer is of the kind of `emit`: it stores nothing past the end and counts on. What is written is said by
-// Text.antt of `heads`, and which chains are by specs/Chains.antt.
+// `carbon_lists` has it; or what follows the line alone. Each writer is of the kind of `emit`: it stores nothing past the end and counts on.
+// What is written is said by Text.antt of `heads`, and which chains are by specs/Chains.antt.
 ghost use mathlib.Core.Path.{_≡_};
 ghost use Prim.Native.Nat.{min};
 ghost use lib.ListN.{length, take};
@@ -8,7 +8,7 @@ ghost use Rattle.emit.specs.Text.{Written};
 ghost use Rattle.shown.specs.Chained.{listed};
 ghost use Rattle.heads.specs.Text.{ended, chainText, chainsText, rowText};
 ghost use Rattle.pairs.specs.Pairs.{Pairs};
-ghost use Rattle.rows.specs.Chains.{carbonsOf};
+ghost use Rattle.rows.specs.Chains.{carbonsOf, restText};
 use carbon_lists::put_indices;
 use emit::put_byte;
 pub use heads::put_decimal;
@@ -100,4 +100,14 @@ pub fn put_row_by(
     let q = put_text_cell(out, p, line);
     let r = put_chains(out, q, lists, index, pairs);
     put_byte(out, r, b'\n')
+}
+
+// What follows the line of a row that stands in its place already: a tab, the chains, and LF.
+pub fn put_rest(out: &mut [u8], at: usize, lists: Lists, index: &[u16], pairs: &[u16]) -> usize
+    requires { ⌜ Pairs (now pairs) ⌝ }
+    ensures { λ r. ⌜ Written (now (out .entry)) at (restText (carbonsOf (take (lists .count) (lists .items)) (now (index .entry)))) (now (out .exit)) r ⌝ }
+{
+    let p = put_byte(out, at, b'\t');
+    let q = put_chains(out, p, lists, index, pairs);
+    put_byte(out, q, b'\n')
 }

@@ -1,35 +1,32 @@
 use borrow.Author.Needs.{needs}
 use native.Mathlib.Omega.{arith}
-use Rattle.batch.proofs.LineLaws.{Turned, turn-start, turn-more, turn-last, turn-full}
 use Prim.Native.Nat.{_≤_, _<_, _^_}
 use mathlib.Core.Path.{_≡_, refl}
 use lib.ListN.{length}
+use Rattle.batch.proofs.LineLaws.{Turned, turn-start, turn-more, turn-last, turn-full}
 use Rattle.batch.proofs.answer_each.Statement.{statement}
 use Rattle.batch.proofs.answer_each.Tie as tie
 
 abbrev Inv-loop : tie.InvT-loop
-Inv-loop text line₀ index₀ out₀ at limit b₀ t₀ p₀ line index out b t p = Turned b₀ text line₀ index₀ out₀ at line index out b t p × (length t ≤ length text) × (length out₀ < 2 ^ 64) × (length line ≡ length line₀) × (length index ≡ length index₀) × (length out ≡ length out₀)
+Inv-loop text index₀ out₀ at limit b₀ t₀ p₀ index out b t p = Turned b₀ text index₀ out₀ at index out b t p × (length t ≤ length text) × (length out₀ < 2 ^ 64) × (length index ≡ length index₀) × (length out ≡ length out₀)
 
 abbrev μ-loop : tie.MeasureT-loop
-μ-loop text line₀ index₀ out₀ at limit b₀ t₀ p₀ line index out b t p = length t
+μ-loop text index₀ out₀ at limit b₀ t₀ p₀ index out b t p = length t
 
 loop-holds : tie.Need-loop-holds Inv-loop μ-loop
-loop-holds c = (search (turn-start, arith), omega arith, omega arith, refl, refl, refl)
+loop-holds c = (search (turn-start, arith), omega arith, omega arith, refl, refl)
 
 find-requires : tie.Need-find-requires Inv-loop μ-loop
 find-requires c κs = search needs
 
-sub-t19 : tie.Need-sub-t19 Inv-loop μ-loop
-sub-t19 c = search needs
+sub-t18 : tie.Need-sub-t18 Inv-loop μ-loop
+sub-t18 c = search needs
 
 same-length : tie.Need-same-length Inv-loop μ-loop
 same-length c = search needs
 
 same-length-2 : tie.Need-same-length-2 Inv-loop μ-loop
 same-length-2 c = search needs
-
-same-length-3 : tie.Need-same-length-3 Inv-loop μ-loop
-same-length-3 c = search needs
 
 returns : tie.Need-returns Inv-loop μ-loop
 returns c = search turn-last
@@ -62,19 +59,16 @@ loop-less : tie.Need-loop-less Inv-loop μ-loop
 loop-less c = search needs
 
 loop-again : tie.Need-loop-again Inv-loop μ-loop
-loop-again c = (turn-more _ _ _ _ _ _ _ _ _ _ _ _ _ (c .before .before .before .before .before .before .before .before .before .before .before .before .before .before .before .before .loop .inv .0) (c .before .before .before .before .before .before .before .before .before .before .before .before .before .before .find .ensures) _ _ _ _ _ (c .before .before .before .before .before .before .before .before .before .before .before .before .before .before .before .before .loop .inv .2) (c .before .before .before .before .before .before .before .before .before .before .before .before .before .if1 .left) (c .before .before .before .before .before .before .before .answer-line .ensures), omega arith, c .before .before .before .before .before .before .before .before .before .before .before .before .before .before .before .before .loop .inv .2, search needs, search needs, search needs)
+loop-again c = (search turn-more, omega arith, search needs, search needs, search needs)
 
-sub-t34 : tie.Need-sub-t34 Inv-loop μ-loop
-sub-t34 c = search needs
+sub-t31 : tie.Need-sub-t31 Inv-loop μ-loop
+sub-t31 c = search needs
+
+same-length-3 : tie.Need-same-length-3 Inv-loop μ-loop
+same-length-3 c = search needs
 
 same-length-4 : tie.Need-same-length-4 Inv-loop μ-loop
 same-length-4 c = search needs
-
-same-length-5 : tie.Need-same-length-5 Inv-loop μ-loop
-same-length-5 c = search needs
-
-same-length-6 : tie.Need-same-length-6 Inv-loop μ-loop
-same-length-6 c = search needs
 
 returns-2 : tie.Need-returns-2 Inv-loop μ-loop
 returns-2 c = search turn-full
@@ -87,10 +81,9 @@ answer-each-spec =
     μ-loop
     loop-holds
     find-requires
-    sub-t19
+    sub-t18
     same-length
     same-length-2
-    same-length-3
     returns
     add-rest
     sub-rest
@@ -102,8 +95,7 @@ answer-each-spec =
     answer-line-requires
     loop-less
     loop-again
-    sub-t34
+    sub-t31
+    same-length-3
     same-length-4
-    same-length-5
-    same-length-6
     returns-2)

@@ -1,5 +1,5 @@
-use borrow.Author.Needs.{needs}
 use Rattle.batch.proofs.LineLaws.{rows-answered}
+use borrow.Author.Needs.{needs}
 use Rattle.batch.proofs.answer_lines.Statement.{statement}
 use Rattle.batch.proofs.answer_lines.Tie as tie
 
@@ -14,9 +14,6 @@ same-length c = search needs
 
 same-length-2 : tie.Need-same-length-2
 same-length-2 c = search needs
-
-same-length-3 : tie.Need-same-length-3
-same-length-3 c = search needs
 
 returns : tie.Need-returns
 returns c = search needs
@@ -36,14 +33,11 @@ slice-aggregate-answer-rows-2 c = search needs
 answer-rows-requires : tie.Need-answer-rows-requires
 answer-rows-requires c κs = search needs
 
+same-length-3 : tie.Need-same-length-3
+same-length-3 c = search needs
+
 same-length-4 : tie.Need-same-length-4
 same-length-4 c = search needs
-
-same-length-5 : tie.Need-same-length-5
-same-length-5 c = search needs
-
-same-length-6 : tie.Need-same-length-6
-same-length-6 c = search needs
 
 returns-2 : tie.Need-returns-2
 returns-2 c = search rows-answered
@@ -56,14 +50,12 @@ answer-lines-spec =
     answer-each-requires
     same-length
     same-length-2
-    same-length-3
     returns
     slice-aggregate-fill-pairs
     fill-pairs-requires
     slice-aggregate-answer-rows
     slice-aggregate-answer-rows-2
     answer-rows-requires
+    same-length-3
     same-length-4
-    same-length-5
-    same-length-6
     returns-2)

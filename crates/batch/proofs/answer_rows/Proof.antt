@@ -9,13 +9,13 @@ use Rattle.batch.proofs.answer_rows.Statement.{statement}
 use Rattle.batch.proofs.answer_rows.Tie as tie
 
 abbrev Inv-loop : tie.InvT-loop
-Inv-loop plan times₀ text line₀ index₀ out₀ at limit pairs lists₀ t₀ p₀ times line index out lists t p = Turned (among plan times₀) text line₀ index₀ out₀ at line index out (among plan times) t p × (length t ≤ length text) × (length out₀ < 2 ^ 64) × (length times ≡ length times₀) × (length line ≡ length line₀) × (length index ≡ length index₀) × (length out ≡ length out₀)
+Inv-loop plan times₀ text index₀ out₀ at limit pairs lists₀ t₀ p₀ times index out lists t p = Turned (among plan times₀) text index₀ out₀ at index out (among plan times) t p × (length t ≤ length text) × (length out₀ < 2 ^ 64) × (length times ≡ length times₀) × (length index ≡ length index₀) × (length out ≡ length out₀)
 
 abbrev μ-loop : tie.MeasureT-loop
-μ-loop plan times₀ text line₀ index₀ out₀ at limit pairs lists₀ t₀ p₀ times line index out lists t p = length t
+μ-loop plan times₀ text index₀ out₀ at limit pairs lists₀ t₀ p₀ times index out lists t p = length t
 
 loop-holds : tie.Need-loop-holds Inv-loop μ-loop
-loop-holds c = (search (turn-start, arith), omega arith, omega arith, refl, refl, refl, refl)
+loop-holds c = (search (turn-start, arith), omega arith, omega arith, refl, refl, refl)
 
 slice-aggregate-cut-line : tie.Need-slice-aggregate-cut-line Inv-loop μ-loop
 slice-aggregate-cut-line c = search needs
@@ -23,8 +23,8 @@ slice-aggregate-cut-line c = search needs
 cut-line-requires : tie.Need-cut-line-requires Inv-loop μ-loop
 cut-line-requires c κs = search needs
 
-sub-t24 : tie.Need-sub-t24 Inv-loop μ-loop
-sub-t24 c = search needs
+sub-t23 : tie.Need-sub-t23 Inv-loop μ-loop
+sub-t23 c = search needs
 
 same-length : tie.Need-same-length Inv-loop μ-loop
 same-length c = search needs
@@ -34,9 +34,6 @@ same-length-2 c = search needs
 
 same-length-3 : tie.Need-same-length-3 Inv-loop μ-loop
 same-length-3 c = search needs
-
-same-length-4 : tie.Need-same-length-4 Inv-loop μ-loop
-same-length-4 c = search needs
 
 returns : tie.Need-returns Inv-loop μ-loop
 returns c = search rows-last
@@ -75,22 +72,19 @@ loop-less : tie.Need-loop-less Inv-loop μ-loop
 loop-less c = search needs
 
 loop-again : tie.Need-loop-again Inv-loop μ-loop
-loop-again c = (search rows-more, omega arith, search needs, search needs, search needs, search needs, search needs)
+loop-again c = (search rows-more, omega arith, search needs, search needs, search needs, search needs)
 
-sub-t45 : tie.Need-sub-t45 Inv-loop μ-loop
-sub-t45 c = search needs
+sub-t42 : tie.Need-sub-t42 Inv-loop μ-loop
+sub-t42 c = search needs
+
+same-length-4 : tie.Need-same-length-4 Inv-loop μ-loop
+same-length-4 c = search needs
 
 same-length-5 : tie.Need-same-length-5 Inv-loop μ-loop
 same-length-5 c = search needs
 
 same-length-6 : tie.Need-same-length-6 Inv-loop μ-loop
 same-length-6 c = search needs
-
-same-length-7 : tie.Need-same-length-7 Inv-loop μ-loop
-same-length-7 c = search needs
-
-same-length-8 : tie.Need-same-length-8 Inv-loop μ-loop
-same-length-8 c = search needs
 
 returns-2 : tie.Need-returns-2 Inv-loop μ-loop
 returns-2 c = search rows-full
@@ -104,11 +98,10 @@ answer-rows-spec =
     loop-holds
     slice-aggregate-cut-line
     cut-line-requires
-    sub-t24
+    sub-t23
     same-length
     same-length-2
     same-length-3
-    same-length-4
     returns
     add-rest
     sub-rest
@@ -122,9 +115,8 @@ answer-rows-spec =
     count-in-requires
     loop-less
     loop-again
-    sub-t45
+    sub-t42
+    same-length-4
     same-length-5
     same-length-6
-    same-length-7
-    same-length-8
     returns-2)

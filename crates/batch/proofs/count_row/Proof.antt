@@ -15,13 +15,9 @@ same-length c = search needs
 same-length-2 : tie.Need-same-length-2
 same-length-2 c = search needs
 
-same-length-3 : tie.Need-same-length-3
-same-length-3 c = search needs
-
 returns : tie.Need-returns
 returns c = search row-counted
 
 pub count-row-spec : {M : Type 1} → statement M
 count-row-spec =
-    tie.close
-    (tie.spec answer-row-requires count-requires same-length same-length-2 same-length-3 returns)
+    tie.close (tie.spec answer-row-requires count-requires same-length same-length-2 returns)

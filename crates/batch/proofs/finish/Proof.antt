@@ -16,19 +16,10 @@ same-length c = search needs
 same-length-2 : tie.Need-same-length-2
 same-length-2 c = search needs
 
-same-length-3 : tie.Need-same-length-3
-same-length-3 c = search needs
-
 returns : tie.Need-returns
-returns c = finished _ _ _ _ _ _ _ _ _ _ _ _ _ (omega (arith, c .before .before .before .before .before .before .before .before .before .before .before .before .before .before .before .before .before .before .before .before .good .1 .1 .1 .1 .0)) (c .before .before .before .before .before .before .before .before .before .before .before .before .answer-last .ensures) (c .before .before .put-count-lines .ensures)
+returns c = search (finished, arith)
 
 pub finish-spec : {M : Type 1} → statement M
 finish-spec =
     tie.close
-    (tie.spec
-    answer-last-requires
-    put-count-lines-requires
-    same-length
-    same-length-2
-    same-length-3
-    returns)
+    (tie.spec answer-last-requires put-count-lines-requires same-length same-length-2 returns)

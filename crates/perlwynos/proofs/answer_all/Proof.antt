@@ -5,13 +5,13 @@ use Rattle.perlwynos.proofs.answer_all.Statement.{statement}
 use Rattle.perlwynos.proofs.answer_all.Tie as tie
 
 abbrev Inv-loop : tie.InvT-loop
-Inv-loop block₀ line₀ index₀ out₀ s₀ turns₀ block line index out s turns = (length block ≡ length block₀) × (length line ≡ length line₀) × (length index ≡ length index₀) × (length out ≡ length out₀)
+Inv-loop block₀ index₀ out₀ s₀ turns₀ block index out s turns = (length block ≡ length block₀) × (length index ≡ length index₀) × (length out ≡ length out₀)
 
 abbrev μ-loop : tie.MeasureT-loop
-μ-loop block₀ line₀ index₀ out₀ s₀ turns₀ block line index out s turns = turns
+μ-loop block₀ index₀ out₀ s₀ turns₀ block index out s turns = turns
 
 loop-holds : tie.Need-loop-holds Inv-loop μ-loop
-loop-holds c = (refl, refl, refl, refl)
+loop-holds c = (refl, refl, refl)
 
 sub-turns : tie.Need-sub-turns Inv-loop μ-loop
 sub-turns c = search needs
@@ -38,19 +38,13 @@ loop-less : tie.Need-loop-less Inv-loop μ-loop
 loop-less c = search needs
 
 loop-again : tie.Need-loop-again Inv-loop μ-loop
-loop-again c = (search needs, search needs, search needs, search needs)
+loop-again c = (search needs, search needs, search needs)
 
 same-length-5 : tie.Need-same-length-5 Inv-loop μ-loop
 same-length-5 c = search needs
 
 same-length-6 : tie.Need-same-length-6 Inv-loop μ-loop
 same-length-6 c = search needs
-
-same-length-7 : tie.Need-same-length-7 Inv-loop μ-loop
-same-length-7 c = search needs
-
-same-length-8 : tie.Need-same-length-8 Inv-loop μ-loop
-same-length-8 c = search needs
 
 returns-2 : tie.Need-returns-2 Inv-loop μ-loop
 returns-2 c = search needs
@@ -67,12 +61,10 @@ answer-all-spec =
     same-length
     same-length-2
     same-length-3
-    same-length-4
     returns
     loop-less
     loop-again
+    same-length-4
     same-length-5
     same-length-6
-    same-length-7
-    same-length-8
     returns-2)

@@ -7,13 +7,13 @@ use Rattle.perlwynos.proofs.answer_text.Statement.{statement}
 use Rattle.perlwynos.proofs.answer_text.Tie as tie
 
 abbrev Inv-loop : tie.InvT-loop
-Inv-loop text line₀ index₀ out₀ at b₀ rest₀ p₀ turns₀ line index out b rest p turns = (length rest ≤ length text) × (length line ≡ length line₀) × (length index ≡ length index₀) × (length out ≡ length out₀)
+Inv-loop text index₀ out₀ at b₀ rest₀ p₀ turns₀ index out b rest p turns = (length rest ≤ length text) × (length index ≡ length index₀) × (length out ≡ length out₀)
 
 abbrev μ-loop : tie.MeasureT-loop
-μ-loop text line₀ index₀ out₀ at b₀ rest₀ p₀ turns₀ line index out b rest p turns = turns
+μ-loop text index₀ out₀ at b₀ rest₀ p₀ turns₀ index out b rest p turns = turns
 
 loop-holds : tie.Need-loop-holds Inv-loop μ-loop
-loop-holds c = (omega arith, refl, refl, refl)
+loop-holds c = (omega arith, refl, refl)
 
 sub-turns : tie.Need-sub-turns Inv-loop μ-loop
 sub-turns c = search needs
@@ -30,17 +30,14 @@ part-rest-start c = search needs
 part-rest-end : tie.Need-part-rest-end Inv-loop μ-loop
 part-rest-end c = search needs
 
-sub-t26 : tie.Need-sub-t26 Inv-loop μ-loop
-sub-t26 c = search needs
+sub-t23 : tie.Need-sub-t23 Inv-loop μ-loop
+sub-t23 c = search needs
 
 same-length : tie.Need-same-length Inv-loop μ-loop
 same-length c = search needs
 
 same-length-2 : tie.Need-same-length-2 Inv-loop μ-loop
 same-length-2 c = search needs
-
-same-length-3 : tie.Need-same-length-3 Inv-loop μ-loop
-same-length-3 c = search needs
 
 returns : tie.Need-returns Inv-loop μ-loop
 returns c = search needs
@@ -52,28 +49,22 @@ loop-less : tie.Need-loop-less Inv-loop μ-loop
 loop-less c = search needs
 
 loop-again : tie.Need-loop-again Inv-loop μ-loop
-loop-again c = (omega arith, search needs, search needs, search needs)
+loop-again c = (omega arith, search needs, search needs)
+
+same-length-3 : tie.Need-same-length-3 Inv-loop μ-loop
+same-length-3 c = search needs
 
 same-length-4 : tie.Need-same-length-4 Inv-loop μ-loop
 same-length-4 c = search needs
+
+returns-2 : tie.Need-returns-2 Inv-loop μ-loop
+returns-2 c = search needs
 
 same-length-5 : tie.Need-same-length-5 Inv-loop μ-loop
 same-length-5 c = search needs
 
 same-length-6 : tie.Need-same-length-6 Inv-loop μ-loop
 same-length-6 c = search needs
-
-returns-2 : tie.Need-returns-2 Inv-loop μ-loop
-returns-2 c = search needs
-
-same-length-7 : tie.Need-same-length-7 Inv-loop μ-loop
-same-length-7 c = search needs
-
-same-length-8 : tie.Need-same-length-8 Inv-loop μ-loop
-same-length-8 c = search needs
-
-same-length-9 : tie.Need-same-length-9 Inv-loop μ-loop
-same-length-9 c = search needs
 
 returns-3 : tie.Need-returns-3 Inv-loop μ-loop
 returns-3 c = search needs
@@ -90,19 +81,16 @@ answer-text-spec =
     sub-rest
     part-rest-start
     part-rest-end
-    sub-t26
+    sub-t23
     same-length
     same-length-2
-    same-length-3
     returns
     flush-requires
     loop-less
     loop-again
+    same-length-3
     same-length-4
+    returns-2
     same-length-5
     same-length-6
-    returns-2
-    same-length-7
-    same-length-8
-    same-length-9
     returns-3)

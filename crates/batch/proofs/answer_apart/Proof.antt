@@ -1,0 +1,38 @@
+use Rattle.batch.proofs.ReplyLaws.{drawn-apart}
+use native.Mathlib.Omega.{arith}
+use borrow.Author.Needs.{needs}
+use Rattle.batch.proofs.answer_apart.Statement.{statement}
+use Rattle.batch.proofs.answer_apart.Tie as tie
+
+slice-aggregate-draw-row : tie.Need-slice-aggregate-draw-row
+slice-aggregate-draw-row c = search needs
+
+draw-row-requires : tie.Need-draw-row-requires
+draw-row-requires c κs = search needs
+
+slice-aggregate-put-answer : tie.Need-slice-aggregate-put-answer
+slice-aggregate-put-answer c = search needs
+
+put-answer-requires : tie.Need-put-answer-requires
+put-answer-requires c κs = search needs
+
+same-length : tie.Need-same-length
+same-length c = search needs
+
+same-length-2 : tie.Need-same-length-2
+same-length-2 c = search needs
+
+returns : tie.Need-returns
+returns c = drawn-apart _ _ _ _ (search needs) _ _ (c .before .before .before .before .before .before .before .before .before .draw-row .ensures) (c .before .before .put-answer .ensures)
+
+pub answer-apart-spec : {M : Type 1} → statement M
+answer-apart-spec =
+    tie.close
+    (tie.spec
+    slice-aggregate-draw-row
+    draw-row-requires
+    slice-aggregate-put-answer
+    put-answer-requires
+    same-length
+    same-length-2
+    returns)
