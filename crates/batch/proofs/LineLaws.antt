@@ -26,6 +26,7 @@ use Rattle.beginning.specs.declared.Stage.the-variants.{Header, Rows, Over}
 use Rattle.beginning.specs.declared.Batch.{Batch}
 use Rattle.beginning.specs.declared.Lined.{Lined}
 use Rattle.tally.specs.Counts.{counting, withAnswer, timesFrom, countLines}
+use Rattle.batch.specs.declared.Lines.{Lines}
 use Rattle.batch.specs.declared.Passed.{Passed}
 use Rattle.batch.specs.Reply.{RowAnswered}
 use Rattle.beginning.specs.Beginning.{textsOf, numbersOf, headerBatch, HeaderAnswered}
@@ -180,6 +181,90 @@ pub rows-answered : (b : Batch) (q : Bool) (text is os : List ℕ) (at limit : �
 rows-answered b q text is os at limit js ps us r e n w =
     let z : b ≡ among (b .plan) (b .counts .times) = rows-batch b (sym e ∙ not-false q n) in
     subst (λ (x : Batch). LinesAnswered x text is os at limit js ps (passedIn (b .plan) us r)) (sym z) w
+
+-- ---- the first line, and the others
+
+-- h holds what k holds, and w before its text
+record Behind (w : List ℕ) (h k : Held) : Type 0 where
+  batch : h .batch ≡ k .batch
+  index : h .index ≡ k .index
+  text : h .text ≡ w ++ k .text
+
+behind-after : (w : List ℕ) (h k : Held) (l : List ℕ) → Behind w h k → Behind w (heldAfter h l) (heldAfter k l)
+unfolding heldAfter
+behind-after w h k l b =
+    let e : h .batch ≡ k .batch = b .batch in
+    let i : h .index ≡ k .index = b .index in
+    let t : h .text ≡ w ++ k .text = b .text in
+    record { batch = (rw (e, i)); index = (rw (e, i)); text = (rw (e, i, t) (append-assoc w (k .text) _)) }
+
+behind-from : (w : List ℕ) (ls : List (List ℕ)) (h k : Held) → Behind w h k → Behind w (heldFrom h ls) (heldFrom k ls)
+unfolding heldFrom
+behind-from w [] h k b = b
+behind-from w (l ∷ ls) h k b = behind-from w ls (heldAfter h l) (heldAfter k l) (behind-after w h k l b)
+
+-- some lines after one that was answered
+held-lines : (os : List ℕ) (at : ℕ) (h : Held) (b : Batch) (js ps : List ℕ) (p : ℕ) (ls : List (List ℕ)) (c : Batch) (ks qs : List ℕ) (q : ℕ) → length os < 2 ^ 64
+    → Holds os at h b js ps p → Holds ps p (heldFrom (before b js) ls) c ks qs q → Holds os at (heldFrom h ls) c ks qs q
+held-lines os at h b js ps p ls c ks qs q g v w =
+    let d = behind-from (h .text) ls h (before b js) (record { batch = sym (v .batch); index = sym (v .index); text = sym (append-nil (h .text)) }) in
+    let t : heldFrom h ls .text ≡ h .text ++ heldFrom (before b js) ls .text = d .text in
+    record {
+      batch = w .batch ∙ sym (d .batch);
+      index = w .index ∙ sym (d .index);
+      text = (rw t (written-append g (v .text) (w .text)));
+    }
+
+-- what is used of a text after its first line
+pub first-within : (text : List ℕ) (n u : ℕ) → Place text (indexOf 10 text) n → (n ≡ length text → ⊥) → u ≤ length (take (length text - (n + 1)) (drop (n + 1) text))
+    → n + 1 + u ≤ length text
+first-within text n u f d w =
+    let s : u ≤ length (drop (n + 1) text) = (rw (to-end (n + 1) text) at w) in
+    let i : n < length text = omega (arith, f .within, d) in
+    omega (arith, s, length-drop (n + 1) text)
+
+module _ (b : Batch) (text is os : List ℕ) (at limit : ℕ) where
+  pub first-full : limit < at → at < 2 ^ 64 → LinesAnswered b text is os at limit is os (record { batch = b; used = 0; next = at; whole = false })
+  unfolding heldFrom
+  first-full h g =
+      record {
+        lines = [];
+        parts = refl;
+        holds = record { batch = refl; index = refl; text = written-nil os at g };
+        within = omega arith;
+        all = λ z. absurd (true≢false (sym z));
+        some = λ z. h;
+      }
+
+  module _ (n : ℕ) (f : Place text (indexOf 10 text) n) where
+    pub first-last : n ≡ length text → at < 2 ^ 64 → LinesAnswered b text is os at limit is os (record { batch = b; used = 0; next = at; whole = true })
+    unfolding heldFrom
+    first-last e g =
+        record {
+          lines = [];
+          parts = refl;
+          holds = record { batch = refl; index = refl; text = written-nil os at g };
+          within = omega arith;
+          all = λ z. parts-last 10 text n f e ∙ ap (λ (l : List ℕ). l ∷ []) (rw sub-zero (take-all n text (omega arith)));
+          some = λ z. absurd (true≢false z);
+        }
+
+    pub first-more : (c : Batch) (js ps ks qs : List ℕ) (p : ℕ) (r : Lines) → length os < 2 ^ 64 → (n ≡ length text → ⊥)
+        → Holds os at (heldAfter (before b is) (take (n - 0) text)) c js ps p
+        → LinesAnswered c (take (length text - (n + 1)) (drop (n + 1) text)) js ps p limit ks qs r
+        → LinesAnswered b text is os at limit ks qs (record { batch = r .batch; used = n + 1 + r .used; next = r .next; whole = r .whole })
+    unfolding heldFrom
+    first-more c js ps ks qs p r g d v w =
+        let e : drop (r .used) (take (length text - (n + 1)) (drop (n + 1) text)) ≡ drop (n + 1 + r .used) text
+        = ap (drop (r .used)) (to-end (n + 1) text) ∙ drop-drop (r .used) (n + 1) text in
+        record {
+          lines = take (n - 0) text ∷ w .lines;
+          parts = parts-more 10 text n f d ∙ ap (λ (l : List (List ℕ)). take (n - 0) text ∷ l) (w .parts ∙ ap (λ (u : List ℕ). w .lines ++ partsAt 10 u) e);
+          holds = held-lines os at (heldAfter (before b is) (take (n - 0) text)) c js ps p (w .lines) (r .batch) ks qs (r .next) g v (w .holds);
+          within = first-within text n (r .used) f d (w .within);
+          all = λ z. subst (λ (u : List ℕ). partsAt 10 u ≡ u ∷ []) e (w .all z);
+          some = w .some;
+        }
 
 -- ---- the end of a sheet
 

@@ -439,8 +439,8 @@ fn answer_each(
     }
 }
 
-// The lines of a text that end in LF, one by one, until what is written passes a limit.
-pub fn answer_lines(
+// The lines of a text that end in LF, one by one, until what is written passes a limit. Rows are counted where the counts stand.
+fn answer_more(
     batch: Batch,
     text: &[u8],
     index: &mut [u16],
@@ -472,6 +472,65 @@ pub fn answer_lines(
         next: passed.next,
         whole: passed.whole,
     }
+}
+
+// The same where the first line is the header: it alone is answered by itself, for rows come after it.
+fn answer_first(
+    batch: Batch,
+    text: &[u8],
+    index: &mut [u16],
+    out: &mut [u8],
+    at: usize,
+    limit: usize,
+) -> Lines
+    ensures { λ r. ⌜ LinesAnswered batch (now (text .entry)) (now (index .entry)) (now (out .entry)) at limit (now (index .exit)) (now (out .exit)) r ⌝ }
+{
+    if limit < at {
+        return Lines {
+            batch,
+            used: 0,
+            next: at,
+            whole: false,
+        };
+    }
+    let n = scan::find(text, b'\n');
+    if n == text.len() {
+        return Lines {
+            batch,
+            used: 0,
+            next: at,
+            whole: true,
+        };
+    }
+    let rest = &text[n + 1..];
+    let lined = answer_line(batch, &text[0..n], index, out, at);
+    let after = lined.batch;
+    let more = answer_more(after, rest, index, out, lined.next, limit);
+    let end = more.batch;
+    Lines {
+        batch: end,
+        used: n + 1 + more.used,
+        next: more.next,
+        whole: more.whole,
+    }
+}
+
+// The lines of a text that end in LF, one by one, until what is written passes a limit.
+pub fn answer_lines(
+    batch: Batch,
+    text: &[u8],
+    index: &mut [u16],
+    out: &mut [u8],
+    at: usize,
+    limit: usize,
+) -> Lines
+    ensures { λ r. ⌜ LinesAnswered batch (now (text .entry)) (now (index .entry)) (now (out .entry)) at limit (now (index .exit)) (now (out .exit)) r ⌝ }
+{
+    let stage = batch.stage;
+    if is_header(stage) {
+        return answer_first(batch, text, index, out, at, limit);
+    }
+    answer_more(batch, text, index, out, at, limit)
 }
 
 fn is_rows(stage: Stage) -> bool

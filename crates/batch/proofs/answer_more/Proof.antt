@@ -1,7 +1,7 @@
 use Rattle.batch.proofs.LineLaws.{rows-answered}
 use borrow.Author.Needs.{needs}
-use Rattle.batch.proofs.answer_lines.Statement.{statement}
-use Rattle.batch.proofs.answer_lines.Tie as tie
+use Rattle.batch.proofs.answer_more.Statement.{statement}
+use Rattle.batch.proofs.answer_more.Tie as tie
 
 is-rows-requires : tie.Need-is-rows-requires
 is-rows-requires c κs = search needs
@@ -42,8 +42,8 @@ same-length-4 c = search needs
 returns-2 : tie.Need-returns-2
 returns-2 c = search rows-answered
 
-pub answer-lines-spec : {M : Type 1} → statement M
-answer-lines-spec =
+pub answer-more-spec : {M : Type 1} → statement M
+answer-more-spec =
     tie.close
     (tie.spec
     is-rows-requires
