@@ -6,10 +6,11 @@ use mathlib.Core.Path.{_≡_, refl, sym, ap, _∙_}
 use mathlib.Core.Bool.{Bool}
 use mathlib.Core.List.{List, [], _∷_, _++_, append-assoc}
 use lib.ListN.{length, set, take, drop, length-drop, take-append-drop}
-use lib.Seq.{length-take-le, sets, length-sets, sets-eq, set-comm, drop-drop, drop-append-le}
+use lib.Seq.{length-take-le, sets, length-sets, sets-eq, drop-drop, drop-append-le}
 use borrow.Rule.Slice.PartMut.{midOf, putMid, mid-len, put-same}
 use Rattle.emit.specs.Text.{Written, digits, decimal}
 use Rattle.emit.proofs.Laws.{written-append}
+use Rattle.copying.proofs.Laws.{set-before}
 use Rattle.rows.specs.Text.{ended, Carbons, headText, rowText}
 use Rattle.rows.specs.Chains.{carbonsOf, restText}
 use Rattle.rows.proofs.Laws.{row-parts}
@@ -27,18 +28,18 @@ length-head : length (headText 0 0) ≡ 4
 unfolding headText ended decimal digits
 length-head = refl
 
-pub around-told : {os hs ps : List ℕ} {at n p r : ℕ} (cs : List Carbons) → length os < 2 ^ 64 → at + 4 + n ≤ length os → Written os at (headText 0 0) hs p
+head-bytes : headText 0 0 ≡ 48 ∷ 9 ∷ 48 ∷ 9 ∷ []
+unfolding headText ended decimal digits
+head-bytes = refl
+
+pub around-told : {os hs ps : List ℕ} {at n p r : ℕ} (cs : List Carbons) → length os < 2 ^ 64 → at + 4 + n ≤ length os → Written os at (48 ∷ 9 ∷ 48 ∷ 9 ∷ []) hs p
     → Written hs (at + 4 + n) (restText cs) ps r → Around os at n cs ps r
-around-told {hs = hs} cs g h w u = record { headed = hs; head = record { elements = w .elements; next = omega (arith, length-head) }; rest = u }
+around-told {hs = hs} cs g h w u = record { headed = hs; head = rw head-bytes (record { elements = w .elements; next = omega arith }); rest = u }
 
 -- what is stored at a place and what is stored behind it, in either order
-set-before : (b xs : List ℕ) (p i t : ℕ) → i < p → set (sets xs p b) i t ≡ sets (set xs i t) p b
-set-before [] xs p i t h = refl
-set-before (u ∷ b) xs p i t h = set-before b (set xs p u) (suc p) i t (omega arith) ∙ ap (λ (l : List ℕ). sets l (suc p) b) (set-comm xs p i u t (λ e. omega arith))
-
 sets-before : (a b xs : List ℕ) (at p : ℕ) → at + length a ≤ p → sets (sets xs p b) at a ≡ sets (sets xs at a) p b
 sets-before [] b xs at p h = refl
-sets-before (t ∷ a) b xs at p h = rw (set-before b xs p at t (omega arith)) (sets-before a b (set xs at t) (suc at) p (omega arith))
+sets-before (t ∷ a) b xs at p h = rw (set-before b xs at p t (omega arith)) (sets-before a b (set xs at t) (suc at) p (omega arith))
 
 -- a row around a line that stands in its place
 pub framed : {os ls ps : List ℕ} {at r : ℕ} (line : List ℕ) (cs : List Carbons) → length os < 2 ^ 64 → at + 4 + length line ≤ length os → ls ≡ sets os (at + 4) line

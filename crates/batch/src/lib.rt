@@ -134,7 +134,7 @@ fn put_around(
     requires { ⌜ (at + 4 + size ≤ length (now out)) × Pairs (now pairs) ⌝ }
     ensures { λ r. ⌜ Around (now (out .entry)) at size (carbonsOf (take (lists .count) (lists .items)) (now (index .entry))) (now (out .exit)) r ⌝ }
 {
-    put_head(out, at, 0, 0);
+    emit::put_text(out, at, b"0\t0\t");
     put_rest(out, at + HEAD + size, lists, index, pairs)
 }
 

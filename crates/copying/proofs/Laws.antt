@@ -22,7 +22,7 @@ four-copied xs ns at i g h k =
     rw (one, two, three, p1, p2, p3, drop-cons ns i 0 (omega arith), drop-cons ns (suc i) 0 (omega arith), drop-cons ns (suc (suc i)) 0 (omega arith), drop-cons ns (suc (suc (suc i))) 0 (omega arith)) (record { elements = refl; next = omega arith })
 
 -- a store before a place and stores from it on may change places
-set-before : (ts zs : List ℕ) (p q d : ℕ) → p < q → set (sets zs q ts) p d ≡ sets (set zs p d) q ts
+pub set-before : (ts zs : List ℕ) (p q d : ℕ) → p < q → set (sets zs q ts) p d ≡ sets (set zs p d) q ts
 set-before [] zs p q d h = refl
 set-before (t ∷ ts) zs p q d h = set-before ts (set zs q t) p (suc q) d (omega arith) ∙ ap (λ (l : List ℕ). sets l (suc q) ts) (set-comm zs q p t d (λ e. omega (arith, e)))
 

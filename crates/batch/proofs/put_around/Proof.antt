@@ -4,8 +4,11 @@ use borrow.Author.Needs.{needs}
 use Rattle.batch.proofs.put_around.Statement.{statement}
 use Rattle.batch.proofs.put_around.Tie as tie
 
-put-head-requires : tie.Need-put-head-requires
-put-head-requires c κs = search needs
+slice-aggregate-put-text : tie.Need-slice-aggregate-put-text
+slice-aggregate-put-text c = search needs
+
+put-text-requires : tie.Need-put-text-requires
+put-text-requires c κs = search needs
 
 add-put-rest : tie.Need-add-put-rest
 add-put-rest c = search needs
@@ -25,4 +28,4 @@ returns c = search (around-told, arith)
 pub put-around-spec : {M : Type 1} → statement M
 put-around-spec =
     tie.close
-    (tie.spec put-head-requires add-put-rest add-put-rest-2 put-rest-requires same-length returns)
+    (tie.spec slice-aggregate-put-text put-text-requires add-put-rest add-put-rest-2 put-rest-requires same-length returns)
