@@ -11,7 +11,7 @@ ghost use Rattle.sheet.specs.Cells.{cellOf, snCells};
 ghost use Rattle.sheet.specs.Sheet.{requestOf};
 ghost use Rattle.beginning.specs.Beginning.{refused, replyText};
 ghost use Rattle.rows.specs.Chains.{carbonsOf};
-ghost use Rattle.batch.specs.Reply.{lineRoom, answerText, Around, Drawn, RowAnswered};
+ghost use Rattle.batch.specs.Reply.{answerText, Around, Drawn, RowAnswered};
 ghost use Rattle.pairs.specs.Pairs.{Pairs};
 ghost use Rattle.beginning.specs.declared.Stage.the-variants.{Rows};
 ghost use Rattle.batch.specs.Batch.{heldAfter, before, staged, Holds, LinesAnswered, among, passedIn, isRows, isHeader, heldLast, Finished};
@@ -138,50 +138,8 @@ fn put_around(
     put_rest(out, at + HEAD + size, lists, index, pairs)
 }
 
-// A row that is readable and cut into so many cells, drawn where its line is to stand in the output: four bytes after the place of the row,
-// for the head of an accepted request is `0`, a tab, `0` and a tab. The part that is lent for the line has the length of the line slice, so
-// that a line too long is refused here as anywhere; a refused request leaves it as it was, and then the head is written over it.
-fn answer_in_place(
-    plan: Plan,
-    row: &[u8],
-    cells: usize,
-    starts: &[usize],
-    swap: bool,
-    count: usize,
-    index: &mut [u16],
-    out: &mut [u8],
-    at: usize,
-    pairs: &[u16],
-    lists: &mut [u64; LIST_ROOM],
-) -> Answered
-    requires { ⌜ Cut (now row) (now starts) cells × Pairs (now pairs) × (at + 4 + lineRoom ≤ length (now out)) ⌝ }
-    ensures { λ r. ⌜ Drawn (verdict (cellOf plan 0 (now (row .entry))) (cellOf plan 2 (now (row .entry))) count (take count (snCells plan (now (row .entry))))) swap (cellOf plan 2 (now (row .entry))) (now (index .entry)) (now (out .entry)) at (now (index .exit)) (now (out .exit)) r ⌝ }
-{
-    let from = at + HEAD;
-    let to = from + LINE;
-    let answer = draw_row(
-        plan,
-        row,
-        cells,
-        starts,
-        swap,
-        count,
-        &mut out[from..to],
-        index,
-        lists,
-    );
-    let number = answer.number;
-    if number == 0 {
-        let listed = answer.lists;
-        let next = put_around(out, at, answer.length, listed, index, pairs);
-        return Answered { number, next };
-    }
-    let next = put_refused(out, at, number, answer.token);
-    Answered { number, next }
-}
-
-// The same where the output has less room: the line is drawn apart and copied. Two calls lead here, and so the compiler does not lay this
-// function, with its long array, into the one that runs for every row.
+// A row that is readable and cut into so many cells, where the output has no room for a line slice: its line is drawn apart and copied. Two
+// calls lead here, and so the compiler does not lay this function, with its long array, into the one that runs for every row.
 fn answer_apart(
     plan: Plan,
     row: &[u8],
@@ -217,7 +175,10 @@ fn answer_apart(
     }
 }
 
-// A row that is cut into so many cells: its answer, written at a place of the output, with a table of digits, which may be empty.
+// A row that is cut into so many cells: its answer, written at a place of the output, with a table of digits, which may be empty. Its line is
+// drawn where it is to stand: four bytes after the place of the row, for the head of an accepted request is `0`, a tab, `0` and a tab. The
+// part that is lent for it has the length of the line slice, so that a line too long is refused here as anywhere; a refused request leaves
+// that part as it was, and its row is written over it.
 fn answer_cut(
     plan: Plan,
     row: &[u8],
@@ -266,19 +227,27 @@ fn answer_cut(
             lists,
         );
     }
-    answer_in_place(
+    let from = at + HEAD;
+    let to = from + LINE;
+    let answer = draw_row(
         plan,
         row,
         cells,
         starts,
         asked.swap,
         asked.count,
+        &mut out[from..to],
         index,
-        out,
-        at,
-        pairs,
         lists,
-    )
+    );
+    let number = answer.number;
+    if number == 0 {
+        let listed = answer.lists;
+        let next = put_around(out, at, answer.length, listed, index, pairs);
+        return Answered { number, next };
+    }
+    let next = put_refused(out, at, number, answer.token);
+    Answered { number, next }
 }
 
 // A row of the sheet: its answer, written at a place of the output.

@@ -1,4 +1,6 @@
+use native.Mathlib.Omega.{arith}
 use Rattle.batch.proofs.ReplyLaws.{row-unreadable, row-drawn}
+use Rattle.batch.proofs.InPlace.{in-place-room, in-place-accepted, in-place-refused}
 use borrow.Author.Needs.{needs}
 use Rattle.batch.proofs.answer_cut.Statement.{statement}
 use Rattle.batch.proofs.answer_cut.Tie as tie
@@ -48,8 +50,26 @@ same-length-5 c = search needs
 returns-3 : tie.Need-returns-3
 returns-3 c = search row-drawn
 
-answer-in-place-requires : tie.Need-answer-in-place-requires
-answer-in-place-requires c κs = search needs
+add-from : tie.Need-add-from
+add-from c = search needs
+
+add-to : tie.Need-add-to
+add-to c = search needs
+
+sub-draw-row : tie.Need-sub-draw-row
+sub-draw-row c = search needs
+
+part-draw-row-start : tie.Need-part-draw-row-start
+part-draw-row-start c = search needs
+
+part-draw-row-end : tie.Need-part-draw-row-end
+part-draw-row-end c = search needs
+
+draw-row-requires : tie.Need-draw-row-requires
+draw-row-requires c κs = search needs
+
+put-around-requires : tie.Need-put-around-requires
+put-around-requires c κs = (in-place-room _ _ _ _ _ _ _ _ _ (omega (arith, c .before .before .before .before .before .before .before .before .before .before .before .before .before .if2 .left, c .before .before .before .before .before .before .before .before .before .before .before .before .if3 .left)) (c .before .before .before .before .before .before .before .before .draw-row .ensures) (c .before .before .before .if4 .taken), c .before .before .before .before .before .before .before .before .before .before .before .before .before .before .before .before .before .before .before .before .before .before .pre .1)
 
 same-length-6 : tie.Need-same-length-6
 same-length-6 c = search needs
@@ -58,7 +78,19 @@ same-length-7 : tie.Need-same-length-7
 same-length-7 c = search needs
 
 returns-4 : tie.Need-returns-4
-returns-4 c = search row-drawn
+returns-4 c = row-drawn _ _ _ (c .before .before .before .before .before .before .before .before .before .before .before .before .before .before .before .before .before .before .before .read-cut .ensures) _ _ _ _ _ _ (c .before .before .before .before .before .before .before .before .before .before .before .before .before .before .before .before .before .if1 .left) (in-place-accepted _ _ _ _ _ _ _ _ _ (omega (arith, c .before .before .before .before .before .before .before .before .before .before .before .before .before .before .before .before .if2 .left, c .before .before .before .before .before .before .before .before .before .before .before .before .before .before .before .if3 .left)) (c .before .before .before .before .before .before .before .before .before .before .before .draw-row .ensures) (omega (arith, c .before .before .before .before .before .before .before .before .before .before .before .before .before .before .before .before .before .before .before .before .before .before .before .before .before .good .1 .1 .1 .1 .1 .0)) (c .before .before .before .before .before .before .if4 .taken) (c .before .before .put-around .ensures))
+
+put-refused-requires : tie.Need-put-refused-requires
+put-refused-requires c κs = search needs
+
+same-length-8 : tie.Need-same-length-8
+same-length-8 c = search needs
+
+same-length-9 : tie.Need-same-length-9
+same-length-9 c = search needs
+
+returns-5 : tie.Need-returns-5
+returns-5 c = row-drawn _ _ _ (c .before .before .before .before .before .before .before .before .before .before .before .before .before .before .before .before .before .read-cut .ensures) _ _ _ _ _ _ (c .before .before .before .before .before .before .before .before .before .before .before .before .before .before .before .if1 .left) (in-place-refused _ _ _ _ _ _ _ _ _ (omega (arith, c .before .before .before .before .before .before .before .before .before .before .before .before .before .before .if2 .left, c .before .before .before .before .before .before .before .before .before .before .before .before .before .if3 .left)) (c .before .before .before .before .before .before .before .before .before .draw-row .ensures) (c .before .before .before .before .if4 .left) (c .before .before .put-refused .ensures))
 
 pub answer-cut-spec : {M : Type 1} → statement M
 answer-cut-spec =
@@ -79,7 +111,17 @@ answer-cut-spec =
     same-length-4
     same-length-5
     returns-3
-    answer-in-place-requires
+    add-from
+    add-to
+    sub-draw-row
+    part-draw-row-start
+    part-draw-row-end
+    draw-row-requires
+    put-around-requires
     same-length-6
     same-length-7
-    returns-4)
+    returns-4
+    put-refused-requires
+    same-length-8
+    same-length-9
+    returns-5)
