@@ -1,5 +1,4 @@
 use Rattle.batch.proofs.ReplyLaws.{drawn-apart}
-use native.Mathlib.Omega.{arith}
 use borrow.Author.Needs.{needs}
 use Rattle.batch.proofs.answer_apart.Statement.{statement}
 use Rattle.batch.proofs.answer_apart.Tie as tie
