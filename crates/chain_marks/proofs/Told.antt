@@ -1,8 +1,11 @@
 -- The marks and the sums by numbers are those that the chains' drawings say. Assumes nothing.
 use Prim.Native.Nat.{ℕ, zero, suc, _+_, _-_, _≤_}
 use native.Mathlib.Omega.{arith}
-use mathlib.Core.Path.{_≡_, refl, sym, ap₂, _∙_}
+use mathlib.Core.Path.{_≡_, refl, ap₂}
+use mathlib.Core.Bool.{cond}
 use mathlib.Core.List.{List, [], _∷_, _++_, map}
+use lib.Dec.{eqb}
+use borrow.Author.Tests.{ne-eqb}
 use Rattle.reading.specs.Molecule.{At, Sum}
 use Rattle.chain.specs.Lists.{valuesFrom}
 use Rattle.chain.specs.Features.{remaining}
@@ -20,6 +23,12 @@ use Rattle.chain_marks.specs.Marks.{marksOf, sumsOf, marksIn, sumsIn}
 
 -- ---- a chain
 
+-- what stands for the sum of a chain without variables is not told
+sum-listed : (v n total : ℕ) → sumList v n (cond (eqb n 0) 0 total) ≡ sumList v n total
+unfolding sumList
+sum-listed v zero total = refl
+sum-listed v (suc n) total = rw (ne-eqb (suc n) 0 (λ e. omega arith))
+
 module _ (p : request.Placed) (t : Told p) where
   marks-of : marksOf (noted p) ≡ draw.marks (p .role) (p .chain) (p .first) (p .variable)
   unfolding marksOf noted draw.marks
@@ -27,7 +36,9 @@ module _ (p : request.Placed) (t : Told p) where
 
   sums-of : sumsOf (noted p) ≡ draw.sums (p .role) (p .chain) (p .variable)
   unfolding sumsOf noted
-  sums-of = rw (room-is (p .variable) (t .variable)) (sym (sums-are (p .role) (p .chain) (p .variable)))
+  sums-of =
+      let d = p .chain in
+      rw (room-is (p .variable) (t .variable), sums-are (p .role) d (p .variable)) (sum-listed (p .variable) (d .unlocated) (remaining (p .role) d - d .unlocated - 1))
 
 -- ---- all chains
 

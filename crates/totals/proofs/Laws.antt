@@ -4,6 +4,7 @@ use native.Mathlib.Omega.{arith}
 use mathlib.Core.Path.{_≡_, refl, ap, _∙_}
 use mathlib.Core.List.{List, [], _∷_}
 use lib.ListN.{length}
+use borrow.Author.Tests.{eq-eqb, ne-eqb}
 use Rattle.chain.specs.Features.{remaining}
 use Rattle.drawable.proofs.Parts.{floats-few, rings-few}
 use Rattle.drawable.specs.declared.Shape.{Shape}
@@ -13,11 +14,15 @@ use Rattle.totals.specs.Totals.{FiguresOf}
 
 -- ---- the sum of its variables
 
-pub sum-none : (x : Drawn) (m : ℕ) → Says x m remaining → m ≤ x .unlocated → Says x 0 sumOf
-sum-none x m s h = record { is = λ r d w. omega (arith, s .is r d w, w .unlocated) }
+pub sum-none : (x : Drawn) → x .unlocated ≡ 0 → Says x 0 sumOf
+sum-none x h = record { is = λ r d w. rw (← w .unlocated, eq-eqb (x .unlocated) 0 h) }
 
-pub sum-some : (x : Drawn) (m : ℕ) → Says x m remaining → x .unlocated < m → Says x (m - x .unlocated - 1) sumOf
-sum-some x m s h = record { is = λ r d w. omega (arith, s .is r d w, w .unlocated) }
+-- a tail too short for its double bonds, as no drawn chain has (14)
+pub sum-short : (x : Drawn) (m : ℕ) → (x .unlocated ≡ 0 → ⊥) → Says x m remaining → m ≤ x .unlocated → Says x 0 sumOf
+sum-short x m h s k = record { is = λ r d w. rw (← s .is r d w, ← w .unlocated, ne-eqb (x .unlocated) 0 h) (omega arith) }
+
+pub sum-some : (x : Drawn) (m : ℕ) → (x .unlocated ≡ 0 → ⊥) → Says x m remaining → Says x (m - x .unlocated - 1) sumOf
+sum-some x m h s = record { is = λ r d w. rw (← s .is r d w, ← w .unlocated, ne-eqb (x .unlocated) 0 h) }
 
 -- ---- its floating groups and rings
 

@@ -16,11 +16,14 @@ pub struct Figures {
     pub rings: u16,
 }
 
-// What the variables of a chain add up to.
+// What the variables of a chain add up to. Most chains have none: then what remains of them is not looked for.
 fn sum(x: Shape, part: &[u64]) -> u16
     ensures { λ r. ⌜ Says (drawnOf x (now (part .entry))) r sumOf ⌝ }
 {
     let n = x.unlocated;
+    if n == 0 {
+        return 0;
+    }
     let remaining = reach::remaining(x, part);
     if remaining <= n {
         return 0;

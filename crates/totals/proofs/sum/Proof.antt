@@ -1,13 +1,16 @@
-use Rattle.totals.proofs.Laws.{sum-none, sum-some}
+use Rattle.totals.proofs.Laws.{sum-none, sum-short, sum-some}
 use borrow.Author.Needs.{needs}
 use Rattle.totals.proofs.sum.Statement.{statement}
 use Rattle.totals.proofs.sum.Tie as tie
 
+returns : tie.Need-returns
+returns c = search sum-none
+
 remaining-requires : tie.Need-remaining-requires
 remaining-requires c κs = search needs
 
-returns : tie.Need-returns
-returns c = search sum-none
+returns-2 : tie.Need-returns-2
+returns-2 c = search sum-short
 
 sub-result : tie.Need-sub-result
 sub-result c = search needs
@@ -15,8 +18,8 @@ sub-result c = search needs
 sub-result-2 : tie.Need-sub-result-2
 sub-result-2 c = search needs
 
-returns-2 : tie.Need-returns-2
-returns-2 c = search sum-some
+returns-3 : tie.Need-returns-3
+returns-3 c = search sum-some
 
 pub sum-spec : {M : Type 1} → statement M
-sum-spec = tie.close (tie.spec remaining-requires returns sub-result sub-result-2 returns-2)
+sum-spec = tie.close (tie.spec returns remaining-requires returns-2 sub-result sub-result-2 returns-3)
