@@ -18,8 +18,13 @@ use Rattle.chain.specs.declared.Role.{Role}
 use Rattle.chain.specs.declared.Role.the-variants.{Slot, Acyl, Base}
 use Rattle.chain.specs.Features.{floating}
 use Rattle.chain.specs.Drawing.{variables, chainDrawn}
-use Rattle.drawable.specs.Drawn.{Drawn}
+use Rattle.drawable.specs.declared.Shape.{Shape}
+use Rattle.drawable.specs.Drawn.{Drawn, drawnOf}
+use Rattle.drawable.specs.Chains.{Chains, partOf}
 use Rattle.drawable.proofs.Held.{held-more, held-full}
+use Rattle.shapes.specs.Shapes.{chainsKept}
+use Rattle.shapes.specs.Sn.{ShapeAt}
+use Rattle.shapes.proofs.Sn.{chain-there}
 use Rattle.branches.specs.Text.{rowsIn}
 use Rattle.atoms.proofs.NumberLaws.{atoms-end-shift}
 use Rattle.template.specs.Template.{slot, chain as bare}
@@ -39,7 +44,7 @@ use Rattle.strand.specs.declared.Strand.{Strand}
 use Rattle.totals.specs.declared.Figures.{Figures}
 use Rattle.totals.specs.Totals.{FiguresOf}
 use Rattle.strand.specs.Strand.{indexesOf, StrandOf}
-use Rattle.builder.specs.Build.{Rooms, rooms, laidIn, plus, inLabels, variablesFor, placedIn, Counts, Fits, FixedPushed, placedOf, Settled, FitsChain, PushingChain, FragmentPushed, ChainPushed, FitsElement, Pushed, SlotPushed, BarePushed}
+use Rattle.builder.specs.Build.{Rooms, rooms, laidIn, plus, inLabels, variablesFor, placedIn, Counts, Fits, FixedPushed, placedOf, Settled, FitsChain, PushingChain, FragmentPushed, StandsAt, ChainPushed, FitsElement, Pushed, SlotPushed, BarePushed}
 
 -- ---- counts
 
@@ -105,32 +110,34 @@ module _ {x : Drawn} {sn s m : ℕ} {r : Role} {xs ys : Rooms} {b q : Builder} {
                 };
           }
 
--- ---- a chain of the request
+-- ---- the chain of an sn of the request
 
--- none is pushed where it has no carbons
-pub chain-none : (x : Drawn) (sn : ℕ) (r : Role) (s : ℕ) (xs is rs ns : List ℕ) (b : Builder) → b .at < 2 ^ 64 → b .used < 2 ^ 64 → b .rows < 2 ^ 64 → x .carbon ≡ 0
-    → ChainPushed x sn r s (rooms xs is rs ns) b (rooms xs is rs ns) b
-unfolding gathered templatePieces show
-chain-none x sn r s xs is rs ns b g h j e = record { sizes = record { text = refl; index = refl; rows = refl }; pushed = pushed }
-  where
-    pushed : (o : Option Chain) (k : Option ℕ) (n v l : ℕ) (ps : List Placed) → s ≡ siteOr n k → Stands r o x → Counts b ns n v l ps
-        → FitsChain sn r k o n v l ps → PushingChain sn r k o n v l ps (rooms xs is rs ns) b (rooms xs is rs ns) b
-    pushed none k n v l ps es a c f =
-        record {
-          text = written-nil xs (b .at) g;
-          index = written-nil is (b .used) h;
-          rows = written-nil rs (b .rows) j;
-          counts = record { atoms = c .atoms; variables = c .variables; labels = c .labels; placed = c .placed ∙ sym (append-nil ps) };
-        }
-    pushed (some d) k n v l ps es a c f = absurd (omega (arith, e, a .some, a .draws .carbon))
+module _ (m : ℕ) (hs ls : List ℕ) (x : Shape) (sn : ℕ) (r : Role) (s : ℕ) (at : ShapeAt m hs sn x) where
+  -- none is pushed where it has no carbons
+  pub chain-none : (xs is rs ns : List ℕ) (b : Builder) → b .at < 2 ^ 64 → b .used < 2 ^ 64 → b .rows < 2 ^ 64 → x .carbon ≡ 0
+      → ChainPushed (chainsKept m hs ls) sn r s (rooms xs is rs ns) b (rooms xs is rs ns) b
+  unfolding gathered templatePieces show
+  chain-none xs is rs ns b g h j e = record { sizes = record { text = refl; index = refl; rows = refl }; pushed = λ o k n v l ps es a. pushed o k n v l ps (a (drawnOf x (partOf sn ls)) (at .is ls)) }
+    where
+      pushed : (o : Option Chain) (k : Option ℕ) (n v l : ℕ) (ps : List Placed) → Stands r o (drawnOf x (partOf sn ls)) → Counts b ns n v l ps
+          → FitsChain sn r k o n v l ps → PushingChain sn r k o n v l ps (rooms xs is rs ns) b (rooms xs is rs ns) b
+      pushed none k n v l ps a c f =
+          record {
+            text = written-nil xs (b .at) g;
+            index = written-nil is (b .used) h;
+            rows = written-nil rs (b .rows) j;
+            counts = record { atoms = c .atoms; variables = c .variables; labels = c .labels; placed = c .placed ∙ sym (append-nil ps) };
+          }
+      pushed (some d) k n v l ps a c f = absurd (omega (arith, e, a .some, a .draws .carbon))
 
-pub chain-some : {x : Drawn} {sn s : ℕ} {r : Role} {xs ys : Rooms} {b q : Builder} → (x .carbon ≡ 0 → ⊥) → FragmentPushed x sn r s xs b ys q → ChainPushed x sn r s xs b ys q
-chain-some {x} {sn} {s} {r} {xs} {ys} {b} {q} h w = record { sizes = w .sizes; pushed = pushed }
-  where
-    pushed : (o : Option Chain) (k : Option ℕ) (n v l : ℕ) (ps : List Placed) → s ≡ siteOr n k → Stands r o x → Counts b (xs .notes) n v l ps
-        → FitsChain sn r k o n v l ps → PushingChain sn r k o n v l ps xs b ys q
-    pushed none k n v l ps es a c f = absurd (h a)
-    pushed (some d) k n v l ps es a c f = w .pushed d k n v l ps es a c f
+  pub chain-some : {p : List ℕ} {xs ys : Rooms} {b q : Builder} → p ≡ partOf sn ls → (x .carbon ≡ 0 → ⊥) → FragmentPushed (drawnOf x p) sn r s xs b ys q
+      → ChainPushed (chainsKept m hs ls) sn r s xs b ys q
+  chain-some {p} {xs} {ys} {b} {q} e h w = record { sizes = w .sizes; pushed = λ o k n v l ps es a. pushed o k n v l ps es (a (drawnOf x p) (chain-there m hs sn x ls at e)) }
+    where
+      pushed : (o : Option Chain) (k : Option ℕ) (n v l : ℕ) (ps : List Placed) → s ≡ siteOr n k → Stands r o (drawnOf x p) → Counts b (xs .notes) n v l ps
+          → FitsChain sn r k o n v l ps → PushingChain sn r k o n v l ps xs b ys q
+      pushed none k n v l ps es a c f = absurd (h a)
+      pushed (some d) k n v l ps es a c f = w .pushed d k n v l ps es a c f
 
 -- ---- a slot
 
@@ -142,13 +149,13 @@ after-le : (r : Role) (o : Option Chain) (m : ℕ) → m ≤ atomsAfter r m o
 after-le r none m = omega arith
 after-le r (some d) m = omega (arith, atoms-end-shift r d m)
 
-pub slot-pushed : {x : Drawn} {sn s : ℕ} {xs ys zs is js rs ss ns ms : List ℕ} {b p q : Builder} → length xs < 2 ^ 64 → FixedPushed (ascii "O") 1 xs b ys p
+pub slot-pushed : {x : Chains} {sn s : ℕ} {xs ys zs is js rs ss ns ms : List ℕ} {b p q : Builder} → length xs < 2 ^ 64 → FixedPushed (ascii "O") 1 xs b ys p
     → s ≡ b .atoms .0 → ChainPushed x sn Slot s (rooms ys is rs ns) p (rooms zs js ss ms) q → SlotPushed x sn (rooms xs is rs ns) b (rooms zs js ss ms) q
 unfolding elementAtoms elementVariables elementLabels elementPlaced chainIn itemsOf slotOxygen templatePieces itemPieces nextLabel show showPiece showLabels ascii
 slot-pushed {x} {sn} {s} {xs} {ys} {zs} {is} {js} {rs} {ss} {ns} {ms} {b} {p} {q} g w es u =
     record { sizes = record { text = u .sizes .text ∙ written-length (w .text); index = u .sizes .index; rows = u .sizes .rows }; pushed = pushed }
   where
-    pushed : (t : List ℕ) (ds : List Chain) → Stands Slot (nonempty sn ds) x → (n v l : ℕ) (ps : List Placed) → Counts b ns n v l ps
+    pushed : (t : List ℕ) (ds : List Chain) → StandsAt Slot (nonempty sn ds) x sn → (n v l : ℕ) (ps : List Placed) → Counts b ns n v l ps
         → FitsElement t ds (slot sn) n v l ps → Pushed t ds (slot sn) n v l ps (rooms xs is rs ns) b (rooms zs js ss ms) q
     pushed t ds k n v l ps c f =
         let up : s ≡ n = es ∙ c .atoms in
@@ -170,10 +177,10 @@ site-first Slot n = refl
 site-first Acyl n = refl
 site-first Base n = refl
 
-pub bare-pushed : {x : Drawn} {sn s : ℕ} {r : Role} {xs ys : Rooms} {b q : Builder} → s ≡ b .atoms .0 → ChainPushed x sn r s xs b ys q → BarePushed x sn r xs b ys q
+pub bare-pushed : {x : Chains} {sn s : ℕ} {r : Role} {xs ys : Rooms} {b q : Builder} → s ≡ b .atoms .0 → ChainPushed x sn r s xs b ys q → BarePushed x sn r xs b ys q
 unfolding elementAtoms elementVariables elementLabels elementPlaced chainIn itemsOf
 bare-pushed {x} {sn} {s} {r} {xs} {ys} {b} {q} es u = record { sizes = u .sizes; pushed = pushed }
   where
-    pushed : (t : List ℕ) (ds : List Chain) → Stands r (nonempty sn ds) x → (n v l : ℕ) (ps : List Placed) → Counts b (xs .notes) n v l ps
+    pushed : (t : List ℕ) (ds : List Chain) → StandsAt r (nonempty sn ds) x sn → (n v l : ℕ) (ps : List Placed) → Counts b (xs .notes) n v l ps
         → FitsElement t ds (bare sn r) n v l ps → Pushed t ds (bare sn r) n v l ps xs b ys q
     pushed t ds k n v l ps c f = u .pushed (nonempty sn ds) (siteOf r n) n v l ps (es ∙ (c .atoms ∙ sym (site-first r n))) k c f

@@ -13,6 +13,8 @@ use Rattle.reading.specs.Template.{Item, templatePieces}
 use Rattle.chain.specs.declared.Role.{Role}
 use Rattle.chain.specs.declared.Role.the-variants.{Slot}
 use Rattle.drawable.specs.Drawn.{Drawn}
+use Rattle.drawable.specs.Chains.{Chains}
+use Rattle.shapes.specs.Sn.{ChainAt}
 use Rattle.template.specs.Template.{Element, slot, chain}
 use Rattle.template.specs.Request as request
 use Rattle.template.specs.Request.{nonempty, place, atomsAfter, variablesAfter, chainItem, itemsOf}
@@ -145,10 +147,14 @@ pub record FragmentPushed (x : Drawn) (sn : ℕ) (r : Role) (s : ℕ) (xs : Room
   pub pushed : (d : Chain) (k : Option ℕ) (n v l : ℕ) (ps : List Placed) → s ≡ siteOr n k → Carries r d x → Counts b (xs .notes) n v l ps
       → FitsChain sn r k (some d) n v l ps → PushingChain sn r k (some d) n v l ps xs b ys q
 
--- a chain of the request, or none
-pub record ChainPushed (x : Drawn) (sn : ℕ) (r : Role) (s : ℕ) (xs : Rooms) (b : Builder) (ys : Rooms) (q : Builder) : Type 0 where
+-- the chain of an sn of the request is the chain that is drawn, or has no carbons where none is
+abbrev pub StandsAt : Role → Option Chain → Chains → ℕ → Type 0
+StandsAt r o x sn = (f : Drawn) → ChainAt x sn f → Stands r o f
+
+-- the chain of an sn of the request, or none
+pub record ChainPushed (x : Chains) (sn : ℕ) (r : Role) (s : ℕ) (xs : Rooms) (b : Builder) (ys : Rooms) (q : Builder) : Type 0 where
   pub sizes : Sizes xs ys
-  pub pushed : (o : Option Chain) (k : Option ℕ) (n v l : ℕ) (ps : List Placed) → s ≡ siteOr n k → Stands r o x → Counts b (xs .notes) n v l ps
+  pub pushed : (o : Option Chain) (k : Option ℕ) (n v l : ℕ) (ps : List Placed) → s ≡ siteOr n k → StandsAt r o x sn → Counts b (xs .notes) n v l ps
       → FitsChain sn r k o n v l ps → PushingChain sn r k o n v l ps xs b ys q
 
 -- ---- an element of a template
@@ -161,12 +167,12 @@ abbrev pub Pushed : List ℕ → List Chain → Element → ℕ → ℕ → ℕ 
 Pushed t ds e n v l ps xs b ys q =
     Pushing (itemsOf t ds e) l (elementPlaced ds n v e) xs b ys q (elementAtoms t ds n e) (elementVariables ds v e) (elementLabels ds l e) (ps ++ map noted (elementPlaced ds n v e))
 
-pub record SlotPushed (x : Drawn) (sn : ℕ) (xs : Rooms) (b : Builder) (ys : Rooms) (q : Builder) : Type 0 where
+pub record SlotPushed (x : Chains) (sn : ℕ) (xs : Rooms) (b : Builder) (ys : Rooms) (q : Builder) : Type 0 where
   pub sizes : Sizes xs ys
-  pub pushed : (t : List ℕ) (ds : List Chain) → Stands Slot (nonempty sn ds) x → (n v l : ℕ) (ps : List Placed) → Counts b (xs .notes) n v l ps
+  pub pushed : (t : List ℕ) (ds : List Chain) → StandsAt Slot (nonempty sn ds) x sn → (n v l : ℕ) (ps : List Placed) → Counts b (xs .notes) n v l ps
       → FitsElement t ds (slot sn) n v l ps → Pushed t ds (slot sn) n v l ps xs b ys q
 
-pub record BarePushed (x : Drawn) (sn : ℕ) (r : Role) (xs : Rooms) (b : Builder) (ys : Rooms) (q : Builder) : Type 0 where
+pub record BarePushed (x : Chains) (sn : ℕ) (r : Role) (xs : Rooms) (b : Builder) (ys : Rooms) (q : Builder) : Type 0 where
   pub sizes : Sizes xs ys
-  pub pushed : (t : List ℕ) (ds : List Chain) → Stands r (nonempty sn ds) x → (n v l : ℕ) (ps : List Placed) → Counts b (xs .notes) n v l ps
+  pub pushed : (t : List ℕ) (ds : List Chain) → StandsAt r (nonempty sn ds) x sn → (n v l : ℕ) (ps : List Placed) → Counts b (xs .notes) n v l ps
       → FitsElement t ds (chain sn r) n v l ps → Pushed t ds (chain sn r) n v l ps xs b ys q

@@ -4,14 +4,18 @@
 // by the definitions of `template` (crates/template/specs); what a push adds, by specs/Build.antt.
 use chain::Role;
 use drawable::Shape;
+use drawable::chain_part;
 use listing::Sites;
 use placed::MAX_CHAINS;
 use placed::NOTE_ROOM;
 use placed::Placed;
+use shapes::SHAPE_ROOM;
+use shapes::shape_at;
 use strand::Strand;
 use totals::Figures;
 ghost use mathlib.Core.Path.{_≡_};
 ghost use Rattle.drawable.specs.Drawn.{drawnOf};
+ghost use Rattle.shapes.specs.Shapes.{chainsKept};
 ghost use Rattle.builder.specs.Build.{rooms, plus, inLabels, variablesFor, Fresh, FixedPushed, FragmentPushed, placedOf, Settled, ChainPushed, SlotPushed, BarePushed};
 ghost use Rattle.builder.specs.Line.{Writable, Finished};
 
@@ -224,25 +228,38 @@ impl Builder {
         self
     }
 
-    // A chain of the request at its place; nothing where it has no carbons.
+    // The chain of an sn of the request at its place; nothing where it has no carbons. It is read here, and not in each template, so that no
+    // shape is handed on from there and the code that reads it stands once.
     fn push_chain(
         mut self,
         out: &mut [u8],
         index: &mut [u16],
         rows: &mut [u8],
         notes: &mut [u32; NOTE_ROOM],
-        x: Shape,
-        part: &[u64],
+        count: usize,
+        shapes: &[u64; SHAPE_ROOM],
+        lists: &[u64],
         sn: u8,
         role: Role,
         site: u32,
     ) -> Builder
-        ensures { λ r. ⌜ ChainPushed (drawnOf x (now (part .entry))) sn role site (rooms (now (out .entry)) (now (index .entry)) (now (rows .entry)) (now (notes .entry))) self (rooms (now (out .exit)) (now (index .exit)) (now (rows .exit)) (now (notes .exit))) r ⌝ }
+        ensures { λ r. ⌜ ChainPushed (chainsKept count (now (shapes .entry)) (now (lists .entry))) sn role site (rooms (now (out .entry)) (now (index .entry)) (now (rows .entry)) (now (notes .entry))) self (rooms (now (out .exit)) (now (index .exit)) (now (rows .exit)) (now (notes .exit))) r ⌝ }
     {
+        let x = shape_at(count, shapes, sn);
         if x.carbon == 0 {
             return self;
         }
-        self = self.push_fragment(out, index, rows, notes, x, part, sn, role, site);
+        self = self.push_fragment(
+            out,
+            index,
+            rows,
+            notes,
+            x,
+            chain_part(lists, sn),
+            sn,
+            role,
+            site,
+        );
         self
     }
 
@@ -253,16 +270,28 @@ impl Builder {
         index: &mut [u16],
         rows: &mut [u8],
         notes: &mut [u32; NOTE_ROOM],
-        x: Shape,
-        part: &[u64],
+        count: usize,
+        shapes: &[u64; SHAPE_ROOM],
+        lists: &[u64],
         sn: u8,
     ) -> Builder
-        ensures { λ r. ⌜ SlotPushed (drawnOf x (now (part .entry))) sn (rooms (now (out .entry)) (now (index .entry)) (now (rows .entry)) (now (notes .entry))) self (rooms (now (out .exit)) (now (index .exit)) (now (rows .exit)) (now (notes .exit))) r ⌝ }
+        ensures { λ r. ⌜ SlotPushed (chainsKept count (now (shapes .entry)) (now (lists .entry))) sn (rooms (now (out .entry)) (now (index .entry)) (now (rows .entry)) (now (notes .entry))) self (rooms (now (out .exit)) (now (index .exit)) (now (rows .exit)) (now (notes .exit))) r ⌝ }
     {
         let a = self.atoms;
         let site = a.0;
         let b = self.push_fixed(out, b"O", 1);
-        b.push_chain(out, index, rows, notes, x, part, sn, Role::Slot, site)
+        b.push_chain(
+            out,
+            index,
+            rows,
+            notes,
+            count,
+            shapes,
+            lists,
+            sn,
+            Role::Slot,
+            site,
+        )
     }
 
     // A chain that stands without an O: its first atom is its site.
@@ -272,15 +301,16 @@ impl Builder {
         index: &mut [u16],
         rows: &mut [u8],
         notes: &mut [u32; NOTE_ROOM],
-        x: Shape,
-        part: &[u64],
+        count: usize,
+        shapes: &[u64; SHAPE_ROOM],
+        lists: &[u64],
         sn: u8,
         role: Role,
     ) -> Builder
-        ensures { λ r. ⌜ BarePushed (drawnOf x (now (part .entry))) sn role (rooms (now (out .entry)) (now (index .entry)) (now (rows .entry)) (now (notes .entry))) self (rooms (now (out .exit)) (now (index .exit)) (now (rows .exit)) (now (notes .exit))) r ⌝ }
+        ensures { λ r. ⌜ BarePushed (chainsKept count (now (shapes .entry)) (now (lists .entry))) sn role (rooms (now (out .entry)) (now (index .entry)) (now (rows .entry)) (now (notes .entry))) self (rooms (now (out .exit)) (now (index .exit)) (now (rows .exit)) (now (notes .exit))) r ⌝ }
     {
         let a = self.atoms;
-        self.push_chain(out, index, rows, notes, x, part, sn, role, a.0)
+        self.push_chain(out, index, rows, notes, count, shapes, lists, sn, role, a.0)
     }
 
     // What follows the text: the labels of the sites, marks and site lists, what may be exchanged, and the sums. The site lists are read from the

@@ -1,11 +1,9 @@
-// The templates of the classes, each as 01 writes it: texts of its own, slots and chains, in the order of the text. A chain is taken from the
-// request's where it is pushed.
+// The templates of the classes, each as 01 writes it: texts of its own, slots and chains, in the order of the text. A chain is named by
+// its sn; the builder takes it from those of the request.
 use builder::Builder;
 use chain::Role;
-use drawable::chain_part;
 use placed::NOTE_ROOM;
 use shapes::SHAPE_ROOM;
-use shapes::shape_at;
 use template::Class;
 ghost use Rattle.template.specs.declared.Class.the-variants.{Fa, Gp, Cl, Sb, Sa};
 ghost use Rattle.template.specs.Template.{elements, glycerol, roleOf};
@@ -28,17 +26,7 @@ fn fa_smiles(
 {
     let a = Builder::new();
     let b = a.push_fixed(out, b"O", 1);
-    let first = shape_at(count, shapes, 1);
-    b.push_bare(
-        out,
-        index,
-        rows,
-        notes,
-        first,
-        chain_part(lists, 1),
-        1,
-        Role::Acyl,
-    )
+    b.push_bare(out, index, rows, notes, count, shapes, lists, 1, Role::Acyl)
 }
 
 // GL1, GL2, GL3: `C(C`S3`)(`S2`)C`S1.
@@ -55,14 +43,11 @@ fn glycerolipid_smiles(
 {
     let a = Builder::new();
     let b = a.push_fixed(out, b"C(C", 2);
-    let third = shape_at(count, shapes, 3);
-    let c = b.push_slot(out, index, rows, notes, third, chain_part(lists, 3), 3);
+    let c = b.push_slot(out, index, rows, notes, count, shapes, lists, 3);
     let d = c.push_fixed(out, b")(", 0);
-    let second = shape_at(count, shapes, 2);
-    let e = d.push_slot(out, index, rows, notes, second, chain_part(lists, 2), 2);
+    let e = d.push_slot(out, index, rows, notes, count, shapes, lists, 2);
     let f = e.push_fixed(out, b")C", 1);
-    let first = shape_at(count, shapes, 1);
-    f.push_slot(out, index, rows, notes, first, chain_part(lists, 1), 1)
+    f.push_slot(out, index, rows, notes, count, shapes, lists, 1)
 }
 
 // GP: `C(C`tail`)(`S2`)C`S1.
@@ -83,11 +68,9 @@ fn gpl_smiles(
     let b = a.push_fixed(out, b"C(C", 2);
     let c = b.push_fixed(out, tail, tail_atoms);
     let d = c.push_fixed(out, b")(", 0);
-    let second = shape_at(count, shapes, 2);
-    let e = d.push_slot(out, index, rows, notes, second, chain_part(lists, 2), 2);
+    let e = d.push_slot(out, index, rows, notes, count, shapes, lists, 2);
     let f = e.push_fixed(out, b")C", 1);
-    let first = shape_at(count, shapes, 1);
-    f.push_slot(out, index, rows, notes, first, chain_part(lists, 1), 1)
+    f.push_slot(out, index, rows, notes, count, shapes, lists, 1)
 }
 
 // CL: `C(COP(=O)(O)OCC(`S2`)C`S1`)(O)COP(=O)(O)OCC(`S4`)C`S3.
@@ -104,17 +87,13 @@ fn cl_smiles(
 {
     let a = Builder::new();
     let b = a.push_fixed(out, b"C(COP(=O)(O)OCC(", 9);
-    let second = shape_at(count, shapes, 2);
-    let c = b.push_slot(out, index, rows, notes, second, chain_part(lists, 2), 2);
+    let c = b.push_slot(out, index, rows, notes, count, shapes, lists, 2);
     let d = c.push_fixed(out, b")C", 1);
-    let first = shape_at(count, shapes, 1);
-    let e = d.push_slot(out, index, rows, notes, first, chain_part(lists, 1), 1);
+    let e = d.push_slot(out, index, rows, notes, count, shapes, lists, 1);
     let f = e.push_fixed(out, b")(O)COP(=O)(O)OCC(", 9);
-    let fourth = shape_at(count, shapes, 4);
-    let g = f.push_slot(out, index, rows, notes, fourth, chain_part(lists, 4), 4);
+    let g = f.push_slot(out, index, rows, notes, count, shapes, lists, 4);
     let h = g.push_fixed(out, b")C", 1);
-    let third = shape_at(count, shapes, 3);
-    h.push_slot(out, index, rows, notes, third, chain_part(lists, 3), 3)
+    h.push_slot(out, index, rows, notes, count, shapes, lists, 3)
 }
 
 // SB: `C(C`tail`)(N)`base from C3.
@@ -135,17 +114,7 @@ fn sphingoid_smiles(
     let b = a.push_fixed(out, b"C(C", 2);
     let c = b.push_fixed(out, tail, tail_atoms);
     let d = c.push_fixed(out, b")(N)", 1);
-    let first = shape_at(count, shapes, 1);
-    d.push_bare(
-        out,
-        index,
-        rows,
-        notes,
-        first,
-        chain_part(lists, 1),
-        1,
-        Role::Base,
-    )
+    d.push_bare(out, index, rows, notes, count, shapes, lists, 1, Role::Base)
 }
 
 // SA: `C(C`tail`)(N`acyl`)`base from C3.
@@ -166,29 +135,9 @@ fn acyl_sphingoid_smiles(
     let b = a.push_fixed(out, b"C(C", 2);
     let c = b.push_fixed(out, tail, tail_atoms);
     let d = c.push_fixed(out, b")(N", 1);
-    let second = shape_at(count, shapes, 2);
-    let e = d.push_bare(
-        out,
-        index,
-        rows,
-        notes,
-        second,
-        chain_part(lists, 2),
-        2,
-        Role::Acyl,
-    );
+    let e = d.push_bare(out, index, rows, notes, count, shapes, lists, 2, Role::Acyl);
     let f = e.push_fixed(out, b")", 0);
-    let first = shape_at(count, shapes, 1);
-    f.push_bare(
-        out,
-        index,
-        rows,
-        notes,
-        first,
-        chain_part(lists, 1),
-        1,
-        Role::Base,
-    )
+    f.push_bare(out, index, rows, notes, count, shapes, lists, 1, Role::Base)
 }
 
 // The template of a class, with the chains of the request.

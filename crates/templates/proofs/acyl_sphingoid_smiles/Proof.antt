@@ -1,6 +1,5 @@
 use borrow.Author.Needs.{needs}
 use Rattle.reading.specs.Ascii.{ascii}
-use Rattle.shapes.proofs.Sn.{chain-there}
 use Rattle.templates.proofs.Templates.{acyl-sphingoid-built}
 use Rattle.templates.proofs.acyl_sphingoid_smiles.Statement.{statement}
 use Rattle.templates.proofs.acyl_sphingoid_smiles.Tie as tie
@@ -23,12 +22,6 @@ slice-aggregate-push-fixed-2 c = search needs
 push-fixed-requires-3 : tie.Need-push-fixed-requires-3
 push-fixed-requires-3 c κs = search needs
 
-shape-at-requires : tie.Need-shape-at-requires
-shape-at-requires c κs = search needs
-
-chain-part-requires : tie.Need-chain-part-requires
-chain-part-requires c κs = search needs
-
 push-bare-requires : tie.Need-push-bare-requires
 push-bare-requires c κs = search needs
 
@@ -38,31 +31,21 @@ slice-aggregate-push-fixed-3 c = search needs
 push-fixed-requires-4 : tie.Need-push-fixed-requires-4
 push-fixed-requires-4 c κs = search needs
 
-shape-at-requires-2 : tie.Need-shape-at-requires-2
-shape-at-requires-2 c κs = search needs
-
-chain-part-requires-2 : tie.Need-chain-part-requires-2
-chain-part-requires-2 c κs = search needs
-
 push-bare-requires-2 : tie.Need-push-bare-requires-2
 push-bare-requires-2 c κs = search needs
 
 returns : tie.Need-returns
 unfolding ascii
 returns c =
-    let e9 = c .before .before .before .before .before .before in
-    let e8p = e9 .before in
-    let e8 = e8p .before .before .before .before .before in
-    let e7 = e8 .before .before .before in
-    let e6 = e7 .before .before .before .before .before .before .before .before .before in
-    let e5p = e6 .before in
-    let e5 = e5p .before .before .before .before .before in
-    let e4 = e5 .before .before .before in
+    let e7 = c .before .before .before .before .before .before in
+    let e6 = e7 .before .before .before .before .before .before .before in
+    let e5 = e6 .before .before .before .before .before .before .before .before .before in
+    let e4 = e5 .before .before .before .before .before .before .before in
     let e3 = e4 .before .before .before .before .before in
     let e2 = e3 .before .before .before .before in
     let e1 = e2 .before .before .before in
     let start = e1 .before .before .before .before .before .before in
-    acyl-sphingoid-built (record { text = start .good .0 .0; index = start .good .1 .0 .0; rows = start .good .1 .1 .0 .0 }) (e1 .new .ensures) (e2 .push-fixed .ensures) (e3 .push-fixed2 .ensures) (e4 .push-fixed3 .ensures) (chain-there _ _ _ _ _ (e5 .shape-at .ensures) (e5p .chain-part .ensures)) (e6 .push-bare .ensures) (e7 .push-fixed4 .ensures) (chain-there _ _ _ _ _ (e8 .shape-at2 .ensures) (e8p .chain-part2 .ensures)) (e9 .push-bare2 .ensures)
+    acyl-sphingoid-built (record { text = start .good .0 .0; index = start .good .1 .0 .0; rows = start .good .1 .1 .0 .0 }) (e1 .new .ensures) (e2 .push-fixed .ensures) (e3 .push-fixed2 .ensures) (e4 .push-fixed3 .ensures) (e5 .push-bare .ensures) (e6 .push-fixed4 .ensures) (e7 .push-bare2 .ensures)
 
 same-length : tie.Need-same-length
 same-length c = returns c .sizes .text
@@ -83,13 +66,9 @@ acyl-sphingoid-smiles-spec =
     push-fixed-requires-2
     slice-aggregate-push-fixed-2
     push-fixed-requires-3
-    shape-at-requires
-    chain-part-requires
     push-bare-requires
     slice-aggregate-push-fixed-3
     push-fixed-requires-4
-    shape-at-requires-2
-    chain-part-requires-2
     push-bare-requires-2
     same-length
     same-length-2

@@ -1,6 +1,5 @@
 use borrow.Author.Needs.{needs}
 use Rattle.reading.specs.Ascii.{ascii}
-use Rattle.shapes.proofs.Sn.{chain-there}
 use Rattle.templates.proofs.Templates.{fa-built}
 use Rattle.templates.proofs.fa_smiles.Statement.{statement}
 use Rattle.templates.proofs.fa_smiles.Tie as tie
@@ -14,25 +13,17 @@ slice-aggregate-push-fixed c = search needs
 push-fixed-requires : tie.Need-push-fixed-requires
 push-fixed-requires c κs = search needs
 
-shape-at-requires : tie.Need-shape-at-requires
-shape-at-requires c κs = search needs
-
-chain-part-requires : tie.Need-chain-part-requires
-chain-part-requires c κs = search needs
-
 push-bare-requires : tie.Need-push-bare-requires
 push-bare-requires c κs = search needs
 
 returns : tie.Need-returns
 unfolding ascii
 returns c =
-    let e4 = c .before .before .before .before .before .before in
-    let e3p = e4 .before in
-    let e3 = e3p .before .before .before .before .before in
-    let e2 = e3 .before .before .before in
+    let e3 = c .before .before .before .before .before .before in
+    let e2 = e3 .before .before .before .before .before .before .before in
     let e1 = e2 .before .before .before in
     let start = e1 .before .before .before .before .before in
-    fa-built (record { text = start .good .0 .0; index = start .good .1 .0 .0; rows = start .good .1 .1 .0 .0 }) (e1 .new .ensures) (e2 .push-fixed .ensures) (chain-there _ _ _ _ _ (e3 .shape-at .ensures) (e3p .chain-part .ensures)) (e4 .push-bare .ensures)
+    fa-built (record { text = start .good .0 .0; index = start .good .1 .0 .0; rows = start .good .1 .1 .0 .0 }) (e1 .new .ensures) (e2 .push-fixed .ensures) (e3 .push-bare .ensures)
 
 same-length : tie.Need-same-length
 same-length c = returns c .sizes .text
@@ -50,8 +41,6 @@ fa-smiles-spec =
     new-requires
     slice-aggregate-push-fixed
     push-fixed-requires
-    shape-at-requires
-    chain-part-requires
     push-bare-requires
     same-length
     same-length-2

@@ -1,6 +1,5 @@
 use borrow.Author.Needs.{needs}
 use Rattle.reading.specs.Ascii.{ascii}
-use Rattle.shapes.proofs.Sn.{chain-there}
 use Rattle.templates.proofs.Templates.{glycerolipid-built}
 use Rattle.templates.proofs.glycerolipid_smiles.Statement.{statement}
 use Rattle.templates.proofs.glycerolipid_smiles.Tie as tie
@@ -14,12 +13,6 @@ slice-aggregate-push-fixed c = search needs
 push-fixed-requires : tie.Need-push-fixed-requires
 push-fixed-requires c κs = search needs
 
-shape-at-requires : tie.Need-shape-at-requires
-shape-at-requires c κs = search needs
-
-chain-part-requires : tie.Need-chain-part-requires
-chain-part-requires c κs = search needs
-
 push-slot-requires : tie.Need-push-slot-requires
 push-slot-requires c κs = search needs
 
@@ -28,12 +21,6 @@ slice-aggregate-push-fixed-2 c = search needs
 
 push-fixed-requires-2 : tie.Need-push-fixed-requires-2
 push-fixed-requires-2 c κs = search needs
-
-shape-at-requires-2 : tie.Need-shape-at-requires-2
-shape-at-requires-2 c κs = search needs
-
-chain-part-requires-2 : tie.Need-chain-part-requires-2
-chain-part-requires-2 c κs = search needs
 
 push-slot-requires-2 : tie.Need-push-slot-requires-2
 push-slot-requires-2 c κs = search needs
@@ -44,33 +31,21 @@ slice-aggregate-push-fixed-3 c = search needs
 push-fixed-requires-3 : tie.Need-push-fixed-requires-3
 push-fixed-requires-3 c κs = search needs
 
-shape-at-requires-3 : tie.Need-shape-at-requires-3
-shape-at-requires-3 c κs = search needs
-
-chain-part-requires-3 : tie.Need-chain-part-requires-3
-chain-part-requires-3 c κs = search needs
-
 push-slot-requires-3 : tie.Need-push-slot-requires-3
 push-slot-requires-3 c κs = search needs
 
 returns : tie.Need-returns
 unfolding ascii
 returns c =
-    let e10 = c .before .before .before .before .before .before in
-    let e9p = e10 .before in
-    let e9 = e9p .before .before .before .before .before in
-    let e8 = e9 .before .before .before in
-    let e7 = e8 .before .before .before .before .before .before .before .before .before in
-    let e6p = e7 .before in
-    let e6 = e6p .before .before .before .before .before in
-    let e5 = e6 .before .before .before in
-    let e4 = e5 .before .before .before .before .before .before .before .before .before in
-    let e3p = e4 .before in
-    let e3 = e3p .before .before .before .before .before in
-    let e2 = e3 .before .before .before in
+    let e7 = c .before .before .before .before .before .before in
+    let e6 = e7 .before .before .before .before .before .before .before in
+    let e5 = e6 .before .before .before .before .before .before .before .before .before in
+    let e4 = e5 .before .before .before .before .before .before .before in
+    let e3 = e4 .before .before .before .before .before .before .before .before .before in
+    let e2 = e3 .before .before .before .before .before .before .before in
     let e1 = e2 .before .before .before in
     let start = e1 .before .before .before .before .before in
-    glycerolipid-built (record { text = start .good .0 .0; index = start .good .1 .0 .0; rows = start .good .1 .1 .0 .0 }) (e1 .new .ensures) (e2 .push-fixed .ensures) (chain-there _ _ _ _ _ (e3 .shape-at .ensures) (e3p .chain-part .ensures)) (e4 .push-slot .ensures) (e5 .push-fixed2 .ensures) (chain-there _ _ _ _ _ (e6 .shape-at2 .ensures) (e6p .chain-part2 .ensures)) (e7 .push-slot2 .ensures) (e8 .push-fixed3 .ensures) (chain-there _ _ _ _ _ (e9 .shape-at3 .ensures) (e9p .chain-part3 .ensures)) (e10 .push-slot3 .ensures)
+    glycerolipid-built (record { text = start .good .0 .0; index = start .good .1 .0 .0; rows = start .good .1 .1 .0 .0 }) (e1 .new .ensures) (e2 .push-fixed .ensures) (e3 .push-slot .ensures) (e4 .push-fixed2 .ensures) (e5 .push-slot2 .ensures) (e6 .push-fixed3 .ensures) (e7 .push-slot3 .ensures)
 
 same-length : tie.Need-same-length
 same-length c = returns c .sizes .text
@@ -88,18 +63,12 @@ glycerolipid-smiles-spec =
     new-requires
     slice-aggregate-push-fixed
     push-fixed-requires
-    shape-at-requires
-    chain-part-requires
     push-slot-requires
     slice-aggregate-push-fixed-2
     push-fixed-requires-2
-    shape-at-requires-2
-    chain-part-requires-2
     push-slot-requires-2
     slice-aggregate-push-fixed-3
     push-fixed-requires-3
-    shape-at-requires-3
-    chain-part-requires-3
     push-slot-requires-3
     same-length
     same-length-2

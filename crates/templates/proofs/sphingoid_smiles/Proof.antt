@@ -1,6 +1,5 @@
 use borrow.Author.Needs.{needs}
 use Rattle.reading.specs.Ascii.{ascii}
-use Rattle.shapes.proofs.Sn.{chain-there}
 use Rattle.templates.proofs.Templates.{sphingoid-built}
 use Rattle.templates.proofs.sphingoid_smiles.Statement.{statement}
 use Rattle.templates.proofs.sphingoid_smiles.Tie as tie
@@ -23,27 +22,19 @@ slice-aggregate-push-fixed-2 c = search needs
 push-fixed-requires-3 : tie.Need-push-fixed-requires-3
 push-fixed-requires-3 c κs = search needs
 
-shape-at-requires : tie.Need-shape-at-requires
-shape-at-requires c κs = search needs
-
-chain-part-requires : tie.Need-chain-part-requires
-chain-part-requires c κs = search needs
-
 push-bare-requires : tie.Need-push-bare-requires
 push-bare-requires c κs = search needs
 
 returns : tie.Need-returns
 unfolding ascii
 returns c =
-    let e6 = c .before .before .before .before .before .before in
-    let e5p = e6 .before in
-    let e5 = e5p .before .before .before .before .before in
-    let e4 = e5 .before .before .before in
+    let e5 = c .before .before .before .before .before .before in
+    let e4 = e5 .before .before .before .before .before .before .before in
     let e3 = e4 .before .before .before .before .before in
     let e2 = e3 .before .before .before .before in
     let e1 = e2 .before .before .before in
     let start = e1 .before .before .before .before .before .before in
-    sphingoid-built (record { text = start .good .0 .0; index = start .good .1 .0 .0; rows = start .good .1 .1 .0 .0 }) (e1 .new .ensures) (e2 .push-fixed .ensures) (e3 .push-fixed2 .ensures) (e4 .push-fixed3 .ensures) (chain-there _ _ _ _ _ (e5 .shape-at .ensures) (e5p .chain-part .ensures)) (e6 .push-bare .ensures)
+    sphingoid-built (record { text = start .good .0 .0; index = start .good .1 .0 .0; rows = start .good .1 .1 .0 .0 }) (e1 .new .ensures) (e2 .push-fixed .ensures) (e3 .push-fixed2 .ensures) (e4 .push-fixed3 .ensures) (e5 .push-bare .ensures)
 
 same-length : tie.Need-same-length
 same-length c = returns c .sizes .text
@@ -64,8 +55,6 @@ sphingoid-smiles-spec =
     push-fixed-requires-2
     slice-aggregate-push-fixed-2
     push-fixed-requires-3
-    shape-at-requires
-    chain-part-requires
     push-bare-requires
     same-length
     same-length-2

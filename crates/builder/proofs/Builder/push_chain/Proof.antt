@@ -4,8 +4,14 @@ use Rattle.builder.proofs.Pushes.{chain-none, chain-some}
 use Rattle.builder.proofs.Builder.push_chain.Statement.{statement}
 use Rattle.builder.proofs.Builder.push_chain.Tie as tie
 
+shape-at-requires : tie.Need-shape-at-requires
+shape-at-requires c κs = search needs
+
 returns : tie.Need-returns
 returns c = search (chain-none, arith)
+
+chain-part-requires : tie.Need-chain-part-requires
+chain-part-requires c κs = search needs
 
 push-fragment-requires : tie.Need-push-fragment-requires
 push-fragment-requires c κs = search needs
@@ -25,4 +31,12 @@ returns-2 c = search chain-some
 pub push-chain-spec : {M : Type 1} → statement M
 push-chain-spec =
     tie.close
-    (tie.spec returns push-fragment-requires same-length same-length-2 same-length-3 returns-2)
+    (tie.spec
+    shape-at-requires
+    returns
+    chain-part-requires
+    push-fragment-requires
+    same-length
+    same-length-2
+    same-length-3
+    returns-2)
