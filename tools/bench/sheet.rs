@@ -260,6 +260,9 @@ mod sheet {
 
     /// Rounds of all, in turn; the table has the median of each.
     const ROUNDS: usize = 7;
+    /// Runs of the program for each of the original's: a round of both takes about as long, so that
+    /// what else the machine does falls on both alike. One run of the program is a tenth of a second.
+    const RUNS: usize = 10;
 
     fn command(program: &str, arguments: &[&str], sheet: &str) -> Result<Command> {
         let mut command = Command::new(program);
@@ -347,8 +350,8 @@ mod sheet {
         let this = std::env::current_exe()?;
         let this = this.to_str().expect("the path is text");
         println!(
-            "a sheet of mixed rows: processor time, user and system, of the whole program, the median of {ROUNDS} rounds; \
-             output thrown away"
+            "a sheet of mixed rows: processor time, user and system, of the whole program, the median of {ROUNDS} rounds, in each \
+             {RUNS} runs of the program for one of the original; output thrown away"
         );
         println!(
             "{:>9}{:>10}{:>10}{:>12}{:>12}{:>8}{:>14}{:>14}",
@@ -367,7 +370,7 @@ mod sheet {
             for (sheet, ((rows, _, _), _, original, ours)) in sheets.iter().zip(&mut found) {
                 let runs = most / *rows;
                 original.push(seconds_of(runs, || command(this, &["answer"], sheet))?);
-                ours.push(seconds_of(runs, || command(program, &[], sheet))?);
+                ours.push(seconds_of(RUNS * runs, || command(program, &[], sheet))?);
             }
         }
         let mut spread: f64 = 0.0;
