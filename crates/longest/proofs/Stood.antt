@@ -31,7 +31,7 @@ use Rattle.placed.specs.Fragment.{Carries, Stood}
 use Rattle.templates.specs.Templates.{TailOf}
 use Rattle.templates.specs.Classes.{StoodIn}
 use Rattle.longest.specs.Longest.{textMost, drawnMost, sitesMost, numbersMost, chainMost, chainMostOf, mostAt, lineMost}
-use Rattle.longest.specs.Covered.{shapeMost, ChainCovered, Covered, SlightAt, Slight}
+use Rattle.longest.specs.Covered.{shapeMost, ChainCovered, Covered, SlightShape, SlightAt, Slight, SlightCovered}
 use Rattle.longest.proofs.Chains.{Modest}
 use Rattle.longest.proofs.Line.{line-most}
 
@@ -137,7 +137,7 @@ module _ (ρ : ℕ → Role) (ds : List Chain) (count : ℕ) (ns l : List ℕ) (
 
   all-slight : (m : ℕ) → Slight m count ns → (sn : ℕ) (d : Chain) → nonempty sn ds ≡ some d → d .carbon ≤ m
   all-slight m g zero d e = absurd (no-chain ds d e)
-  all-slight m g (suc i) d e = let z = told i d e in omega (arith, z .carbon, g .all i (z .counted))
+  all-slight m g (suc i) d e = let z = told i d e in omega (arith, z .carbon, g .all i (z .counted) .carbons)
 
 -- ---- what the functions answer
 
@@ -182,8 +182,8 @@ pub past-slight : (m count i : ℕ) (ns : List ℕ) → count ≤ i → SlightAt
 past-slight m count i ns g = λ h. absurd (omega arith)
 
 -- one that counts
-pub there-slight : (m count i : ℕ) (ns : List ℕ) (x : Shape) → x ≡ getD (shapesIn ns) i noShape → x .carbon ≤ m → SlightAt m count ns i
-there-slight m count i ns x e g = λ h. rw (← e) g
+pub there-slight : (m count i : ℕ) (ns : List ℕ) (x : Shape) → x ≡ getD (shapesIn ns) i noShape → x .carbon ≤ m → x .unlocated ≤ m → SlightAt m count ns i
+there-slight m count i ns x e a b = λ h. rw (← e) (record { carbons = a; bonds = b })
 
 -- all four places
 pub slight : {m count : ℕ} {ns : List ℕ} {a b c d : Bool} → (a ≡ true → SlightAt m count ns 0) → not a ≡ false → (b ≡ true → SlightAt m count ns 1) → not b ≡ false
@@ -195,7 +195,37 @@ slight {m} {count} {ns} {a} {b} {c} {d} p q r s t u v w = record { all = go }
     go (suc zero) = r (not-false b s)
     go (suc (suc zero)) = t (not-false c u)
     go (suc (suc (suc zero))) = v (not-false d w)
-    go (suc (suc (suc (suc i)))) = λ h. rw (← shape-past ns (suc (suc (suc (suc i)))) noShape (omega arith) refl) (omega arith)
+    go (suc (suc (suc (suc i)))) = λ h. rw (← shape-past ns (suc (suc (suc (suc i)))) noShape (omega arith) refl) (record { carbons = omega arith; bonds = omega arith })
+
+-- what one adds to a line
+slight-numbers : (c u f : ℕ) → c ≤ 30 → u ≤ 30 → f ≤ 18 → numbersMost c u 18 f 8 ≤ 12672
+unfolding numbersMost textMost sitesMost drawnMost
+slight-numbers c u f a b e = omega (arith, mul-le-mul-right (14 + 6 * (c + 2 * u + 2)) e)
+
+slight-shape : (x : Shape) → SlightShape 30 x → shapeMost x ≤ 12672
+unfolding shapeMost
+slight-shape x h = slight-numbers (x .carbon) (x .unlocated) (min (x .«float_count») 18) (h .carbons) (h .bonds) (omega arith)
+
+slight-chain : (count i : ℕ) (ns : List ℕ) → SlightAt 30 count ns i → ChainCovered count ns i 12672
+slight-chain count i ns g = record { few = omega arith; covers = λ ρ ds l h. go ρ ds l h (nonempty (suc i) ds) refl }
+  where
+    go : (ρ : ℕ → Role) (ds : List Chain) (l : List ℕ) → Stood ρ ds (chainsKept count ns l) → (o : Option Chain) → nonempty (suc i) ds ≡ o → chainMostOf (ρ (suc i)) o ≤ 12672
+    go ρ ds l h none q = omega arith
+    go ρ ds l h (some d) q =
+        let z = told ρ ds count ns l h i d q in
+        omega (arith, z .covered, slight-shape (getD (shapesIn ns) i noShape) (g (z .counted)))
+
+-- a line of four of them
+pub slight-covered : (t : List ℕ) (k : ℕ) → SlightCovered 30 t k (120 + length t + k + 50688)
+slight-covered t k =
+    record {
+      covers = λ count ns h.
+          line-covered t k count ns 12672 12672 12672 12672
+          (slight-chain count 0 ns (h .all 0))
+          (slight-chain count 1 ns (h .all 1))
+          (slight-chain count 2 ns (h .all 2))
+          (slight-chain count 3 ns (h .all 3));
+    }
 
 -- the chains of a template are those of the tokens
 slight-place : (m sn : ℕ) (r : Role) (s : Option ℕ) (n v : ℕ) (o : Option Chain) → ((d : Chain) → o ≡ some d → d .carbon ≤ m) → All (λ p. p .chain .carbon ≤ m) (place sn r s n v o)

@@ -37,10 +37,19 @@ pub record Covered (t : List ℕ) (k count : ℕ) (ns : List ℕ) (r : ℕ) : Ty
   pub covers : (c : Class) (swap : Bool) (ds : List Chain) (l : List ℕ) → (hasTail c ≡ true → TailOf t k) → StoodIn c ds (chainsKept count ns l)
       → Each Told (placed c t ds) → length (lineOf c swap t ds) ≤ r
 
--- the chain at a place has at most m carbons, if it counts
-abbrev pub SlightAt : ℕ → ℕ → List ℕ → ℕ → Type 0
-SlightAt m count ns i = i < count → getD (shapesIn ns) i noShape .carbon ≤ m
+-- a chain has at most m carbons, and at most m double bonds without a position
+pub record SlightShape (m : ℕ) (x : Shape) : Type 0 where
+  pub carbons : x .carbon ≤ m
+  pub bonds : x .unlocated ≤ m
 
--- so have all chains that count
+-- the chain at a place is such a one, if it counts
+abbrev pub SlightAt : ℕ → ℕ → List ℕ → ℕ → Type 0
+SlightAt m count ns i = i < count → SlightShape m (getD (shapesIn ns) i noShape)
+
+-- so are all chains that count
 pub record Slight (m count : ℕ) (ns : List ℕ) : Type 0 where
   pub all : (i : ℕ) → SlightAt m count ns i
+
+-- r is no less than the length of the line of any such chains, however many they are, with a tail t of k atoms
+pub record SlightCovered (m : ℕ) (t : List ℕ) (k r : ℕ) : Type 0 where
+  pub covers : (count : ℕ) (ns : List ℕ) → Slight m count ns → Covered t k count ns r

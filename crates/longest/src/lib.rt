@@ -6,7 +6,7 @@ ghost use mathlib.Core.Path.{_≡_};
 ghost use mathlib.Core.Bool.{true};
 ghost use Prim.Native.Nat.{_≤_, min};
 ghost use Rattle.longest.specs.Longest.{drawnMost, textMost, sitesMost};
-ghost use Rattle.longest.specs.Covered.{shapeMost, Bounded, ChainCovered, Covered, SlightAt, Slight};
+ghost use Rattle.longest.specs.Covered.{shapeMost, Bounded, ChainCovered, Covered, SlightAt, Slight, SlightCovered};
 
 // The most groups with a position that a chain has room for, and the most without one.
 const GROUP_ROOM: usize = 18;
@@ -69,8 +69,11 @@ fn chain_most(count: usize, i: usize, shapes: &[u64; SHAPE_ROOM]) -> usize
     shape_most(shapes::shape_in(shapes, i))
 }
 
-// A chain with more carbons than this is long.
+// A chain with more carbons than this, or more double bonds without a position, is long.
 pub const SLIGHT_CARBONS: u16 = 30;
+
+// What four chains add at most to a line where none of them is long: 12672 each.
+const SLIGHT_MOST: usize = 50688;
 
 // Whether the chain at a place is not long; one past those that count is none.
 fn slight_at(count: usize, i: usize, shapes: &[u64; SHAPE_ROOM]) -> bool
@@ -83,10 +86,13 @@ fn slight_at(count: usize, i: usize, shapes: &[u64; SHAPE_ROOM]) -> bool
     if x.carbon > SLIGHT_CARBONS {
         return false;
     }
+    if x.unlocated > SLIGHT_CARBONS {
+        return false;
+    }
     true
 }
 
-// Whether no chain is long, as in nearly every request: then little room is needed for their indices.
+// Whether no chain is long, as in nearly every request: then little room is needed for their indices, and `slight_most` bounds the line.
 pub fn are_slight(count: usize, shapes: &[u64; SHAPE_ROOM]) -> bool
     ensures { λ r. ⌜ (r ≡ true → Slight 30 count (now (shapes .entry))) ⌝ }
 {
@@ -114,4 +120,11 @@ pub fn line_most(tail: &[u8], tail_atoms: u16, count: usize, shapes: &[u64; SHAP
     let c = chain_most(count, 2, shapes);
     let d = chain_most(count, 3, shapes);
     120 + tail.len() + tail_atoms as usize + (a + b + c + d)
+}
+
+// How long a line of any class is at most if none of its chains is long: cruder still than `line_most`, and no chain is looked at.
+pub fn slight_most(tail: &[u8], tail_atoms: u16) -> usize
+    ensures { λ r. ⌜ SlightCovered 30 (now (tail .entry)) «tail_atoms» r ⌝ }
+{
+    120 + tail.len() + tail_atoms as usize + SLIGHT_MOST
 }

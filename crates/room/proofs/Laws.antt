@@ -18,7 +18,7 @@ use Rattle.placed.specs.Fragment.{gathered}
 use Rattle.builder.specs.Build.{rooms}
 use Rattle.lines.specs.declared.Line.{Line}
 use Rattle.lines.specs.Line.{LineIs, LineBuilt}
-use Rattle.longest.specs.Covered.{Covered}
+use Rattle.longest.specs.Covered.{Covered, Slight, SlightCovered}
 use Rattle.answer.specs.Answer.{short}
 use Rattle.room.specs.Ready.{Ready, ShortIs, Ample}
 use Rattle.room.proofs.Index.{index-length}
@@ -87,6 +87,11 @@ ample {t} {n = n} {m} h e f =
       long = λ c swap l ds w.
           long-enough c swap t ds n m (omega (arith, f, h .covers c swap ds l (w .tail) (w .stood) (w .told))) (omega (arith, e, index-length c t ds, w .index, w .tokens));
     }
+
+-- for any with chains of which none is long
+pub slight-ample : {t : List ℕ} {k count : ℕ} {ns : List ℕ} {b : Bool} {r n m : ℕ} → SlightCovered 30 t k r → (b ≡ true → Slight 30 count ns) → b ≡ true → 1020 ≤ m → r ≤ n
+    → Ample t k count ns n m
+slight-ample {count = count} {ns} h g q e f = ample (h .covers count ns (g q)) e f
 
 pub not-short : {c : Class} {swap : Bool} {t : List ℕ} {k count : ℕ} {ns : List ℕ} {n m : ℕ} (l : List ℕ) → Ample t k count ns n m → ShortIs c swap t k (chainsKept count ns l) n m false
 not-short {c} {swap} l h = record { is = λ ds w. sym (h .long c swap l ds w) }

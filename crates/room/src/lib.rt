@@ -15,7 +15,8 @@ pub const INDEX_ROOM: usize = 1020;
 // Room for the rows of their floating groups.
 pub const ROW_ROOM: usize = 64;
 
-// Whether both slices are longer than any line and lists with such chains.
+// Whether both slices are longer than any line and lists with such chains. In most requests no chain is long: then one look at each chain is
+// enough where the slice is as long as four such chains need, and no length is computed.
 fn is_ample(
     line: &[u8],
     index: &[u16],
@@ -28,6 +29,11 @@ fn is_ample(
 {
     if index.len() < INDEX_ROOM {
         return false;
+    }
+    if longest::are_slight(count, shapes) {
+        if longest::slight_most(tail, tail_atoms) <= line.len() {
+            return true;
+        }
     }
     longest::line_most(tail, tail_atoms, count, shapes) <= line.len()
 }

@@ -14,7 +14,10 @@ returns-2 : tie.Need-returns-2
 returns-2 c = λ e. absurd (false≢true e)
 
 returns-3 : tie.Need-returns-3
-returns-3 c = λ e. search there-slight
+returns-3 c = λ e. absurd (false≢true e)
+
+returns-4 : tie.Need-returns-4
+returns-4 c = λ e. search there-slight
 
 pub slight-at-spec : {M : Type 1} → statement M
-slight-at-spec = tie.close (tie.spec returns shape-in-requires returns-2 returns-3)
+slight-at-spec = tie.close (tie.spec returns shape-in-requires returns-2 returns-3 returns-4)
