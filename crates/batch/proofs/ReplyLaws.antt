@@ -193,21 +193,22 @@ module _ (swap : Bool) (t xs is : List ℕ) (e : length xs ≡ lineRoom) (ys js 
 
 -- ---- a row
 
-pub drawn-row : (p : Plan) (row class t s1 s2 s3 s4 : List ℕ) (count : ℕ) (swap : Bool) (xs is ys js : List ℕ) (a : Answer) → class ≡ cellOf p 0 row
-    → t ≡ cellOf p 2 row → s1 ≡ cellOf p 3 row → s2 ≡ cellOf p 4 row → s3 ≡ cellOf p 5 row → s4 ≡ cellOf p 6 row
-    → Called (verdict class t count (tokens count s1 s2 s3 s4)) swap t xs is ys js a
-    → Called (verdict (cellOf p 0 row) (cellOf p 2 row) count (take count (snCells p row))) swap (cellOf p 2 row) xs is ys js a
-drawn-row p row class t s1 s2 s3 s4 count swap xs is ys js a e f g h i j k = rw (e, f, g, h, i, j) at k
+-- the token cells
+pub cells-told : (p : Plan) (row s1 s2 s3 s4 : List ℕ) → s1 ≡ cellOf p 3 row → s2 ≡ cellOf p 4 row → s3 ≡ cellOf p 5 row → s4 ≡ cellOf p 6 row
+    → (s1 ∷ s2 ∷ s3 ∷ s4 ∷ []) ≡ snCells p row
+cells-told p row s1 s2 s3 s4 e f g h = cc
 
 module _ (p : Plan) (row : List ℕ) (k : Asked) (e : k ≡ told (requestOf p row)) (is os : List ℕ) (at : ℕ) where
   pub row-unreadable : (ps : List ℕ) (r : Answered) → not (k .readable) ≡ true → UnreadableWritten os at ps r → RowAnswered (requestOf p row) is os at is ps r
   row-unreadable ps r h w = rw (asked-nothing p row k e h) (record { text = w .text; answer = w .answer; index = refl })
 
-  pub row-drawn : (js ps : List ℕ) (r : Answered) → not (k .readable) ≡ false
-      → Drawn (verdict (cellOf p 0 row) (cellOf p 2 row) (k .count) (take (k .count) (snCells p row))) (k .swap) (cellOf p 2 row) is os at js ps r
-      → RowAnswered (requestOf p row) is os at js ps r
-  row-drawn js ps r h d =
+  -- from the cells that are drawn
+  pub row-drawn : {class t s1 s2 s3 s4 js ps : List ℕ} {r : Answered} → class ≡ cellOf p 0 row → t ≡ cellOf p 2 row → s1 ≡ cellOf p 3 row → s2 ≡ cellOf p 4 row
+      → s3 ≡ cellOf p 5 row → s4 ≡ cellOf p 6 row → not (k .readable) ≡ false
+      → Drawn (verdict class t (k .count) (tokens (k .count) s1 s2 s3 s4)) (k .swap) t is os at js ps r → RowAnswered (requestOf p row) is os at js ps r
+  row-drawn {js = js} {ps} {r} a b f g i j h d =
       let ts : List (List ℕ) = take (k .count) (snCells p row) in
+      let v : Drawn (verdict (cellOf p 0 row) (cellOf p 2 row) (k .count) ts) (k .swap) (cellOf p 2 row) is os at js ps r = rw (a, b, f, g, i, j) at d in
       let w : Drawn (verdict (cellOf p 0 row) (cellOf p 2 row) (length ts) ts) (k .swap) (cellOf p 2 row) is os at js ps r
-      = subst (λ (n : ℕ). Drawn (verdict (cellOf p 0 row) (cellOf p 2 row) n ts) (k .swap) (cellOf p 2 row) is os at js ps r) (asked-count p row k e h) d in
+      = subst (λ (n : ℕ). Drawn (verdict (cellOf p 0 row) (cellOf p 2 row) n ts) (k .swap) (cellOf p 2 row) is os at js ps r) (asked-count p row k e h) v in
       rw (asked-request p row k e h) (record { text = w .text; answer = w .answer; index = w .index })

@@ -4,10 +4,8 @@ ghost use mathlib.Core.Path.{_≡_};
 ghost use Prim.Native.Nat.{min, _+_, _≤_};
 ghost use lib.ListN.{length, take};
 ghost use Rattle.emit.specs.Text.{Written};
-ghost use Rattle.judge.specs.Verdict.{verdict};
-ghost use Rattle.forward.specs.Call.{Called};
+ghost use Rattle.judge.specs.Verdict.{tokens, verdict};
 ghost use Rattle.cutting.specs.Cut.{Cut};
-ghost use Rattle.sheet.specs.Cells.{cellOf, snCells};
 ghost use Rattle.sheet.specs.Sheet.{requestOf};
 ghost use Rattle.beginning.specs.Beginning.{refused, replyText};
 ghost use Rattle.rows.specs.Chains.{carbonsOf};
@@ -78,42 +76,6 @@ fn put_answer(
     )
 }
 
-// A row that is readable and cut into so many cells, drawn.
-fn draw_row(
-    plan: Plan,
-    row: &[u8],
-    cells: usize,
-    starts: &[usize],
-    swap: bool,
-    count: usize,
-    line: &mut [u8],
-    index: &mut [u16],
-    lists: &mut [u64; LIST_ROOM],
-) -> Answer
-    requires { ⌜ Cut (now row) (now starts) cells ⌝ }
-    ensures { λ r. ⌜ Called (verdict (cellOf plan 0 (now (row .entry))) (cellOf plan 2 (now (row .entry))) count (take count (snCells plan (now (row .entry))))) swap (cellOf plan 2 (now (row .entry))) (now (line .entry)) (now (index .entry)) (now (line .exit)) (now (index .exit)) r ⌝ }
-{
-    let class = sheet::cell_of(plan, row, cells, starts, sheet::CLASS);
-    let tail = sheet::cell_of(plan, row, cells, starts, sheet::TAIL);
-    let sn1 = sheet::cell_of(plan, row, cells, starts, sheet::SN1);
-    let sn2 = sheet::cell_of(plan, row, cells, starts, sheet::SN2);
-    let sn3 = sheet::cell_of(plan, row, cells, starts, sheet::SN3);
-    let sn4 = sheet::cell_of(plan, row, cells, starts, sheet::SN4);
-    forward::draw_lent(
-        class,
-        swap,
-        tail,
-        count,
-        sn1,
-        sn2,
-        sn3,
-        sn4,
-        line,
-        index,
-        lists,
-    )
-}
-
 // The row of a refused request.
 fn put_refused(out: &mut [u8], at: usize, number: u16, token: usize) -> usize
     ensures { λ r. ⌜ Written (now (out .entry)) at (replyText (refused number token)) (now (out .exit)) r ⌝ }
@@ -138,32 +100,36 @@ fn put_around(
     put_rest(out, at + HEAD + size, lists, index, pairs)
 }
 
-// A row that is readable and cut into so many cells, where the output has no room for a line slice: its line is drawn apart and copied. Two
-// calls lead here, and so the compiler does not lay this function, with its long array, into the one that runs for every row.
-fn answer_apart(
-    plan: Plan,
-    row: &[u8],
-    cells: usize,
-    starts: &[usize],
+// A request, where the output has no room for a line slice: its line is drawn apart and copied. Two calls lead here, and so the compiler does
+// not lay this function, with its long array, into the one that runs for every row.
+fn answer_apart<'a>(
+    class: &[u8],
     swap: bool,
+    tail: &[u8],
     count: usize,
+    sn1: &'a [u8],
+    sn2: &'a [u8],
+    sn3: &'a [u8],
+    sn4: &'a [u8],
     index: &mut [u16],
     out: &mut [u8],
     at: usize,
     pairs: &[u16],
     lists: &mut [u64; LIST_ROOM],
 ) -> Answered
-    requires { ⌜ Cut (now row) (now starts) cells × Pairs (now pairs) ⌝ }
-    ensures { λ r. ⌜ Drawn (verdict (cellOf plan 0 (now (row .entry))) (cellOf plan 2 (now (row .entry))) count (take count (snCells plan (now (row .entry))))) swap (cellOf plan 2 (now (row .entry))) (now (index .entry)) (now (out .entry)) at (now (index .exit)) (now (out .exit)) r ⌝ }
+    requires { ⌜ Pairs (now pairs) ⌝ }
+    ensures { λ r. ⌜ Drawn (verdict (now (class .entry)) (now (tail .entry)) count (tokens count (now (sn1 .entry)) (now (sn2 .entry)) (now (sn3 .entry)) (now (sn4 .entry)))) swap (now (tail .entry)) (now (index .entry)) (now (out .entry)) at (now (index .exit)) (now (out .exit)) r ⌝ }
 {
     let mut line = [0u8; LINE];
-    let answer = draw_row(
-        plan,
-        row,
-        cells,
-        starts,
+    let answer = forward::draw_lent(
+        class,
         swap,
+        tail,
         count,
+        sn1,
+        sn2,
+        sn3,
+        sn4,
         &mut line,
         index,
         lists,
@@ -193,18 +159,26 @@ fn answer_cut(
     requires { ⌜ Cut (now row) (now starts) cells × Pairs (now pairs) ⌝ }
     ensures { λ r. ⌜ RowAnswered (requestOf plan (now (row .entry))) (now (index .entry)) (now (out .entry)) at (now (index .exit)) (now (out .exit)) r ⌝ }
 {
-    let asked = sheet::read_cut(plan, row, cells, starts);
+    let sn1 = sheet::cell_of(plan, row, cells, starts, sheet::SN1);
+    let sn2 = sheet::cell_of(plan, row, cells, starts, sheet::SN2);
+    let sn3 = sheet::cell_of(plan, row, cells, starts, sheet::SN3);
+    let sn4 = sheet::cell_of(plan, row, cells, starts, sheet::SN4);
+    let asked = sheet::read_cut(plan, row, cells, starts, sn1, sn2, sn3, sn4);
     if !asked.readable {
         return put_unreadable(out, at);
     }
+    let class = sheet::cell_of(plan, row, cells, starts, sheet::CLASS);
+    let tail = sheet::cell_of(plan, row, cells, starts, sheet::TAIL);
     if out.len() < HEAD + LINE {
         return answer_apart(
-            plan,
-            row,
-            cells,
-            starts,
+            class,
             asked.swap,
+            tail,
             asked.count,
+            sn1,
+            sn2,
+            sn3,
+            sn4,
             index,
             out,
             at,
@@ -214,12 +188,14 @@ fn answer_cut(
     }
     if out.len() - (HEAD + LINE) < at {
         return answer_apart(
-            plan,
-            row,
-            cells,
-            starts,
+            class,
             asked.swap,
+            tail,
             asked.count,
+            sn1,
+            sn2,
+            sn3,
+            sn4,
             index,
             out,
             at,
@@ -229,13 +205,15 @@ fn answer_cut(
     }
     let from = at + HEAD;
     let to = from + LINE;
-    let answer = draw_row(
-        plan,
-        row,
-        cells,
-        starts,
+    let answer = forward::draw_lent(
+        class,
         asked.swap,
+        tail,
         asked.count,
+        sn1,
+        sn2,
+        sn3,
+        sn4,
         &mut out[from..to],
         index,
         lists,

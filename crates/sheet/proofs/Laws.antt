@@ -3,7 +3,7 @@
 use Prim.Native.Nat.{ℕ, _≤_, _<_}
 use mathlib.Core.Path.{_≡_, sym, _∙_}
 use mathlib.Core.Bool.{true, false}
-use mathlib.Core.List.{List, [], _∷_}
+use mathlib.Core.List.{List}
 use lib.ListN.{length}
 use lib.Seq.{length-take-le}
 use borrow.Author.Tests.{eq-eqb, ne-eqb, lt-ltb, le-ltb}
@@ -37,16 +37,12 @@ module _ (p : Plan) (row : List ℕ) where
       unfolding requestOf
       read-row = rw (le-ltb 2048 (length row) h, sym g, eq-eqb n (p .cells) d, sym c, sym w)
 
-      module _ (count : ℕ) (k : count ≡ lastNonblank (snCells p row)) where
+      module _ (ts : List (List ℕ)) (f : ts ≡ snCells p row) (count : ℕ) (k : count ≡ lastNonblank ts) where
         pub row-no : s ≡ No → record { readable = true; swap = false; count = count } ≡ told (requestOf p row)
-        row-no e = rw (read-row, e, token-length, k)
+        row-no e = rw (read-row, e, token-length, k, f)
 
         pub row-yes : s ≡ Yes → record { readable = true; swap = true; count = count } ≡ told (requestOf p row)
-        row-yes e = rw (read-row, e, token-length, k)
+        row-yes e = rw (read-row, e, token-length, k, f)
 
       pub row-swap : (r : Asked) → s ≡ Other → r ≡ told Unreadable → r ≡ told (requestOf p row)
       row-swap r e f = f ∙ rw (read-row, e)
-
-pub tokens-told : (p : Plan) (row a b c d : List ℕ) (n : ℕ) → n ≡ lastNonblank (a ∷ b ∷ c ∷ d ∷ []) → a ≡ cellOf p 3 row → b ≡ cellOf p 4 row → c ≡ cellOf p 5 row
-    → d ≡ cellOf p 6 row → n ≡ lastNonblank (snCells p row)
-tokens-told p row a b c d n e f g h i = cc

@@ -1,7 +1,7 @@
 // Header and rows of a sheet, as lent bytes: what a row asks here; the header as `header` has it, and the cells as `cells` has them. Every
 // byte string is defined for; a row that is unreadable (42) is an answer. What it is, is said by specs/Sheet.antt.
 ghost use mathlib.Core.Path.{_≡_};
-ghost use Rattle.cellwords.specs.Words.{lastNonblank};
+ghost use mathlib.Core.List.{[], _∷_};
 ghost use Rattle.cells.specs.Cells.{snCells};
 ghost use Rattle.cutting.specs.Cut.{Cut};
 ghost use Rattle.sheet.specs.Sheet.{requestOf, told, Unreadable};
@@ -43,21 +43,18 @@ fn unreadable() -> Asked
     }
 }
 
-// How many tokens a row has.
-fn tokens_in(plan: Plan, row: &[u8], cells: usize, starts: &[usize]) -> usize
-    requires { ⌜ Cut (now row) (now starts) cells ⌝ }
-    ensures { λ r. ⌜ r ≡ lastNonblank (snCells plan (now (row .entry))) ⌝ }
-{
-    let sn1 = cell_of(plan, row, cells, starts, SN1);
-    let sn2 = cell_of(plan, row, cells, starts, SN2);
-    let sn3 = cell_of(plan, row, cells, starts, SN3);
-    let sn4 = cell_of(plan, row, cells, starts, SN4);
-    token_count(sn1, sn2, sn3, sn4)
-}
-
-// What a row asks that is cut into so many cells.
-pub fn read_cut(plan: Plan, row: &[u8], cells: usize, starts: &[usize]) -> Asked
-    requires { ⌜ Cut (now row) (now starts) cells ⌝ }
+// What a row asks that is cut into so many cells. Its token cells are lent too, for whoever draws the row takes them in any case.
+pub fn read_cut(
+    plan: Plan,
+    row: &[u8],
+    cells: usize,
+    starts: &[usize],
+    sn1: &[u8],
+    sn2: &[u8],
+    sn3: &[u8],
+    sn4: &[u8],
+) -> Asked
+    requires { ⌜ Cut (now row) (now starts) cells × ((now sn1 ∷ now sn2 ∷ now sn3 ∷ now sn4 ∷ []) ≡ snCells plan (now row)) ⌝ }
     ensures { λ r. ⌜ r ≡ told (requestOf plan (now (row .entry))) ⌝ }
 {
     if MAX_ROW < row.len() {
@@ -66,7 +63,7 @@ pub fn read_cut(plan: Plan, row: &[u8], cells: usize, starts: &[usize]) -> Asked
     if cells != plan.cells {
         return unreadable();
     }
-    let count = tokens_in(plan, row, cells, starts);
+    let count = token_count(sn1, sn2, sn3, sn4);
     let swap = swap_of(cell_of(plan, row, cells, starts, SWAP));
     match swap {
         Swap::No => Asked {

@@ -15,8 +15,8 @@ unreadable-requires-2 c κs = search needs
 returns-2 : tie.Need-returns-2
 returns-2 c = search row-other
 
-tokens-in-requires : tie.Need-tokens-in-requires
-tokens-in-requires c κs = search needs
+token-count-requires : tie.Need-token-count-requires
+token-count-requires c κs = search needs
 
 cell-of-requires : tie.Need-cell-of-requires
 cell-of-requires c κs = search needs
@@ -53,7 +53,7 @@ read-cut-spec =
     returns
     unreadable-requires-2
     returns-2
-    tokens-in-requires
+    token-count-requires
     cell-of-requires
     swap-of-requires
     enum-told
