@@ -30,8 +30,8 @@ fn is_ample(
     if index.len() < INDEX_ROOM {
         return false;
     }
-    if longest::are_slight(count, shapes) {
-        if longest::slight_most(tail, tail_atoms) <= line.len() {
+    if longest::slight_most(tail, tail_atoms) <= line.len() {
+        if longest::are_slight(count, shapes) {
             return true;
         }
     }

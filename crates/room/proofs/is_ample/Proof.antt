@@ -10,11 +10,11 @@ use Rattle.room.proofs.is_ample.Tie as tie
 returns : tie.Need-returns
 returns c = λ h. absurd (true≢false (sym h))
 
-are-slight-requires : tie.Need-are-slight-requires
-are-slight-requires c κs = search needs
-
 slight-most-requires : tie.Need-slight-most-requires
 slight-most-requires c κs = search needs
+
+are-slight-requires : tie.Need-are-slight-requires
+are-slight-requires c κs = search needs
 
 returns-2 : tie.Need-returns-2
 returns-2 c = λ h. search slight-ample
@@ -26,4 +26,4 @@ returns-3 : tie.Need-returns-3
 returns-3 c = λ h. ample (c .line-most .ensures) (omega arith) (leb-true _ _ h)
 
 pub is-ample-spec : {M : Type 1} → statement M
-is-ample-spec = tie.close (tie.spec returns are-slight-requires slight-most-requires returns-2 line-most-requires returns-3)
+is-ample-spec = tie.close (tie.spec returns slight-most-requires are-slight-requires returns-2 line-most-requires returns-3)
