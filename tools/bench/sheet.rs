@@ -259,10 +259,7 @@ mod sheet {
     // ---------- the times ----------
 
     /// Rounds of all, in turn; the table has the median of each.
-    const ROUNDS: usize = 7;
-    /// Runs of the program for each of the original's: a round of both takes about as long, so that
-    /// what else the machine does falls on both alike. One run of the program is a tenth of a second.
-    const RUNS: usize = 10;
+    const ROUNDS: usize = 21;
 
     fn command(program: &str, arguments: &[&str], sheet: &str) -> Result<Command> {
         let mut command = Command::new(program);
@@ -350,12 +347,12 @@ mod sheet {
         let this = std::env::current_exe()?;
         let this = this.to_str().expect("the path is text");
         println!(
-            "a sheet of mixed rows: processor time, user and system, of the whole program, the median of {ROUNDS} rounds, in each \
-             {RUNS} runs of the program for one of the original; output thrown away"
+            "a sheet of mixed rows: processor time, user and system, of the whole program, the median of {ROUNDS} rounds; \
+             output thrown away"
         );
         println!(
-            "{:>9}{:>10}{:>10}{:>12}{:>12}{:>8}{:>14}{:>14}",
-            "rows", "accepted", "bytes", "original/s", "program/s", "ratio", "original us", "program us"
+            "{:>9}{:>10}{:>10}{:>12}{:>12}{:>8}{:>14}{:>14}{:>9}",
+            "rows", "accepted", "bytes", "original/s", "program/s", "ratio", "original us", "program us", "fastest"
         );
         let mut found = Vec::new();
         for sheet in sheets {
@@ -370,21 +367,22 @@ mod sheet {
             for (sheet, ((rows, _, _), _, original, ours)) in sheets.iter().zip(&mut found) {
                 let runs = most / *rows;
                 original.push(seconds_of(runs, || command(this, &["answer"], sheet))?);
-                ours.push(seconds_of(RUNS * runs, || command(program, &[], sheet))?);
+                ours.push(seconds_of(runs, || command(program, &[], sheet))?);
             }
         }
         let mut spread: f64 = 0.0;
         let mut only_original = Vec::new();
         for ((rows, accepted, added), bytes, original, ours) in found {
             only_original.push(format!("{added} of {rows}"));
+            let least = |times: &[f64]| times.iter().copied().fold(f64::INFINITY, f64::min);
             for times in [&original, &ours] {
-                let least = times.iter().copied().fold(f64::INFINITY, f64::min);
                 let most = times.iter().copied().fold(0.0, f64::max);
-                spread = spread.max(most / least);
+                spread = spread.max(most / least(times));
             }
+            let fastest = least(&original) / least(&ours);
             let (original, ours) = (median(original), median(ours));
             println!(
-                "{rows:>9}{accepted:>10}{bytes:>10}{:>12.0}{:>12.0}{:>8.2}{:>14.2}{:>14.2}",
+                "{rows:>9}{accepted:>10}{bytes:>10}{:>12.0}{:>12.0}{:>8.2}{:>14.2}{:>14.2}{fastest:>9.2}",
                 rows as f64 / original,
                 rows as f64 / ours,
                 original / ours,
@@ -394,7 +392,7 @@ mod sheet {
         }
         println!(
             "bytes: of the output. /s: rows a second; us: microseconds a row; ratio: the original's time by that of the \
-             program. Every row that the program accepts is the original's; the original also draws rows that document 01 \
+             program; fastest: the same of the fastest round of each, in which the machine did least else. Every row that the program accepts is the original's; the original also draws rows that document 01 \
              refuses: {}. The program's slices (65,536 bytes, 4,096 numbers) are not cleared between rows.",
             only_original.join(", ")
         );
