@@ -141,21 +141,21 @@ module _ (ρ : ℕ → Role) (ds : List Chain) (count : ℕ) (ns l : List ℕ) (
 
 -- ---- what the functions answer
 
--- past the chains that count
-pub past-covered : (count i : ℕ) (ns : List ℕ) → count ≤ i → ChainCovered count ns i 0
-past-covered count i ns g = record { few = omega arith; covers = λ ρ ds l h. go ρ ds l h (nonempty (suc i) ds) refl }
-  where
-    go : (ρ : ℕ → Role) (ds : List Chain) (l : List ℕ) → Stood ρ ds (chainsKept count ns l) → (o : Option Chain) → nonempty (suc i) ds ≡ o → chainMostOf (ρ (suc i)) o ≤ 0
-    go ρ ds l h none e = omega arith
-    go ρ ds l h (some d) e = absurd (omega (arith, g, told ρ ds count ns l h i d e .counted))
-
--- one that counts
-pub there-covered : (count i r : ℕ) (ns : List ℕ) (x : Shape) → x ≡ getD (shapesIn ns) i noShape → r ≡ shapeMost x → r ≤ 30000000 → ChainCovered count ns i r
-there-covered count i r ns x e f g = record { few = g; covers = λ ρ ds l h. go ρ ds l h (nonempty (suc i) ds) refl }
+-- a number no less than what the shape at a place adds, if it counts
+shape-covered : (count i r : ℕ) (ns : List ℕ) → r ≤ 30000000 → (i < count → shapeMost (getD (shapesIn ns) i noShape) ≤ r) → ChainCovered count ns i r
+shape-covered count i r ns f g = record { few = f; covers = λ ρ ds l h. go ρ ds l h (nonempty (suc i) ds) refl }
   where
     go : (ρ : ℕ → Role) (ds : List Chain) (l : List ℕ) → Stood ρ ds (chainsKept count ns l) → (o : Option Chain) → nonempty (suc i) ds ≡ o → chainMostOf (ρ (suc i)) o ≤ r
     go ρ ds l h none q = omega arith
-    go ρ ds l h (some d) q = rw (f, e) (told ρ ds count ns l h i d q .covered)
+    go ρ ds l h (some d) q = let z = told ρ ds count ns l h i d q in omega (arith, z .covered, g (z .counted))
+
+-- past the chains that count
+pub past-covered : (count i : ℕ) (ns : List ℕ) → count ≤ i → ChainCovered count ns i 0
+past-covered count i ns g = shape-covered count i 0 ns (omega arith) (λ h. absurd (omega (arith, g, h)))
+
+-- one that counts
+pub there-covered : (count i r : ℕ) (ns : List ℕ) (x : Shape) → x ≡ getD (shapesIn ns) i noShape → r ≡ shapeMost x → r ≤ 30000000 → ChainCovered count ns i r
+there-covered count i r ns x e f g = shape-covered count i r ns g (λ h. rw (f, e) (omega arith))
 
 -- THE LINE
 pub line-covered : (t : List ℕ) (k count : ℕ) (ns : List ℕ) (a b c d : ℕ) → ChainCovered count ns 0 a → ChainCovered count ns 1 b → ChainCovered count ns 2 c → ChainCovered count ns 3 d
@@ -207,13 +207,7 @@ unfolding shapeMost
 slight-shape x h = slight-numbers (x .carbon) (x .unlocated) (min (x .«float_count») 18) (h .carbons) (h .bonds) (omega arith)
 
 slight-chain : (count i : ℕ) (ns : List ℕ) → SlightAt 30 count ns i → ChainCovered count ns i 12672
-slight-chain count i ns g = record { few = omega arith; covers = λ ρ ds l h. go ρ ds l h (nonempty (suc i) ds) refl }
-  where
-    go : (ρ : ℕ → Role) (ds : List Chain) (l : List ℕ) → Stood ρ ds (chainsKept count ns l) → (o : Option Chain) → nonempty (suc i) ds ≡ o → chainMostOf (ρ (suc i)) o ≤ 12672
-    go ρ ds l h none q = omega arith
-    go ρ ds l h (some d) q =
-        let z = told ρ ds count ns l h i d q in
-        omega (arith, z .covered, slight-shape (getD (shapesIn ns) i noShape) (g (z .counted)))
+slight-chain count i ns g = shape-covered count i 12672 ns (omega arith) (λ h. slight-shape (getD (shapesIn ns) i noShape) (g h))
 
 -- a line of four of them
 pub slight-covered : (t : List ℕ) (k : ℕ) → SlightCovered 30 t k (120 + length t + k + 50688)
