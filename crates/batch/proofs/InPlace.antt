@@ -10,7 +10,7 @@ use lib.Seq.{length-take-le, sets, length-sets, sets-eq, drop-drop, drop-append-
 use borrow.Rule.Slice.PartMut.{midOf, putMid, mid-len, put-same}
 use Rattle.emit.specs.Text.{Written, digits, decimal}
 use Rattle.emit.proofs.Laws.{written-append}
-use Rattle.copying.proofs.Laws.{set-before}
+use Rattle.emit.proofs.Over.{set-before}
 use Rattle.rows.specs.Text.{ended, Carbons, headText, rowText}
 use Rattle.rows.specs.Chains.{carbonsOf, restText}
 use Rattle.rows.proofs.Laws.{row-parts}

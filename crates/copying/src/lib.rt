@@ -33,7 +33,42 @@ fn copy_four(out: &mut [u16], at: usize, numbers: &[u16], i: usize) -> usize
     at + 4
 }
 
-// Indices for which there is room, four at a time, and the last four once more or for the first time: how many are left over makes no branch.
+// Eight indices from a place on.
+fn copy_eight(out: &mut [u16], at: usize, numbers: &[u16], i: usize) -> usize
+    requires { ⌜ (i + 8 ≤ length (now numbers)) × (at + 8 ≤ length (now out)) ⌝ }
+    ensures { λ r. ⌜ Written (now (out .entry)) at (take 8 (drop i (now (numbers .entry)))) (now (out .exit)) r ⌝ }
+{
+    let p = copy_four(out, at, numbers, i);
+    copy_four(out, p, numbers, i + 4)
+}
+
+// Sixteen.
+fn copy_sixteen(out: &mut [u16], at: usize, numbers: &[u16], i: usize) -> usize
+    requires { ⌜ (i + 16 ≤ length (now numbers)) × (at + 16 ≤ length (now out)) ⌝ }
+    ensures { λ r. ⌜ Written (now (out .entry)) at (take 16 (drop i (now (numbers .entry)))) (now (out .exit)) r ⌝ }
+{
+    let p = copy_eight(out, at, numbers, i);
+    copy_eight(out, p, numbers, i + 8)
+}
+
+// Four indices or more for which there is room, four at a time, and the last four once more or for the first time: how many are left over makes
+// no branch.
+fn copy_fours(out: &mut [u16], at: usize, numbers: &[u16]) -> usize
+    requires { ⌜ (4 ≤ length (now numbers)) × (at + length (now numbers) ≤ length (now out)) ⌝ }
+    ensures { λ r. ⌜ Written (now (out .entry)) at (now (numbers .entry)) (now (out .exit)) r ⌝ }
+{
+    let last = numbers.len() - 4;
+    let mut i = 0;
+    let mut p = at;
+    while i < last {
+        p = copy_four(out, p, numbers, i);
+        i += 4;
+    }
+    copy_four(out, at + last, numbers, last)
+}
+
+// Indices for which there is room. Most chains have from 8 to 32: then the first of them are copied and the last, some of them twice, and there
+// is no loop, whose end is hard to guess.
 fn copy_all(out: &mut [u16], at: usize, numbers: &[u16]) -> usize
     requires { ⌜ at + length (now numbers) ≤ length (now out) ⌝ }
     ensures { λ r. ⌜ Written (now (out .entry)) at (now (numbers .entry)) (now (out .exit)) r ⌝ }
@@ -42,14 +77,18 @@ fn copy_all(out: &mut [u16], at: usize, numbers: &[u16]) -> usize
     if n < 4 {
         return copy_each(out, at, numbers);
     }
-    let last = n - 4;
-    let mut i = 0;
-    let mut p = at;
-    while i < last {
-        p = copy_four(out, p, numbers, i);
-        i += 4;
+    if n < 8 {
+        return copy_fours(out, at, numbers);
     }
-    copy_four(out, at + last, numbers, last)
+    if n < 16 {
+        copy_eight(out, at, numbers, 0);
+        return copy_eight(out, at + (n - 8), numbers, n - 8);
+    }
+    if n < 33 {
+        copy_sixteen(out, at, numbers, 0);
+        return copy_sixteen(out, at + (n - 16), numbers, n - 16);
+    }
+    copy_fours(out, at, numbers)
 }
 
 // Indices at a place, as far as there is room.

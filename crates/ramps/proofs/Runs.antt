@@ -1,11 +1,13 @@
 -- Laws of numbers that follow one another, and how they are written. Assumes nothing.
 use Prim.Native.Nat.{ℕ, zero, suc, _+_, _-_, _^_, _≤_, _<_}
 use native.Mathlib.Omega.{arith}
-use mathlib.Core.Path.{_≡_, refl, ap}
+use mathlib.Core.Path.{_≡_, refl, sym, ap, _∙_}
 use mathlib.Core.List.{List, [], _∷_, _++_, map-append}
-use lib.ListN.{length, set}
+use lib.ListN.{length, set, take, drop}
+use lib.Seq.{take-all, take-at, drop-at}
 use Rattle.emit.specs.Text.{Written}
 use Rattle.emit.proofs.Laws.{written-nil, written-append, written-length}
+use Rattle.emit.proofs.Over.{written-over}
 use Rattle.ramps.specs.Index.{indexFrom, indices, ups}
 
 -- ---- numbers that follow one another
@@ -14,6 +16,19 @@ pub ups-more : (n m : ℕ) → ups n (suc m) ≡ ups n m ++ (n + m) ∷ []
 unfolding ups
 ups-more n zero = let z : n + 0 ≡ n = omega arith in rw z
 ups-more n (suc m) = let z : n + suc m ≡ suc n + m = omega arith in rw z (ap (λ (l : List ℕ). n ∷ l) (ups-more (suc n) m))
+
+ups-length : (n m : ℕ) → length (ups n m) ≡ m
+unfolding ups
+ups-length n zero = refl
+ups-length n (suc m) = ap suc (ups-length (suc n) m)
+
+ups-add : (n a b : ℕ) → ups n (a + b) ≡ ups n a ++ ups (n + a) b
+unfolding ups
+ups-add n zero b = let z : n + 0 ≡ n = omega arith in let y : 0 + b ≡ b = omega arith in rw (z, y)
+ups-add n (suc a) b =
+    let z : n + suc a ≡ suc n + a = omega arith in
+    let y : suc a + b ≡ suc (a + b) = omega arith in
+    rw (z, y) (ap (λ (l : List ℕ). n ∷ l) (ups-add (suc n) a b))
 
 -- their indices, where none is too large
 pub indices-small : (first n m : ℕ) → first + n + m ≤ 65535 → indices first (ups n m) ≡ ups (first + n) m
@@ -47,6 +62,41 @@ fill-all {a = a} low p end n h k m e w =
     let z : p - a ≡ n = omega arith in
     let y : p ≡ end = omega arith in
     rw (z, y) at w
+
+-- ---- in parts, of which the last may stand over the one before
+
+pub four-filled : (xs : List ℕ) (at low : ℕ) → at + 4 ≤ length xs → length xs < 2 ^ 64
+    → Written xs at (ups low 4) (set (set (set (set xs at low) (at + 1) (low + 1)) (at + 2) (low + 2)) (at + 3) (low + 3)) (at + 4)
+unfolding ups
+four-filled xs at low h g =
+    let p1 : at + 1 ≡ suc at = omega arith in
+    let p2 : at + 2 ≡ suc (suc at) = omega arith in
+    let p3 : at + 3 ≡ suc (suc (suc at)) = omega arith in
+    let n1 : low + 1 ≡ suc low = omega arith in
+    let n2 : low + 2 ≡ suc (suc low) = omega arith in
+    let n3 : low + 3 ≡ suc (suc (suc low)) = omega arith in
+    rw (p1, p2, p3, n1, n2, n3) (record { elements = refl; next = omega arith })
+
+pub part-end : {xs ys : List ℕ} {at r : ℕ} (low n : ℕ) → at + n < 2 ^ 64 → Written xs at (ups low n) ys r → r ≡ at + n
+part-end low n h w = omega (arith, w .next, ups-length low n)
+
+pub parts-filled : {xs ys zs : List ℕ} {at p r : ℕ} (low a b : ℕ) → length xs < 2 ^ 64 → Written xs at (ups low a) ys p → Written ys p (ups (low + a) b) zs r
+    → Written xs at (ups low (a + b)) zs r
+parts-filled low a b g v w = rw (ups-add low a b) (written-append g v w)
+
+-- the first k of n and the last k of them
+pub ends-filled : {xs ys zs : List ℕ} {at p r : ℕ} (k low n : ℕ) → k ≤ n → n ≤ k + k → length xs < 2 ^ 64 → at + n ≤ length xs → Written xs at (ups low k) ys p
+    → Written ys (at + (n - k)) (ups (low + (n - k)) k) zs r → Written xs at (ups low n) zs r
+ends-filled {ys = ys} {zs = zs} {p = p} {r = r} k low n h m g l v w =
+    let e : k + (n - k) ≡ n = omega arith in
+    let f : n - k + k ≡ n = omega arith in
+    let first : take k (ups low n) ≡ ups low k
+    = rw (← e) (ap (take k) (ups-add low k (n - k)) ∙ take-at (ups low k) (ups (low + k) (n - k)) k (ups-length low k)) in
+    let rest : drop (n - k) (ups low n) ≡ ups (low + (n - k)) k
+    = ap (λ (j : ℕ). drop (n - k) (ups low j)) (sym f) ∙ ap (drop (n - k)) (ups-add low (n - k) k) ∙ drop-at (ups low (n - k)) (ups (low + (n - k)) k) (n - k) (ups-length low (n - k)) in
+    let last : take k (drop (n - k) (ups low n)) ≡ ups (low + (n - k)) k
+    = ap (take k) rest ∙ take-all k (ups (low + (n - k)) k) (omega (arith, ups-length (low + (n - k)) k)) in
+    written-over {ys = ys} {zs = zs} {p = p} {r = r} k (ups low n) k (n - k) g (omega (arith, ups-length low n)) (omega (arith, ups-length low n)) (omega arith) refl (rw first v) (rw last w)
 
 -- ---- the indices of atoms that follow one another, one by one
 

@@ -31,8 +31,38 @@ pub fn to_index(first: u32, i: u16) -> u16
     65535
 }
 
-// Numbers that follow one another, where there is room for all of them.
-pub fn fill(index: &mut [u16], at: usize, low: u16, n: usize) -> usize
+// Four numbers that follow one another, where there is room for them.
+fn fill_four(index: &mut [u16], at: usize, low: u16) -> usize
+    requires { ⌜ (at + 4 ≤ length (now index)) × (low + 4 < 65536) ⌝ }
+    ensures { λ r. ⌜ Written (now (index .entry)) at (ups low 4) (now (index .exit)) r ⌝ }
+{
+    index[at] = low;
+    index[at + 1] = low + 1;
+    index[at + 2] = low + 2;
+    index[at + 3] = low + 3;
+    at + 4
+}
+
+// Eight.
+fn fill_eight(index: &mut [u16], at: usize, low: u16) -> usize
+    requires { ⌜ (at + 8 ≤ length (now index)) × (low + 8 < 65536) ⌝ }
+    ensures { λ r. ⌜ Written (now (index .entry)) at (ups low 8) (now (index .exit)) r ⌝ }
+{
+    let p = fill_four(index, at, low);
+    fill_four(index, p, low + 4)
+}
+
+// Sixteen.
+fn fill_sixteen(index: &mut [u16], at: usize, low: u16) -> usize
+    requires { ⌜ (at + 16 ≤ length (now index)) × (low + 16 < 65536) ⌝ }
+    ensures { λ r. ⌜ Written (now (index .entry)) at (ups low 16) (now (index .exit)) r ⌝ }
+{
+    let p = fill_eight(index, at, low);
+    fill_eight(index, p, low + 8)
+}
+
+// Numbers that follow one another, one by one.
+fn fill_each(index: &mut [u16], at: usize, low: u16, n: usize) -> usize
     requires { ⌜ (at + n ≤ length (now index)) × (low + n < 65536) ⌝ }
     ensures { λ r. ⌜ Written (now (index .entry)) at (ups low n) (now (index .exit)) r ⌝ }
 {
@@ -45,6 +75,28 @@ pub fn fill(index: &mut [u16], at: usize, low: u16, n: usize) -> usize
         p += 1;
     }
     end
+}
+
+// Numbers that follow one another, where there is room for all of them. Most chains have from 8 to 32: then the first of them are written and the
+// last, some of them twice, and there is no loop, whose end is hard to guess.
+pub fn fill(index: &mut [u16], at: usize, low: u16, n: usize) -> usize
+    requires { ⌜ (at + n ≤ length (now index)) × (low + n < 65536) ⌝ }
+    ensures { λ r. ⌜ Written (now (index .entry)) at (ups low n) (now (index .exit)) r ⌝ }
+{
+    if n < 8 {
+        return fill_each(index, at, low, n);
+    }
+    if 32 < n {
+        return fill_each(index, at, low, n);
+    }
+    if n < 16 {
+        let rest = n - 8;
+        fill_eight(index, at, low);
+        return fill_eight(index, at + rest, low + rest as u16);
+    }
+    let rest = n - 16;
+    fill_sixteen(index, at, low);
+    fill_sixteen(index, at + rest, low + rest as u16)
 }
 
 // The indices of n atoms that follow one another, one by one, where some may fall past the end or be too large.

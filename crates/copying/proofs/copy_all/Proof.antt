@@ -1,82 +1,93 @@
 use borrow.Author.Needs.{needs}
-use Prim.Native.Nat.{_+_, _-_, _≤_}
+use Prim.Native.Nat.{_-_}
 use native.Mathlib.Omega.{arith}
-use mathlib.Core.Path.{_≡_, refl, _∙_}
-use lib.ListN.{length, take}
-use Rattle.emit.specs.Text.{Written}
-use Rattle.emit.proofs.Laws.{written-length, written-nil}
-use Rattle.copying.proofs.Laws.{four-more, four-next, all-copied}
+use mathlib.Core.Path.{refl}
+use lib.ListN.{length}
+use Rattle.emit.proofs.Over.{written-over}
 use Rattle.copying.proofs.copy_all.Statement.{statement}
 use Rattle.copying.proofs.copy_all.Tie as tie
 
-abbrev Inv-loop : tie.InvT-loop
-Inv-loop out₀ at numbers n last i₀ p₀ out i p = (i ≤ last + 3) × (p ≡ at + i) × (length out ≡ length out₀) × Written out₀ at (take i numbers) out p
-
-abbrev μ-loop : tie.MeasureT-loop
-μ-loop out₀ at numbers n last i₀ p₀ out i p = last + 3 - i
-
-copy-each-requires : tie.Need-copy-each-requires Inv-loop μ-loop
+copy-each-requires : tie.Need-copy-each-requires
 copy-each-requires c κs = search needs
 
-same-length : tie.Need-same-length Inv-loop μ-loop
-same-length c = search written-length
+same-length : tie.Need-same-length
+same-length c = search needs
 
-returns : tie.Need-returns Inv-loop μ-loop
+returns : tie.Need-returns
 returns c = search needs
 
-loop-holds : tie.Need-loop-holds Inv-loop μ-loop
-loop-holds c = (omega arith, omega arith, refl, written-nil _ _ (omega arith))
+copy-fours-requires : tie.Need-copy-fours-requires
+copy-fours-requires c κs = search needs
 
-copy-four-requires : tie.Need-copy-four-requires Inv-loop μ-loop
-copy-four-requires c κs = search needs
-
-add-i : tie.Need-add-i Inv-loop μ-loop
-add-i c = search needs
-
-loop-less : tie.Need-loop-less Inv-loop μ-loop
-loop-less c = search needs
-
-loop-again : tie.Need-loop-again Inv-loop μ-loop
-loop-again c =
-    let v = c .before .before .before .before .before .loop .inv in
-    let t = c .before .before .before .before .loop-test .taken in
-    let w = c .before .before .copy-four .ensures in
-    let ns = c .before .before .before .before .before .before .before .before .before .args .numbers .now in
-    let i = c .before .before .before .before .before .loop .i in
-    let next = four-next ns i (omega (arith, t)) (omega (arith, t, v .1)) w in
-    (omega (arith, t), omega (arith, next, v .1), written-length w ∙ v .2, four-more ns i (omega arith) (v .3) w)
-
-add-copy-four : tie.Need-add-copy-four Inv-loop μ-loop
-add-copy-four c = search needs
-
-copy-four-requires-2 : tie.Need-copy-four-requires-2 Inv-loop μ-loop
-copy-four-requires-2 c κs = search needs
-
-same-length-2 : tie.Need-same-length-2 Inv-loop μ-loop
+same-length-2 : tie.Need-same-length-2
 same-length-2 c = search needs
 
-returns-2 : tie.Need-returns-2 Inv-loop μ-loop
-returns-2 c =
-    let v = c .before .before .before .before .before .loop .inv in
-    let t = c .before .before .before .before .loop-test .left in
-    let ns = c .before .before .before .before .before .before .before .before .before .args .numbers .now in
-    all-copied ns (c .before .before .before .before .before .loop .i) (length ns - 4) (omega arith) (omega arith) (omega arith) (omega (arith, t)) refl (v .3) (c .before .before .copy-four2 .ensures)
+returns-2 : tie.Need-returns-2
+returns-2 c = search needs
+
+copy-eight-requires : tie.Need-copy-eight-requires
+copy-eight-requires c κs = search needs
+
+add-copy-eight : tie.Need-add-copy-eight
+add-copy-eight c = search needs
+
+copy-eight-requires-2 : tie.Need-copy-eight-requires-2
+copy-eight-requires-2 c κs = search needs
+
+same-length-3 : tie.Need-same-length-3
+same-length-3 c = search needs
+
+returns-3 : tie.Need-returns-3
+returns-3 c =
+    let ns = c .before .before .before .before .before .before .before .before .before .before .before .before .before .args .numbers .now in
+    written-over 8 ns 8 (length ns - 8) (omega arith) (omega arith) (omega arith) (omega arith) refl (c .before .before .before .before .before .before .copy-eight .ensures) (c .before .before .copy-eight2 .ensures)
+
+copy-sixteen-requires : tie.Need-copy-sixteen-requires
+copy-sixteen-requires c κs = search needs
+
+add-copy-sixteen : tie.Need-add-copy-sixteen
+add-copy-sixteen c = search needs
+
+copy-sixteen-requires-2 : tie.Need-copy-sixteen-requires-2
+copy-sixteen-requires-2 c κs = search needs
+
+same-length-4 : tie.Need-same-length-4
+same-length-4 c = search needs
+
+returns-4 : tie.Need-returns-4
+returns-4 c =
+    let ns = c .before .before .before .before .before .before .before .before .before .before .before .before .before .before .args .numbers .now in
+    written-over 16 ns 16 (length ns - 16) (omega arith) (omega arith) (omega arith) (omega arith) refl (c .before .before .before .before .before .before .copy-sixteen .ensures) (c .before .before .copy-sixteen2 .ensures)
+
+copy-fours-requires-2 : tie.Need-copy-fours-requires-2
+copy-fours-requires-2 c κs = search needs
+
+same-length-5 : tie.Need-same-length-5
+same-length-5 c = search needs
+
+returns-5 : tie.Need-returns-5
+returns-5 c = search needs
 
 pub copy-all-spec : {M : Type 1} → statement M
 copy-all-spec =
     tie.close
     (tie.spec
-    Inv-loop
-    μ-loop
     copy-each-requires
     same-length
     returns
-    loop-holds
-    copy-four-requires
-    add-i
-    loop-less
-    loop-again
-    add-copy-four
-    copy-four-requires-2
+    copy-fours-requires
     same-length-2
-    returns-2)
+    returns-2
+    copy-eight-requires
+    add-copy-eight
+    copy-eight-requires-2
+    same-length-3
+    returns-3
+    copy-sixteen-requires
+    add-copy-sixteen
+    copy-sixteen-requires-2
+    same-length-4
+    returns-4
+    copy-fours-requires-2
+    same-length-5
+    returns-5)

@@ -1,64 +1,92 @@
 use borrow.Author.Needs.{needs}
 use native.Mathlib.Omega.{arith}
-use Prim.Native.Nat.{_+_, _-_, _≤_, _<_}
-use mathlib.Core.Path.{_≡_, refl}
-use lib.ListN.{length}
-use Rattle.emit.specs.Text.{Written}
-use Rattle.emit.proofs.Laws.{written-length}
-use Rattle.ramps.specs.Index.{ups}
-use Rattle.ramps.proofs.Runs.{fill-none, fill-room, fill-more, fill-all}
+use Rattle.ramps.proofs.Runs.{ends-filled}
 use Rattle.ramps.proofs.fill.Statement.{statement}
 use Rattle.ramps.proofs.fill.Tie as tie
 
-abbrev Inv-loop : tie.InvT-loop
-Inv-loop index₀ at low n end p₀ i₀ index p i = (at ≤ p) × (p ≤ end) × (end ≡ at + n) × (end ≤ length index₀) × (low + n < 65536) × (i ≡ low + (p - at)) × Written index₀ at (ups low (p - at)) index p
+fill-each-requires : tie.Need-fill-each-requires
+fill-each-requires c κs = search needs
 
-abbrev μ-loop : tie.MeasureT-loop
-μ-loop index₀ at low n end p₀ i₀ index p i = end - p
+same-length : tie.Need-same-length
+same-length c = search needs
 
-add-end : tie.Need-add-end Inv-loop μ-loop
-add-end c = search needs
+returns : tie.Need-returns
+returns c = search needs
 
-loop-holds : tie.Need-loop-holds Inv-loop μ-loop
-loop-holds c = (omega arith, omega arith, refl, omega arith, omega arith, omega arith, search (fill-none, arith))
+fill-each-requires-2 : tie.Need-fill-each-requires-2
+fill-each-requires-2 c κs = search needs
 
-mul-index : tie.Need-mul-index Inv-loop μ-loop
-mul-index c = search needs
+same-length-2 : tie.Need-same-length-2
+same-length-2 c = search needs
 
-slice-write-index : tie.Need-slice-write-index Inv-loop μ-loop
-slice-write-index c = search fill-room
+returns-2 : tie.Need-returns-2
+returns-2 c = search needs
 
-add-i : tie.Need-add-i Inv-loop μ-loop
-add-i c = search needs
+fill-eight-requires : tie.Need-fill-eight-requires
+fill-eight-requires c κs = search needs
 
-add-p : tie.Need-add-p Inv-loop μ-loop
-add-p c = search needs
+add-fill-eight : tie.Need-add-fill-eight
+add-fill-eight c = search needs
 
-loop-less : tie.Need-loop-less Inv-loop μ-loop
-loop-less c = search needs
+cast-fill-eight : tie.Need-cast-fill-eight
+cast-fill-eight c = search needs
 
-loop-again : tie.Need-loop-again Inv-loop μ-loop
-loop-again c = (omega arith, omega arith, search needs, omega arith, omega arith, omega arith, search (fill-more, arith))
+add-fill-eight-2 : tie.Need-add-fill-eight-2
+add-fill-eight-2 c = search needs
 
-same-length : tie.Need-same-length Inv-loop μ-loop
-same-length c = search written-length
+fill-eight-requires-2 : tie.Need-fill-eight-requires-2
+fill-eight-requires-2 c κs = search needs
 
-returns : tie.Need-returns Inv-loop μ-loop
-returns c = search fill-all
+same-length-3 : tie.Need-same-length-3
+same-length-3 c = search needs
+
+returns-3 : tie.Need-returns-3
+returns-3 c =
+    ends-filled 8 (c .before .before .before .before .before .before .before .before .before .before .before .before .args .low) (c .before .before .before .before .before .before .before .before .before .before .before .before .args .n) (omega arith) (omega arith) (omega arith) (omega arith) (c .before .before .before .before .before .before .fill-eight .ensures) (c .before .before .fill-eight2 .ensures)
+
+fill-sixteen-requires : tie.Need-fill-sixteen-requires
+fill-sixteen-requires c κs = search needs
+
+add-fill-sixteen : tie.Need-add-fill-sixteen
+add-fill-sixteen c = search needs
+
+cast-fill-sixteen : tie.Need-cast-fill-sixteen
+cast-fill-sixteen c = search needs
+
+add-fill-sixteen-2 : tie.Need-add-fill-sixteen-2
+add-fill-sixteen-2 c = search needs
+
+fill-sixteen-requires-2 : tie.Need-fill-sixteen-requires-2
+fill-sixteen-requires-2 c κs = search needs
+
+same-length-4 : tie.Need-same-length-4
+same-length-4 c = search needs
+
+returns-4 : tie.Need-returns-4
+returns-4 c =
+    ends-filled 16 (c .before .before .before .before .before .before .before .before .before .before .before .before .args .low) (c .before .before .before .before .before .before .before .before .before .before .before .before .args .n) (omega arith) (omega arith) (omega arith) (omega arith) (c .before .before .before .before .before .before .fill-sixteen .ensures) (c .before .before .fill-sixteen2 .ensures)
 
 pub fill-spec : {M : Type 1} → statement M
 fill-spec =
     tie.close
     (tie.spec
-    Inv-loop
-    μ-loop
-    add-end
-    loop-holds
-    mul-index
-    slice-write-index
-    add-i
-    add-p
-    loop-less
-    loop-again
+    fill-each-requires
     same-length
-    returns)
+    returns
+    fill-each-requires-2
+    same-length-2
+    returns-2
+    fill-eight-requires
+    add-fill-eight
+    cast-fill-eight
+    add-fill-eight-2
+    fill-eight-requires-2
+    same-length-3
+    returns-3
+    fill-sixteen-requires
+    add-fill-sixteen
+    cast-fill-sixteen
+    add-fill-sixteen-2
+    fill-sixteen-requires-2
+    same-length-4
+    returns-4)
