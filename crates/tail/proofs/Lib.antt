@@ -1,4 +1,5 @@
 pub mod Scan
+pub mod Plain
 pub mod Alone
 pub mod Exactly
 pub mod Atoms

@@ -64,7 +64,10 @@ a-letter x m =
       large = leb-true 4 x (each-of (λ (y : ℕ). leb 4 y) x organic refl m);
     }
 
-letter-place : (x : ℕ) → 4 ≤ x → placeOf x ≡ letter x
+pub letter-large : (x : ℕ) → memb x organic ≡ true → 4 ≤ x
+letter-large x m = a-letter x m .large
+
+pub letter-place : (x : ℕ) → 4 ≤ x → placeOf x ≡ letter x
 letter-place zero h = absurd (omega arith)
 letter-place (suc zero) h = absurd (omega arith)
 letter-place (suc (suc zero)) h = absurd (omega arith)
@@ -72,7 +75,7 @@ letter-place (suc (suc (suc zero))) h = absurd (omega arith)
 letter-place (suc (suc (suc (suc n)))) h = refl
 
 -- wherever the reader stands, a letter begins an atom
-letter-step : (p x : ℕ) (stk : List ℕ) (q : Rings) → memb x organic ≡ true → step (stands (placeOf p) stk q) x ≡ stands (letter x) stk (withAtom q)
+pub letter-step : (p x : ℕ) (stk : List ℕ) (q : Rings) → memb x organic ≡ true → step (stands (placeOf p) stk q) x ≡ stands (letter x) stk (withAtom q)
 unfolding step bondOrAtom atomBegins goesOn digitOr
 letter-step zero x stk q m = let l : Letter x = a-letter x m in rw (l .mark, m)
 letter-step (suc zero) x stk q m = rw m
@@ -200,7 +203,7 @@ early-closes zero stk q h = refl
 early-closes (suc zero) stk q h = refl
 early-closes (suc (suc n)) stk q h = absurd (omega arith)
 
-opens-step : (p : ℕ) (stk : List ℕ) (q : Rings) → 1 < p → step (stands (placeOf p) stk q) 40 ≡ branchOpens stk q
+pub opens-step : (p : ℕ) (stk : List ℕ) (q : Rings) → 1 < p → step (stands (placeOf p) stk q) 40 ≡ branchOpens stk q
 unfolding step goesOn digitOr within pairs
 opens-step zero stk q h = absurd (omega arith)
 opens-step (suc zero) stk q h = absurd (omega arith)
@@ -208,7 +211,7 @@ opens-step (suc (suc zero)) stk q h = refl
 opens-step (suc (suc (suc zero))) stk q h = refl
 opens-step (suc (suc (suc (suc n)))) stk q h = refl
 
-closes-step : (p : ℕ) (stk : List ℕ) (q : Rings) → 1 < p → step (stands (placeOf p) stk q) 41 ≡ branchCloses stk q
+pub closes-step : (p : ℕ) (stk : List ℕ) (q : Rings) → 1 < p → step (stands (placeOf p) stk q) 41 ≡ branchCloses stk q
 unfolding step goesOn digitOr within pairs
 closes-step zero stk q h = absurd (omega arith)
 closes-step (suc zero) stk q h = absurd (omega arith)
@@ -419,7 +422,7 @@ module _ (s : List ℕ) (r : Reached) (v : Item s r) where
 
 -- ---- an end
 
-ends-late : (p : ℕ) (stk : List ℕ) (q : Rings) → 1 < p → done (stands (placeOf p) stk q) ≡ finished stk q
+pub ends-late : (p : ℕ) (stk : List ℕ) (q : Rings) → 1 < p → done (stands (placeOf p) stk q) ≡ finished stk q
 unfolding done
 ends-late zero stk q h = absurd (omega arith)
 ends-late (suc zero) stk q h = absurd (omega arith)

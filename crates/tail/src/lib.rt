@@ -11,10 +11,11 @@ use tailatom::after_bond;
 ghost use mathlib.Core.Path.{_≡_};
 ghost use mathlib.Core.Bool.{true};
 ghost use mathlib.Core.List.{List, _∷_};
-ghost use Prim.Native.Nat.{ℕ};
+ghost use Prim.Native.Nat.{ℕ, _≤_, _<_};
 ghost use Rattle.reading.specs.Lexer.{memb, organic, pairs};
 ghost use Rattle.ringdigits.specs.Grammar.{tailAtoms};
 ghost use Rattle.ringdigits.specs.Digits.{ringsOf};
+ghost use lib.ListN.{length};
 ghost use Rattle.tail.specs.Contract.{takesDigit, stateOf, Room, Fits, At, Item, Ringed, Other, Refused, PastMark, GoesOn, RunRead};
 
 const MAX_TAIL: usize = 255;
@@ -289,6 +290,75 @@ fn read_run(
     r
 }
 
+// The atoms of a tail without digits whose atoms are capital letters and brackets, as most are: where no digit is asked for its atom, a branch
+// is no more than one step down and up again, and no run of its own. 0 where it is no such tail; then it may still be a tail.
+fn plain_atoms(s: &[u8]) -> u16
+    requires { ⌜ (1 ≤ length (now s)) × (length (now s) ≤ 255) ⌝ }
+    ensures { λ r. ⌜ (0 < r → r ≡ tailAtoms (now (s .entry))) ⌝ }
+{
+    let mut place = OPENING;
+    let mut depth = 0u32;
+    let mut atoms = 0u16;
+    let mut i = 0;
+    while i < s.len() {
+        let b = s[i];
+        if is_capital(b) {
+            place = letter_place(b);
+            atoms += 1;
+            i += 1;
+            continue;
+        }
+        if b == b'(' {
+            if place <= BONDED {
+                return 0;
+            }
+            if MAX_DEPTH <= depth {
+                return 0;
+            }
+            place = OPENING;
+            depth += 1;
+            i += 1;
+            continue;
+        }
+        if b == b')' {
+            if place <= BONDED {
+                return 0;
+            }
+            if depth == 0 {
+                return 0;
+            }
+            place = CLOSED;
+            depth -= 1;
+            i += 1;
+            continue;
+        }
+        if b == b'=' {
+            if place == BONDED {
+                return 0;
+            }
+            place = BONDED;
+            i += 1;
+            continue;
+        }
+        if b != b'[' {
+            return 0;
+        }
+        let Found::Next(next) = after_atom(s, i) else {
+            return 0;
+        };
+        place = WHOLE;
+        atoms += 1;
+        i = next;
+    }
+    if place <= BONDED {
+        return 0;
+    }
+    if depth != 0 {
+        return 0;
+    }
+    atoms
+}
+
 // The number of atoms of a tail; 0 where the bytes are none.
 pub fn tail_atoms(s: &[u8]) -> u16
     ensures { λ r. ⌜ r ≡ tailAtoms (now (s .entry)) ⌝ }
@@ -301,6 +371,10 @@ pub fn tail_atoms(s: &[u8]) -> u16
     }
     if is_one_letter(s) {
         return 1;
+    }
+    let plain = plain_atoms(s);
+    if plain != 0 {
+        return plain;
     }
     // made once and lent on: no digit is open, and none joined two atoms
     let mut opened = [0u8; 10];
