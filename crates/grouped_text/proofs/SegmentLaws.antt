@@ -4,7 +4,7 @@ use Prim.Native.Nat.{ℕ, suc, _+_, _-_, _*_, _^_, _≤_, _<_, min}
 use native.Mathlib.Omega.{arith}
 use mathlib.Core.Path.{_≡_, refl}
 use mathlib.Core.Bool.{Bool}
-use mathlib.Core.List.{List, _++_, append-nil}
+use mathlib.Core.List.{List, [], _++_, append-nil}
 use lib.ListN.{length, getD}
 use Rattle.emit.specs.Text.{Written}
 use Rattle.emit.proofs.Laws.{written-length}
@@ -18,6 +18,7 @@ use Rattle.carbons.proofs.TokenLaws.{busyList, grouped-tokens}
 use Rattle.branches.specs.Text.{carbonylText}
 use Rattle.branches.proofs.Laws.{carbonyl-length}
 use Rattle.backbone.specs.Text.{carbonText}
+use Rattle.runs.specs.Links.{linksText}
 use Rattle.runs.proofs.Laws.{carbon-length}
 use Rattle.fragment.specs.Segment.{segmentText, Segment}
 use Rattle.fragment.proofs.SegmentLaws.{no-tail, segment-drawn}
@@ -67,3 +68,18 @@ module _ {gs : List ℕ} (x : Shape) (part : List ℕ) (e : Grouped (drawnOf x p
   grouped-room b acyl h u v =
       let few : length (groupsIn (x .«group_count») gs) ≤ 18 = rw f (e .few) in
       omega (arith, e .first, e .some, u .next, v .next, carbon-length b, carbonyl-length acyl (x .first), written-length u, written-length v)
+
+-- ---- and where there are none
+
+module _ (x : Shape) (part : List ℕ) (e : Grouped (drawnOf x part)) where
+  pub plain-done : {xs ys zs ws : List ℕ} {at p q r : ℕ} (bs : List ℕ) → BondsBy (bondsDrawn (drawnOf x part)) (ringsDrawn (drawnOf x part)) (x .carbon) bs → length xs < 2 ^ 64
+      → x .«group_count» ≡ 0 → Written xs at (carbonText (getD bs (x .first - 1) 0)) ys p → Written ys p (carbonylText (x .acyl) (x .first)) zs q
+      → Written zs q (linksText bs (x .first + 1) (x .carbon + 1 - (x .first + 1))) ws r → (l : ℕ) → Segment (drawnOf x part) l xs at ws r
+  unfolding restText groupsIn
+  plain-done {zs = zs} {ws} {q = q} {r} bs b g z u v w =
+      let none : groupsIn (x .«group_count») (groupsPart part) ≡ [] = rw z in
+      grouped-segment (drawnOf x part) bs e b g u v (rw none w)
+
+  pub plain-room : {xs ys zs : List ℕ} {at p q : ℕ} (b : ℕ) (acyl : Bool) → at + (x .carbon * 2 + 260) ≤ length xs → Written xs at (carbonText b) ys p → Written ys p (carbonylText acyl (x .first)) zs q
+      → q + (x .carbon + 1 - (x .first + 1)) * 2 ≤ length zs
+  plain-room b acyl h u v = omega (arith, grouped-room x part e refl b acyl h u v)

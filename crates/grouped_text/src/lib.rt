@@ -8,6 +8,7 @@ ghost use Rattle.emit.specs.Text.{Written};
 ghost use Rattle.drawable.specs.Drawn.{groupsIn, drawnOf, bondsDrawn, ringsDrawn};
 ghost use Rattle.carbons.specs.Tokens.{Rising, Grouped};
 ghost use Rattle.carbons.specs.ByCarbon.{BondsBy};
+ghost use Rattle.runs.specs.Links.{linksText};
 ghost use Rattle.fragment.specs.Segment.{Segment};
 ghost use Rattle.grouped_text.specs.Text.{stopOf, nextText, restText};
 
@@ -33,6 +34,55 @@ fn put_nth(out: &mut [u8], at: usize, groups: &[u64], count: usize, i: usize) ->
         return branches::put_group(out, at, g.row);
     }
     at
+}
+
+// The carbon at which the double bond at a place starts; past the last of them, and where it would stand off the chain, the carbon after the last.
+fn next_double(doubles: &[u64], count: usize, i: usize, last: usize) -> usize
+    requires { ⌜ last ≤ 255 ⌝ }
+    ensures { λ r. ⌜ r ≤ last + 1 ⌝ }
+{
+    let n = drawable::bonds_len(doubles, count);
+    if i < n {
+        let b = drawable::nth_bond(doubles, count, i);
+        let c = b.pos as usize;
+        if c <= last {
+            return c;
+        }
+        return last + 1;
+    }
+    last + 1
+}
+
+// All carbons from C k to the last, in parts: those before a double bond, which have empty bonds before them, and the three at it. What is written
+// is the same wherever they are parted.
+fn put_doubles<'a>(
+    out: &mut [u8],
+    at: usize,
+    bonds: &'a [u8],
+    doubles: &'a [u64],
+    count: usize,
+    k: usize,
+    last: usize,
+) -> usize
+    requires { ⌜ (1 ≤ k) × (k ≤ last + 1) × (last ≤ 255) × (last < length (now bonds)) × (at + (last + 1 - k) * 2 ≤ length (now out)) ⌝ }
+    ensures { λ r. ⌜ Written (now (out .entry)) at (linksText (now (bonds .entry)) k (last + 1 - k)) (now (out .exit)) r ⌝ }
+{
+    let n = drawable::bonds_len(doubles, count);
+    let mut p = at;
+    let mut j = k;
+    let mut i = 0;
+    while i < n {
+        let c = next_double(doubles, count, i, last);
+        if j < c {
+            p = runs::put_span(out, p, bonds, j, c - 1);
+            j = c;
+        }
+        let r = runs::put_near(out, p, bonds, j, last);
+        p = r.at;
+        j = r.carbon;
+        i += 1;
+    }
+    runs::put_span(out, p, bonds, j, last)
 }
 
 // The carbons from C k on to the last, and the groups on them and on the carbon before. The last run is written by a turn of its own, and not
@@ -82,6 +132,17 @@ pub fn build_grouped<'a>(
     let last = x.carbon as usize;
     let p = backbone::put_carbon(out, at, bonds[k - 1]);
     let q = branches::put_carbonyl(out, p, x.acyl, x.first);
+    if x.group_count == 0 {
+        return put_doubles(
+            out,
+            q,
+            bonds,
+            drawable::bonds_part(part),
+            x.bond_count,
+            k + 1,
+            last,
+        );
+    }
     put_stretches(
         out,
         q,

@@ -22,7 +22,7 @@ use Rattle.runs.specs.Links.{linkText, linksText, Links, Run}
 
 -- ---- a bond and the carbon after it
 
-link-empty : linkText 0 ≡ 67 ∷ []
+pub link-empty : linkText 0 ≡ 67 ∷ []
 unfolding linkText bridgeText bridgePieces carbonText markOf markPieces show ascii
 link-empty = refl
 
@@ -56,6 +56,9 @@ link-room a h w = omega (arith, w .next, link-length a, written-length w)
 
 pub two-room : {xs ys : List ℕ} {at p : ℕ} (a b : ℕ) → at + 8 ≤ length xs → Written xs at (linkText a ++ linkText b) ys p → p + 4 ≤ length ys
 two-room a b h w = omega (arith, w .next, length-append (linkText a) (linkText b), link-length a, link-length b, written-length w)
+
+pub three-room : {xs ys : List ℕ} {at p : ℕ} (a b : ℕ) → at + 6 ≤ length xs → Written xs at (linkText a ++ linkText b) ys p → p + 2 ≤ length ys
+three-room a b h w = omega (arith, w .next, length-append (linkText a) (linkText b), link-length a, link-length b, written-length w)
 
 pub plain-stored : (xs : List ℕ) (at : ℕ) → length xs < 2 ^ 64 → at + 4 ≤ length xs
     → Written xs at (67 ∷ 67 ∷ 67 ∷ 67 ∷ []) (set (set (set (set xs at 67) (at + 1) 67) (at + 2) 67) (at + 3) 67) (at + 4)
@@ -107,6 +110,16 @@ module _ (ks : List ℕ) (k : ℕ) (h : 1 ≤ k) where
       → Written xs at ((linkText (getD ks (k - 1) 0) ++ linkText (getD ks (k - 1 + 1) 0)) ++ (linkText (getD ks (k - 1 + 2) 0) ++ linkText (getD ks (k - 1 + 3) 0))) ys p
       → Written xs at (linksText ks k 4) ys p
   four-linked v = rw links-four v
+
+  pub three-linked : {xs ys zs : List ℕ} {at p q : ℕ} → length xs < 2 ^ 64 → Written xs at (linkText (getD ks (k - 1) 0) ++ linkText (getD ks k 0)) ys p
+      → Written ys p (linkText (getD ks (k + 1) 0)) zs q → Written xs at (linksText ks k 3) zs q
+  unfolding linksText
+  three-linked g v w =
+      let a : suc k - 1 ≡ k = omega arith in
+      let b : suc (suc k) - 1 ≡ k + 1 = omega arith in
+      let e : linksText ks k 3 ≡ (linkText (getD ks (k - 1) 0) ++ linkText (getD ks k 0)) ++ linkText (getD ks (k + 1) 0)
+      = simp (a, b, append-assoc, append-nil) in
+      rw e (written-append g v w)
 
 -- ---- how far they are written
 
@@ -192,6 +205,15 @@ module _ {xs ys : List ℕ} {at p j : ℕ} (ks : List ℕ) (k last : ℕ) (v : L
       let z : j + (last + 1 - j) ≡ last + 1 = omega (arith, v .high) in
       let u : Links ks [] k last xs at zs q (last + 1) = rw z at (links-on ks [] k last v (last + 1 - j) g (omega (arith, v .high)) (λ i a b. free-none i) w) in
       u .text
+
+-- three carbons, and all that are left
+pub near-three : {xs ys : List ℕ} {at p : ℕ} (ks : List ℕ) (k last : ℕ) → k + 2 ≤ last → Written xs at (linksText ks k 3) ys p → Links ks [] k last xs at ys p (k + 3)
+near-three ks k last h w =
+    let z : k + 3 - k ≡ 3 = omega arith in
+    record { low = omega arith; high = omega arith; free = λ j a b. free-none j; text = rw z w }
+
+pub near-end : {xs ys : List ℕ} {at p : ℕ} (ks : List ℕ) (k last : ℕ) → k ≤ last + 1 → Written xs at (linksText ks k (last + 1 - k)) ys p → Links ks [] k last xs at ys p (last + 1)
+near-end ks k last h w = record { low = h; high = omega arith; free = λ j a b. free-none j; text = w }
 
 pub run-done : {xs ys zs ws : List ℕ} {at p q r c : ℕ} (ks us : List ℕ) (k last : ℕ) → getD us k 0 ≡ 0 → length xs < 2 ^ 64
     → Written xs at (carbonText (getD ks (k - 1) 0)) ys p → Links ks us (k + 1) last ys p zs q c → Written zs q (bridgeText (getD ks (c - 1) 0)) ws r → Run ks us k last xs at ws r c

@@ -1,9 +1,10 @@
 // Runs of carbons that carry nothing, written at a place of a lent slice: four carbons at a time, and without a look at the end of the slice
 // for each byte where there is room for all of them.
 ghost use mathlib.Core.Path.{_≡_};
+ghost use mathlib.Core.Bool.{true};
 ghost use mathlib.Core.List.{[], _∷_, _++_};
-ghost use Prim.Native.Nat.{_+_, _-_, _*_, _≤_, _<_, min};
-ghost use lib.ListN.{length, getD};
+ghost use Prim.Native.Nat.{ℕ, _+_, _-_, _*_, _≤_, _<_, min};
+ghost use lib.ListN.{length, getD, replicate};
 ghost use Rattle.emit.specs.Text.{Written};
 ghost use Rattle.runs.specs.Links.{linkText, linksText, Links, Run};
 
@@ -216,4 +217,152 @@ pub fn put_through<'a>(out: &mut [u8], at: usize, bonds: &'a [u8], k: usize, las
 {
     let r = link_fours(out, at, bonds, k, last);
     link_ones(out, r.at, bonds, r.carbon, last)
+}
+
+// Eight carbons between empty bonds.
+fn put_eight(out: &mut [u8], at: usize) -> usize
+    requires { ⌜ at + 8 ≤ length (now out) ⌝ }
+    ensures { λ r. ⌜ Written (now (out .entry)) at (replicate 8 67) (now (out .exit)) r ⌝ }
+{
+    let p = put_plain(out, at);
+    put_plain(out, p)
+}
+
+// Sixteen.
+fn put_sixteen(out: &mut [u8], at: usize) -> usize
+    requires { ⌜ at + 16 ≤ length (now out) ⌝ }
+    ensures { λ r. ⌜ Written (now (out .entry)) at (replicate 16 67) (now (out .exit)) r ⌝ }
+{
+    let p = put_eight(out, at);
+    put_eight(out, p)
+}
+
+// Carbons between empty bonds, one by one.
+fn put_each(out: &mut [u8], at: usize, n: usize) -> usize
+    requires { ⌜ at + n ≤ length (now out) ⌝ }
+    ensures { λ r. ⌜ Written (now (out .entry)) at (replicate n 67) (now (out .exit)) r ⌝ }
+{
+    let end = at + n;
+    let mut p = at;
+    while p < end {
+        out[p] = b'C';
+        p += 1;
+    }
+    p
+}
+
+// So many carbons between empty bonds. Where they are neither few nor many, the first of them are written and then the last, some of them
+// twice: then there is no loop, whose end is hard to guess.
+pub fn put_carbons(out: &mut [u8], at: usize, n: usize) -> usize
+    requires { ⌜ at + n ≤ length (now out) ⌝ }
+    ensures { λ r. ⌜ Written (now (out .entry)) at (replicate n 67) (now (out .exit)) r ⌝ }
+{
+    if n < 4 {
+        return put_each(out, at, n);
+    }
+    if 32 < n {
+        return put_each(out, at, n);
+    }
+    if n < 8 {
+        put_plain(out, at);
+        return put_plain(out, at + (n - 4));
+    }
+    if n < 16 {
+        put_eight(out, at);
+        return put_eight(out, at + (n - 8));
+    }
+    put_sixteen(out, at);
+    put_sixteen(out, at + (n - 16))
+}
+
+// Whether eight bonds from a place on are empty.
+fn eight_empty<'a>(bonds: &'a [u8], i: usize) -> bool
+    requires { ⌜ i + 8 ≤ length (now bonds) ⌝ }
+    ensures { λ r. ⌜ (r ≡ true → (j : ℕ) → j < 8 → getD (now (bonds .entry)) (i + j) 0 ≡ 0) ⌝ }
+{
+    if fours::word(bonds, i) != 0 {
+        return false;
+    }
+    fours::word(bonds, i + 4) == 0
+}
+
+// Whether sixteen are.
+fn sixteen_empty<'a>(bonds: &'a [u8], i: usize) -> bool
+    requires { ⌜ i + 16 ≤ length (now bonds) ⌝ }
+    ensures { λ r. ⌜ (r ≡ true → (j : ℕ) → j < 16 → getD (now (bonds .entry)) (i + j) 0 ≡ 0) ⌝ }
+{
+    if !eight_empty(bonds, i) {
+        return false;
+    }
+    eight_empty(bonds, i + 8)
+}
+
+// Whether so many bonds from a place on are empty; of few and of many it is not asked.
+fn are_empty<'a>(bonds: &'a [u8], i: usize, n: usize) -> bool
+    requires { ⌜ i + n ≤ length (now bonds) ⌝ }
+    ensures { λ r. ⌜ (r ≡ true → (j : ℕ) → j < n → getD (now (bonds .entry)) (i + j) 0 ≡ 0) ⌝ }
+{
+    if n < 4 {
+        return false;
+    }
+    if 32 < n {
+        return false;
+    }
+    if n < 8 {
+        if fours::word(bonds, i) != 0 {
+            return false;
+        }
+        return fours::word(bonds, i + (n - 4)) == 0;
+    }
+    if n < 16 {
+        if !eight_empty(bonds, i) {
+            return false;
+        }
+        return eight_empty(bonds, i + (n - 8));
+    }
+    if !sixteen_empty(bonds, i) {
+        return false;
+    }
+    sixteen_empty(bonds, i + (n - 16))
+}
+
+// The same carbons as `put_through`, quicker where the bonds before them are all empty.
+pub fn put_span<'a>(out: &mut [u8], at: usize, bonds: &'a [u8], k: usize, last: usize) -> usize
+    requires { ⌜ (1 ≤ k) × (k ≤ last + 1) × (last ≤ 255) × (last < length (now bonds)) × (at + (last + 1 - k) * 2 ≤ length (now out)) ⌝ }
+    ensures { λ r. ⌜ Written (now (out .entry)) at (linksText (now (bonds .entry)) k (last + 1 - k)) (now (out .exit)) r ⌝ }
+{
+    let n = last + 1 - k;
+    if are_empty(bonds, k - 1, n) {
+        return put_carbons(out, at, n);
+    }
+    put_through(out, at, bonds, k, last)
+}
+
+// Three carbons from C k on, each after the bond before it.
+fn put_three<'a>(out: &mut [u8], at: usize, bonds: &'a [u8], k: usize) -> usize
+    requires { ⌜ (at + 6 ≤ length (now out)) × (1 ≤ k) × (k + 1 < length (now bonds)) ⌝ }
+    ensures { λ r. ⌜ Written (now (out .entry)) at (linksText (now (bonds .entry)) k 3) (now (out .exit)) r ⌝ }
+{
+    let p = put_two(out, at, bonds[k - 1], bonds[k]);
+    put_link(out, p, bonds[k + 1])
+}
+
+// Three carbons from C k on, or those that are left up to the last: as many as have a mark or a double bond before them where a double bond
+// stands at C k.
+pub fn put_near<'a>(out: &mut [u8], at: usize, bonds: &'a [u8], k: usize, last: usize) -> Reached
+    requires { ⌜ (1 ≤ k) × (k ≤ last + 1) × (last ≤ 255) × (last < length (now bonds)) × (at + (last + 1 - k) * 2 ≤ length (now out)) ⌝ }
+    ensures { λ r. ⌜ Links (now (bonds .entry)) [] k last (now (out .entry)) at (now (out .exit)) (r .at) (r .carbon) ⌝ }
+{
+    if k + 2 <= last {
+        let p = put_three(out, at, bonds, k);
+        return Reached {
+            at: p,
+            carbon: k + 3,
+        };
+    }
+    let p = link_ones(out, at, bonds, k, last);
+    Reached {
+        at: p,
+        carbon: last + 1,
+    }
 }

@@ -1,5 +1,5 @@
 use native.Mathlib.Omega.{arith}
-use Rattle.grouped_text.proofs.SegmentLaws.{grouped-rising, grouped-room, grouped-done}
+use Rattle.grouped_text.proofs.SegmentLaws.{plain-room, plain-done, grouped-rising, grouped-room, grouped-done}
 use borrow.Author.Needs.{needs}
 use Rattle.grouped_text.proofs.build_grouped.Statement.{statement}
 use Rattle.grouped_text.proofs.build_grouped.Tie as tie
@@ -22,6 +22,26 @@ put-carbon-requires c κs = search needs
 put-carbonyl-requires : tie.Need-put-carbonyl-requires
 put-carbonyl-requires c κs = search needs
 
+bonds-part-requires : tie.Need-bonds-part-requires
+bonds-part-requires c κs = search needs
+
+add-put-doubles : tie.Need-add-put-doubles
+add-put-doubles c = search needs
+
+put-doubles-requires : tie.Need-put-doubles-requires
+put-doubles-requires c κs =
+    let second = c .before .before .before .before .before .before in
+    let first = second .before .before .before .before in
+    let start = first .before .before .before .before .before .before .before .before in
+    let room = plain-room _ _ (start .pre .0) _ _ (start .pre .1 .1) (first .put-carbon .ensures) (second .put-carbonyl .ensures) in
+    (omega arith, omega arith, omega arith, omega arith, room)
+
+same-length : tie.Need-same-length
+same-length c = search needs
+
+returns : tie.Need-returns
+returns c = search plain-done
+
 groups-part-requires : tie.Need-groups-part-requires
 groups-part-requires c κs = search needs
 
@@ -30,18 +50,18 @@ add-put-stretches c = search needs
 
 put-stretches-requires : tie.Need-put-stretches-requires
 put-stretches-requires c κs =
-    let second = c .before .before .before .before in
+    let second = c .before .before .before .before .before .before in
     let first = second .before .before .before .before in
     let start = first .before .before .before .before .before .before .before .before in
     let rising = grouped-rising _ _ (start .pre .0) (c .groups-part .ensures) in
     let room = grouped-room _ _ (start .pre .0) (c .groups-part .ensures) _ _ (start .pre .1 .1) (first .put-carbon .ensures) (second .put-carbonyl .ensures) in
     (rising, ((omega arith, omega arith, omega arith, omega arith), room))
 
-same-length : tie.Need-same-length
-same-length c = search needs
+same-length-2 : tie.Need-same-length-2
+same-length-2 c = search needs
 
-returns : tie.Need-returns
-returns c = search grouped-done
+returns-2 : tie.Need-returns-2
+returns-2 c = search grouped-done
 
 pub build-grouped-spec : {M : Type 1} → statement M
 build-grouped-spec =
@@ -53,8 +73,13 @@ build-grouped-spec =
     shared-slice-read-put-carbon
     put-carbon-requires
     put-carbonyl-requires
+    bonds-part-requires
+    add-put-doubles
+    put-doubles-requires
+    same-length
+    returns
     groups-part-requires
     add-put-stretches
     put-stretches-requires
-    same-length
-    returns)
+    same-length-2
+    returns-2)
