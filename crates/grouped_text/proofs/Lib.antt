@@ -1,3 +1,4 @@
 pub mod TextLaws
 pub mod TurnLaws
 pub mod SegmentLaws
+pub mod BareLaws

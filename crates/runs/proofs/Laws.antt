@@ -7,7 +7,7 @@ use native.Mathlib.Decide.{decLe}
 use native.Mathlib.Omega.{arith}
 use mathlib.Core.Path.{_≡_, refl}
 use mathlib.Core.List.{List, [], _∷_, _++_, append-nil, append-assoc}
-use lib.ListN.{length, getD, set, length-append}
+use lib.ListN.{length, getD, set, replicate, length-append, replicate-append-replicate}
 use lib.Seq.{set-set}
 use borrow.Author.Tests.{ne-eqb}
 use Rattle.emit.specs.Text.{Written}
@@ -201,3 +201,26 @@ run-done {c = c} ks us k last e g u v w =
     go : (j : ℕ) → k ≤ j → j < c → Dec (j ≤ k) → getD us j 0 ≡ 0
     go j a b (yes l) = let z : j ≡ k = omega arith in rw z e
     go j a b (no l) = v .free j (omega arith) b
+
+-- ---- carbons between empty bonds, one by one
+
+module _ (xs : List ℕ) (at : ℕ) where
+  pub carbons-none : at < 2 ^ 64 → Written xs at (replicate (at - at) 67) xs at
+  carbons-none h =
+      let z : at - at ≡ 0 = omega arith in
+      rw z (written-nil xs at h)
+
+  module _ {ys : List ℕ} (p end : ℕ) (h : at ≤ p) (w : Written xs at (replicate (p - at) 67) ys p) where
+    pub carbons-room : p < end → end ≤ length xs → p < length ys
+    carbons-room k m = omega (arith, written-length w)
+
+    pub carbons-more : p < end → end ≤ length xs → length xs < 2 ^ 64 → Written xs at (replicate (p + 1 - at) 67) (set ys p 67) (p + 1)
+    carbons-more k m g =
+        let z : p + 1 - at ≡ p - at + 1 = omega arith in
+        let u : Written ys p (67 ∷ []) (set ys p 67) (p + 1) = record { elements = refl; next = omega arith } in
+        rw (z, ← replicate-append-replicate {A = ℕ} (p - at) 1 67) (written-append g w u)
+
+    pub carbons-all : (n : ℕ) → end ≤ p → p ≤ end → end ≡ at + n → Written xs at (replicate n 67) ys p
+    carbons-all n k m e =
+        let z : p - at ≡ n = omega arith in
+        rw z at w

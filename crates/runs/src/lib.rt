@@ -3,7 +3,7 @@
 ghost use mathlib.Core.Path.{_≡_};
 ghost use mathlib.Core.List.{[], _∷_, _++_};
 ghost use Prim.Native.Nat.{_+_, _-_, _*_, _≤_, _<_, min};
-ghost use lib.ListN.{length, getD};
+ghost use lib.ListN.{length, getD, replicate};
 ghost use Rattle.emit.specs.Text.{Written};
 ghost use Rattle.runs.specs.Links.{linkText, linksText, Links, Run};
 
@@ -216,4 +216,18 @@ pub fn put_through<'a>(out: &mut [u8], at: usize, bonds: &'a [u8], k: usize, las
 {
     let r = link_fours(out, at, bonds, k, last);
     link_ones(out, r.at, bonds, r.carbon, last)
+}
+
+// So many carbons between empty bonds, where there is room for them.
+pub fn put_carbons(out: &mut [u8], at: usize, n: usize) -> usize
+    requires { ⌜ at + n ≤ length (now out) ⌝ }
+    ensures { λ r. ⌜ Written (now (out .entry)) at (replicate n 67) (now (out .exit)) r ⌝ }
+{
+    let end = at + n;
+    let mut p = at;
+    while p < end {
+        out[p] = b'C';
+        p += 1;
+    }
+    p
 }
