@@ -16,7 +16,7 @@ unfolding bondsIn
 none-bonds [] = refl
 none-bonds (n ∷ l) = refl
 
-none-groups : (l : List ℕ) → groupsIn 0 l ≡ []
+pub none-groups : (l : List ℕ) → groupsIn 0 l ≡ []
 unfolding groupsIn
 none-groups [] = refl
 none-groups (n ∷ l) = refl

@@ -101,6 +101,6 @@ pub fn build_bare(out: &mut [u8], at: usize, x: Shape, part: &[u64]) -> usize
     ensures { λ r. ⌜ ((l : ℕ) → Segment (drawnOf x (now (part .entry))) l (now (out .entry)) at (now (out .exit)) r) ⌝ }
 {
     let p = emit::put_byte(out, at, b'C');
-    let q = branches::put_carbonyl(out, p, x.acyl, x.first);
-    runs::put_carbons(out, q, (x.carbon - x.first) as usize)
+    let from = branches::put_carbonyl(out, p, x.acyl, x.first);
+    runs::put_carbons(out, from, (x.carbon - x.first) as usize)
 }
