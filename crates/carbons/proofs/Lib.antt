@@ -5,3 +5,4 @@ pub mod Placing
 pub mod Loads
 pub mod TokenLaws
 pub mod Bridges
+pub mod Bare

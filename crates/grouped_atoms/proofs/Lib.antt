@@ -1,3 +1,4 @@
 pub mod Groups
 pub mod Follows
 pub mod Grouped
+pub mod BareLaws

@@ -2,6 +2,7 @@
 // has no ring: they follow one another up to the next group.
 use atoms::ChainAtoms;
 use drawable::Shape;
+ghost use mathlib.Core.Path.{_≡_};
 ghost use mathlib.Core.List.{[], _∷_};
 ghost use Prim.Native.Nat.{_+_, _≤_, _<_};
 ghost use lib.ListN.{length};
@@ -91,6 +92,34 @@ pub fn number_grouped<'a>(
     ChainAtoms {
         at: end,
         count: x.carbon - x.first + 1,
+        flexible: next,
+        floats: next,
+        end: next,
+    }
+}
+
+// The indices of the drawn carbons of such a chain that carries nothing.
+pub fn number_bare(
+    index: &mut [u16],
+    at: usize,
+    first: u32,
+    x: Shape,
+    part: &[u64],
+) -> ChainAtoms
+    requires { ⌜ Grouped (drawnOf x (now part)) ⌝ }
+    requires { ⌜ (x .«bond_count» ≡ 0) × (x .«group_count» ≡ 0) ⌝ }
+    requires { ⌜ (at + x .carbon ≤ length (now index)) × (first < 40000) ⌝ }
+    ensures { λ r. ⌜ AtomsOf first (drawnOf x (now (part .entry))) (now (index .entry)) at (now (index .exit)) r ⌝ }
+{
+    let lead = loads::carbonyl_atoms(x.acyl, x.first);
+    let low = first as u16;
+    let p = put_one(index, at, low);
+    let n = x.carbon - x.first;
+    let end = ramps::fill(index, p, low + 1 + lead, n as usize);
+    let next = 1 + lead + n;
+    ChainAtoms {
+        at: end,
+        count: n + 1,
         flexible: next,
         floats: next,
         end: next,

@@ -44,7 +44,7 @@ module _ (x : Drawn) (bs : List ℕ) (e : Grouped x) (b : BondsBy (bondsDrawn x)
         carbons-grouped (x .acyl) bs (groupsDrawn x) l (x .carbon) last-bond (x .first) (e .first) (e .some) (e .groups),
       )
 
-  grouped-segment : {xs ys zs ws : List ℕ} {at p q r : ℕ} → length xs < 2 ^ 64 → Written xs at (carbonText (getD bs (x .first - 1) 0)) ys p → Written ys p (carbonylText (x .acyl) (x .first)) zs q
+  pub grouped-segment : {xs ys zs ws : List ℕ} {at p q r : ℕ} → length xs < 2 ^ 64 → Written xs at (carbonText (getD bs (x .first - 1) 0)) ys p → Written ys p (carbonylText (x .acyl) (x .first)) zs q
       → Written zs q (restText bs (x .first + 1) (x .carbon) (groupsDrawn x)) ws r → (l : ℕ) → Segment x l xs at ws r
   grouped-segment g u v w l =
       segment-drawn x (tokens (x .first) (x .carbon) bs (busyList x)) l (grouped-tokens e b) refl

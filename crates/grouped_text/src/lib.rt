@@ -153,3 +153,15 @@ pub fn build_grouped<'a>(
         last,
     )
 }
+
+// The text of such a chain that carries nothing, where there is room for it: carbons between empty bonds, and the O of an acyl C1.
+pub fn build_bare(out: &mut [u8], at: usize, x: Shape, part: &[u64]) -> usize
+    requires { ⌜ Grouped (drawnOf x (now part)) ⌝ }
+    requires { ⌜ (x .«bond_count» ≡ 0) × (x .«group_count» ≡ 0) ⌝ }
+    requires { ⌜ at + (x .carbon * 2 + 260) ≤ length (now out) ⌝ }
+    ensures { λ r. ⌜ ((l : ℕ) → Segment (drawnOf x (now (part .entry))) l (now (out .entry)) at (now (out .exit)) r) ⌝ }
+{
+    let p = emit::put_byte(out, at, b'C');
+    let from = branches::put_carbonyl(out, p, x.acyl, x.first);
+    runs::put_carbons(out, from, (x.carbon - x.first) as usize)
+}

@@ -7,12 +7,13 @@ use native.Mathlib.Omega.{arith}
 use mathlib.Core.Path.{_≡_, refl, sym, ap, _∙_}
 use mathlib.Core.Bool.{Bool, true, false, not}
 use mathlib.Core.List.{List, [], _∷_}
-use lib.ListN.{length, getD, set, replicate, length-replicate, replicate-append-replicate}
-use lib.Seq.{sets, set-set, set-comm}
+use lib.ListN.{length, take, drop, getD, set, replicate, length-replicate, replicate-append-replicate}
+use lib.Seq.{take-all, take-at, drop-at}
 use lib.Dec.{eqb}
 use borrow.Author.Tests.{eqb-true, not-false}
-use Rattle.emit.specs.Text.{Written, after}
+use Rattle.emit.specs.Text.{Written}
 use Rattle.emit.proofs.Laws.{written-nil, written-append}
+use Rattle.emit.proofs.Over.{written-over}
 use Rattle.runs.specs.Links.{linksText}
 use Rattle.runs.proofs.Laws.{link-empty}
 
@@ -49,45 +50,24 @@ carbons-end {at = at} {p} n h a b w =
 
 -- ---- some of them twice
 
--- a store before a place and stores from it on may change places
-set-before : (ts zs : List ℕ) (p q d : ℕ) → p < q → set (sets zs q ts) p d ≡ sets (set zs p d) q ts
-set-before [] zs p q d h = refl
-set-before (t ∷ ts) zs p q d h = set-before ts (set zs q t) p (suc q) d (omega arith) ∙ ap (λ (l : List ℕ). sets l (suc q) ts) (set-comm zs q p t d (λ e. omega (arith, e)))
-
--- carbons stored over fewer of them are as if they were stored once
-over : (m n : ℕ) (ys : List ℕ) (p : ℕ) → m ≤ n → sets (sets ys p (replicate m 67)) p (replicate n 67) ≡ sets ys p (replicate n 67)
-over zero n ys p h = refl
-over (suc m) zero ys p h = absurd (omega arith)
-over (suc m) (suc n) ys p h =
-    ap (λ (l : List ℕ). sets l (suc p) (replicate n 67)) (set-before (replicate m 67) (set ys p 67) p (suc p) 67 (omega arith) ∙ ap (λ (l : List ℕ). sets l (suc p) (replicate m 67)) (set-set ys p 67 67))
-    ∙ over m n (set ys p 67) (suc p) (omega arith)
-
-module _ (xs : List ℕ) (at : ℕ) (g : length xs < 2 ^ 64) where
-  -- carbons after carbons
-  sets-more : (m n : ℕ) → at + m ≤ length xs → sets (sets xs at (replicate m 67)) (at + m) (replicate n 67) ≡ sets xs at (replicate (m + n) 67)
-  sets-more m n h =
-      let v : Written xs at (replicate m 67) (sets xs at (replicate m 67)) (at + m) = record { elements = refl; next = omega (arith, length-replicate {A = ℕ} m 67) } in
-      let w : Written (sets xs at (replicate m 67)) (at + m) (replicate n 67) (sets (sets xs at (replicate m 67)) (at + m) (replicate n 67)) (after (at + m) (length {A = ℕ} (replicate n 67)))
-      = record { elements = refl; next = refl } in
-      carbons-append m n g v w .elements
-
-  over-last : (w l m : ℕ) → at + l ≤ length xs → l + m ≡ w → sets (sets xs at (replicate w 67)) (at + l) (replicate w 67) ≡ sets xs at (replicate (l + w) 67)
-  over-last w l m h e =
-      ap (λ (k : ℕ). sets (sets xs at (replicate k 67)) (at + l) (replicate w 67)) (sym e)
-      ∙ ap (λ (ys : List ℕ). sets ys (at + l) (replicate w 67)) (sym (sets-more l m h))
-      ∙ over m w (sets xs at (replicate l 67)) (at + l) (omega arith)
-      ∙ sets-more l w h
+-- so many carbons
+abbrev cs : ℕ → List ℕ
+cs n = replicate n 67
 
 -- the first w of n, and then the last w of them
 pub carbons-twice : {xs ys zs : List ℕ} {at p r : ℕ} (w n : ℕ) → length xs < 2 ^ 64 → at + n ≤ length xs → w ≤ n → n ≤ w + w
     → Written xs at (replicate w 67) ys p → Written ys (at + (n - w)) (replicate w 67) zs r → Written xs at (replicate n 67) zs r
-carbons-twice {xs} {at = at} w n g h a b u v =
-    let e : n - w + (w - (n - w)) ≡ w = omega arith in
-    let z : n - w + w ≡ n = omega arith in
-    record {
-      elements = v .elements ∙ (rw (u .elements) (over-last xs at g w (n - w) (w - (n - w)) (omega arith) e)) ∙ ap (λ (k : ℕ). sets xs at (replicate k 67)) z;
-      next = omega (arith, v .next, length-replicate {A = ℕ} w 67, length-replicate {A = ℕ} n 67);
-    }
+carbons-twice {ys = ys} {zs = zs} {p = p} {r = r} w n g h a b u v =
+    let e : w + (n - w) ≡ n = omega arith in
+    let f : n - w + w ≡ n = omega arith in
+    let size : (m : ℕ) → length (cs m) ≡ m = λ m. length-replicate {A = ℕ} m 67 in
+    let first : take w (cs n) ≡ cs w
+    = ap (λ (k : ℕ). take w (cs k)) (sym e) ∙ ap (take w) (sym (replicate-append-replicate {A = ℕ} w (n - w) 67)) ∙ take-at (cs w) (cs (n - w)) w (size w) in
+    let rest : drop (n - w) (cs n) ≡ cs w
+    = ap (λ (k : ℕ). drop (n - w) (cs k)) (sym f) ∙ ap (drop (n - w)) (sym (replicate-append-replicate {A = ℕ} (n - w) w 67))
+    ∙ drop-at (cs (n - w)) (cs w) (n - w) (size (n - w)) in
+    let last : take w (drop (n - w) (cs n)) ≡ cs w = ap (take w) rest ∙ take-all w (cs w) (omega (arith, size w)) in
+    written-over {ys = ys} {zs = zs} {p = p} {r = r} w (cs n) w (n - w) g (omega (arith, size n)) (omega (arith, size n)) (omega arith) refl (rw first u) (rw last v)
 
 -- the same, where some of them are written twice
 pub carbons-shared : {xs ys zs : List ℕ} {at p r : ℕ} (w n : ℕ) → length xs < 2 ^ 64 → at + n ≤ length xs → w ≤ n → n < w + w

@@ -14,10 +14,12 @@ use Rattle.drawable.proofs.Parts.{groups-few}
 use Rattle.drawable.specs.declared.Shape.{Shape}
 use Rattle.drawable.specs.Drawn.{Drawn, Length, noGroup, groupsIn, ringsIn, groupsPart, floatsPart, ringsPart, drawnOf}
 use Rattle.record.specs.declared.Mod.{Mod}
-use Rattle.carbons.specs.Tokens.{Rising}
+use Rattle.carbons.specs.Tokens.{Rising, Grouped}
+use Rattle.carbons.proofs.Bare.{none-groups}
 use Rattle.carbons.proofs.Fronts.{next-of, none-left}
 use Rattle.carbons.proofs.Loads.{groups-held}
-use Rattle.branches.specs.Text.{RowsPut}
+use Rattle.branches.specs.Text.{rowsIn, RowsPut}
+use Rattle.branches.proofs.Laws.{rows-put}
 use Rattle.fragment.specs.Segment.{Segment}
 use Rattle.atoms.specs.declared.ChainAtoms.{ChainAtoms}
 use Rattle.ramps.specs.Index.{indices}
@@ -78,11 +80,6 @@ strand-laid {ρ} s i r =
 
 -- ---- a chain whose groups stand in the order of their carbons
 
-none-groups : (l : List ℕ) → groupsIn 0 l ≡ []
-unfolding groupsIn
-none-groups [] = refl
-none-groups (n ∷ l) = refl
-
 none-rings : (l : List ℕ) → ringsIn 0 l ≡ []
 unfolding ringsIn
 none-rings [] = refl
@@ -127,3 +124,17 @@ pub grouped-laid : {ρ : Role} {first at used row : ℕ} {x : Drawn} {xs ys zs x
     → ((l : ℕ) → Segment x l xs at xs′ p) → Indexed ρ first x ys used ys′ n → RowsPut x zs row zs′ q
     → (l : ℕ) → StrandOf ρ first l x (rooms xs ys zs) at used row (rooms xs′ ys′ zs′) (record { at = p; used = n .at; rows = q; count = n .count; flexible = n .flexible; floats = n .floats; end = n .end })
 grouped-laid s i r l = strand-laid (s l) i r
+
+-- ---- one that carries nothing
+
+-- no group of it floats, so that no row is written
+no-rows : (x : Shape) (l zs : List ℕ) (row : ℕ) → Grouped (drawnOf x l) → row < 2 ^ 64 → RowsPut (drawnOf x l) zs row zs row
+unfolding rowsIn
+no-rows x l zs row e h =
+    let f : groupsIn (x .«float_count») (floatsPart l) ≡ [] = e .floats in
+    rows-put x l refl (rw f (written-nil zs row h))
+
+pub bare-laid : {ρ : Role} {first at used row : ℕ} {xs ys xs′ ys′ : List ℕ} {p : ℕ} {n : ChainAtoms} (x : Shape) (part : List ℕ) → Grouped (drawnOf x part) → row < 2 ^ 64
+    → ((l : ℕ) → Segment (drawnOf x part) l xs at xs′ p) → Indexed ρ first (drawnOf x part) ys used ys′ n
+    → (l : ℕ) (zs : List ℕ) → StrandOf ρ first l (drawnOf x part) (rooms xs ys zs) at used row (rooms xs′ ys′ zs) (record { at = p; used = n .at; rows = row; count = n .count; flexible = n .flexible; floats = n .floats; end = n .end })
+bare-laid {row = row} x part e h s i l zs = strand-laid (s l) i (no-rows x part zs row e h)

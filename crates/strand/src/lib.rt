@@ -7,7 +7,7 @@ use drawable::Shape;
 use ramps::FIRST_ROOM;
 ghost use mathlib.Core.Path.{_≡_};
 ghost use mathlib.Core.Bool.{true};
-ghost use mathlib.Core.List.{[], _∷_};
+ghost use mathlib.Core.List.{List, [], _∷_};
 ghost use Prim.Native.Nat.{ℕ, _+_, _*_, _≤_, _<_};
 ghost use lib.ListN.{length};
 ghost use Rattle.emit.specs.Text.{Written};
@@ -256,6 +256,58 @@ fn put_grouped(
     }
 }
 
+// The indices of such a chain that carries nothing.
+fn bare_indices(
+    index: &mut [u16],
+    at: usize,
+    role: Role,
+    first: u32,
+    x: Shape,
+    part: &[u64],
+) -> ChainAtoms
+    requires { ⌜ Grouped (drawnOf x (now part)) ⌝ }
+    requires { ⌜ (x .«bond_count» ≡ 0) × (x .«group_count» ≡ 0) ⌝ }
+    requires { ⌜ (at + (x .carbon + 2) ≤ length (now index)) × (first < 40000) ⌝ }
+    ensures { λ r. ⌜ Indexed role first (drawnOf x (now (part .entry))) (now (index .entry)) at (now (index .exit)) r ⌝ }
+{
+    let heads = head_count(role);
+    let p = put_heads(index, at, role);
+    let mut own = grouped_atoms::number_bare(index, p, first, x, part);
+    let count = heads + own.count;
+    own.count = count;
+    own
+}
+
+// Such a chain that carries nothing, where there is room for it: no table of bonds is filled, and the rows stay as they are, since no group floats.
+fn put_bare(
+    out: &mut [u8],
+    index: &mut [u16],
+    at: usize,
+    used: usize,
+    row: usize,
+    x: Shape,
+    part: &[u64],
+    role: Role,
+    first: u32,
+) -> Strand
+    requires { ⌜ Grouped (drawnOf x (now part)) ⌝ }
+    requires { ⌜ (x .«bond_count» ≡ 0) × (x .«group_count» ≡ 0) ⌝ }
+    requires { ⌜ (at + (x .carbon * 2 + 260) ≤ length (now out)) × (used + (x .carbon + 2) ≤ length (now index)) × (first < 40000) ⌝ }
+    ensures { λ r. ⌜ ((l : ℕ) (rows : List ℕ) → StrandOf role first l (drawnOf x (now (part .entry))) (rooms (now (out .entry)) (now (index .entry)) rows) at used row (rooms (now (out .exit)) (now (index .exit)) rows) r) ⌝ }
+{
+    let next = grouped_text::build_bare(out, at, x, part);
+    let own = bare_indices(index, used, role, first, x, part);
+    Strand {
+        at: next,
+        used: own.at,
+        rows: row,
+        count: own.count,
+        flexible: own.flexible,
+        floats: own.floats,
+        end: own.end,
+    }
+}
+
 // A chain in a role, whose first atom and first ring label are given.
 pub fn put_strand(
     out: &mut [u8],
@@ -274,6 +326,11 @@ pub fn put_strand(
 {
     if is_grouped(x, part) {
         if has_room(x.carbon, out.len(), at, index.len(), used, first) {
+            if x.bond_count == 0 {
+                if x.group_count == 0 {
+                    return put_bare(out, index, at, used, row, x, part, role, first);
+                }
+            }
             return put_grouped(out, index, rows, at, used, row, x, part, role, first);
         }
     }

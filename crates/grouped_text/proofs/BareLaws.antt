@@ -1,0 +1,60 @@
+-- The text of a chain that carries nothing: a table of noughts says its bonds, and between empty bonds stand carbons only.
+-- Assumes nothing.
+use Prim.Native.Nat.{ℕ, zero, suc, _+_, _-_, _*_, _^_, _≤_, _<_}
+use native.Mathlib.Omega.{arith}
+use mathlib.Core.Path.{_≡_, refl}
+use mathlib.Core.List.{List, [], _∷_}
+use lib.ListN.{length, replicate}
+use Rattle.emit.specs.Text.{Written}
+use Rattle.emit.proofs.Laws.{written-length}
+use Rattle.reading.specs.Ascii.{ascii}
+use Rattle.reading.specs.Piece.{show}
+use Rattle.reading.specs.Chain.{markPieces, bridgePieces}
+use Rattle.chain.specs.Bonds.{markOf}
+use Rattle.drawable.specs.declared.Shape.{Shape}
+use Rattle.drawable.specs.Drawn.{Drawn, groupsDrawn, drawnOf}
+use Rattle.carbons.specs.Tokens.{Grouped}
+use Rattle.carbons.specs.ByCarbon.{Noughts}
+use Rattle.carbons.proofs.Bare.{Bare, bare, bare-groups}
+use Rattle.branches.specs.Text.{carbonylText}
+use Rattle.branches.proofs.Laws.{carbonyl-length}
+use Rattle.backbone.specs.Text.{carbonText, bridgeText}
+use Rattle.runs.specs.Links.{linkText, linksText}
+use Rattle.fragment.specs.Segment.{Segment}
+use Rattle.grouped_text.specs.Text.{restText}
+use Rattle.grouped_text.proofs.SegmentLaws.{grouped-segment}
+
+-- a carbon after an empty bond
+bare-carbon : carbonText 0 ≡ 67 ∷ []
+unfolding carbonText markOf markPieces show ascii
+bare-carbon = refl
+
+bare-link : linkText 0 ≡ 67 ∷ []
+unfolding linkText bridgeText bridgePieces carbonText markOf markPieces show ascii
+bare-link = refl
+
+module _ {bs : List ℕ} (z : Noughts bs) where
+  bare-links : (k n : ℕ) → linksText bs k n ≡ replicate n 67
+  unfolding linksText
+  bare-links k zero = refl
+  bare-links k (suc n) = rw (z .at (k - 1), bare-link, bare-links (suc k) n)
+
+  bare-rest : (k c n : ℕ) → c + 1 - k ≡ n → restText bs k c [] ≡ replicate n 67
+  unfolding restText
+  bare-rest k c n e = rw e (bare-links k n)
+
+module _ (x : Shape) (part : List ℕ) (e : Grouped (drawnOf x part)) where
+  pub bare-room : {xs ys zs : List ℕ} {at p q : ℕ} → at + (x .carbon * 2 + 260) ≤ length xs → Written xs at (67 ∷ []) ys p → Written ys p (carbonylText (x .acyl) (x .first)) zs q
+      → q + (x .carbon - x .first) ≤ length zs
+  bare-room h u v = omega (arith, e .first, e .some, u .next, v .next, carbonyl-length (x .acyl) (x .first), written-length u, written-length v)
+
+  pub bare-done : {xs ys zs ws : List ℕ} {at p q r : ℕ} → (x .«bond_count» ≡ 0) × (x .«group_count» ≡ 0) → length xs < 2 ^ 64
+      → Written xs at (67 ∷ []) ys p → Written ys p (carbonylText (x .acyl) (x .first)) zs q
+      → Written zs q (replicate (x .carbon - x .first) 67) ws r → (l : ℕ) → Segment (drawnOf x part) l xs at ws r
+  bare-done none g u v w =
+      let d : Drawn = drawnOf x part in
+      let t : Bare d = bare d e (none .0) in
+      let gone : groupsDrawn d ≡ [] = bare-groups d (none .1) in
+      let n : x .carbon + 1 - (x .first + 1) ≡ x .carbon - x .first = omega arith in
+      grouped-segment d (t .table) e (t .by) g (rw (t .empty .at (x .first - 1), bare-carbon) u) v
+      (rw (gone, bare-rest (t .empty) (x .first + 1) (x .carbon) (x .carbon - x .first) n) w)
