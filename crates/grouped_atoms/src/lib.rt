@@ -99,13 +99,7 @@ pub fn number_grouped<'a>(
 }
 
 // The indices of the drawn carbons of such a chain that carries nothing.
-pub fn number_bare(
-    index: &mut [u16],
-    at: usize,
-    first: u32,
-    x: Shape,
-    part: &[u64],
-) -> ChainAtoms
+pub fn number_bare(index: &mut [u16], at: usize, first: u32, x: Shape, part: &[u64]) -> ChainAtoms
     requires { ⌜ Grouped (drawnOf x (now part)) ⌝ }
     requires { ⌜ (x .«bond_count» ≡ 0) × (x .«group_count» ≡ 0) ⌝ }
     requires { ⌜ (at + x .carbon ≤ length (now index)) × (first < 40000) ⌝ }

@@ -3,6 +3,7 @@
 use Prim.Native.Nat.{ℕ, zero, suc, _+_, _-_, _*_, _^_, _≤_, _<_}
 use native.Mathlib.Omega.{arith}
 use mathlib.Core.Path.{_≡_, refl}
+use mathlib.Core.Bool.{Bool}
 use mathlib.Core.List.{List, [], _∷_}
 use lib.ListN.{length, replicate}
 use Rattle.emit.specs.Text.{Written}
@@ -44,9 +45,9 @@ module _ {bs : List ℕ} (z : Noughts bs) where
   bare-rest k c n e = rw e (bare-links k n)
 
 module _ (x : Shape) (part : List ℕ) (e : Grouped (drawnOf x part)) where
-  pub bare-room : {xs ys zs : List ℕ} {at p q : ℕ} → at + (x .carbon * 2 + 260) ≤ length xs → Written xs at (67 ∷ []) ys p → Written ys p (carbonylText (x .acyl) (x .first)) zs q
+  pub bare-room : {xs ys zs : List ℕ} {at p q : ℕ} (acyl : Bool) → at + (x .carbon * 2 + 260) ≤ length xs → Written xs at (67 ∷ []) ys p → Written ys p (carbonylText acyl (x .first)) zs q
       → q + (x .carbon - x .first) ≤ length zs
-  bare-room h u v = omega (arith, e .first, e .some, u .next, v .next, carbonyl-length (x .acyl) (x .first), written-length u, written-length v)
+  bare-room acyl h u v = omega (arith, e .first, e .some, u .next, v .next, carbonyl-length acyl (x .first), written-length u, written-length v)
 
   pub bare-done : {xs ys zs ws : List ℕ} {at p q r : ℕ} → (x .«bond_count» ≡ 0) × (x .«group_count» ≡ 0) → length xs < 2 ^ 64
       → Written xs at (67 ∷ []) ys p → Written ys p (carbonylText (x .acyl) (x .first)) zs q
