@@ -1,4 +1,4 @@
--- A chain without double bonds and rings: its bonds are noughts, whatever the room of the table.
+-- A chain without double bonds and rings: a table of noughts holds its bonds.
 -- Assumes nothing.
 use Prim.Native.Nat.{ℕ, suc, _<_, min}
 use native.Mathlib.Omega.{arith}

@@ -278,7 +278,7 @@ fn bare_indices(
     own
 }
 
-// Such a chain that carries nothing, where there is room for it: no table of bonds is filled, and the rows stay as they are, since no group floats.
+// Such a chain that carries nothing, where there is room for it: no table of bonds is filled, and no row is written, since no group floats.
 fn put_bare(
     out: &mut [u8],
     index: &mut [u16],
