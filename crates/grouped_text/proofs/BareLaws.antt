@@ -1,6 +1,6 @@
 -- The text of a chain that carries nothing: a table of noughts says its bonds, and between empty bonds stand carbons only.
 -- Assumes nothing.
-use Prim.Native.Nat.{ℕ, zero, suc, _+_, _-_, _*_, _^_, _≤_, _<_}
+use Prim.Native.Nat.{ℕ, _+_, _-_, _*_, _^_, _≤_, _<_}
 use native.Mathlib.Omega.{arith}
 use mathlib.Core.Path.{_≡_, refl}
 use mathlib.Core.Bool.{Bool}
@@ -10,7 +10,7 @@ use Rattle.emit.specs.Text.{Written}
 use Rattle.emit.proofs.Laws.{written-length}
 use Rattle.reading.specs.Ascii.{ascii}
 use Rattle.reading.specs.Piece.{show}
-use Rattle.reading.specs.Chain.{markPieces, bridgePieces}
+use Rattle.reading.specs.Chain.{markPieces}
 use Rattle.chain.specs.Bonds.{markOf}
 use Rattle.drawable.specs.declared.Shape.{Shape}
 use Rattle.drawable.specs.Drawn.{Drawn, groupsDrawn, drawnOf}
@@ -19,8 +19,8 @@ use Rattle.carbons.specs.ByCarbon.{Noughts}
 use Rattle.carbons.proofs.Bare.{Bare, bare, bare-groups}
 use Rattle.branches.specs.Text.{carbonylText}
 use Rattle.branches.proofs.Laws.{carbonyl-length}
-use Rattle.backbone.specs.Text.{carbonText, bridgeText}
-use Rattle.runs.specs.Links.{linkText, linksText}
+use Rattle.backbone.specs.Text.{carbonText}
+use Rattle.runs.proofs.Carbons.{links-plain}
 use Rattle.fragment.specs.Segment.{Segment}
 use Rattle.grouped_text.specs.Text.{restText}
 use Rattle.grouped_text.proofs.SegmentLaws.{grouped-segment}
@@ -30,19 +30,10 @@ bare-carbon : carbonText 0 ≡ 67 ∷ []
 unfolding carbonText markOf markPieces show ascii
 bare-carbon = refl
 
-bare-link : linkText 0 ≡ 67 ∷ []
-unfolding linkText bridgeText bridgePieces carbonText markOf markPieces show ascii
-bare-link = refl
-
-module _ {bs : List ℕ} (z : Noughts bs) where
-  bare-links : (k n : ℕ) → linksText bs k n ≡ replicate n 67
-  unfolding linksText
-  bare-links k zero = refl
-  bare-links k (suc n) = rw (z .at (k - 1), bare-link, bare-links (suc k) n)
-
-  bare-rest : (k c n : ℕ) → c + 1 - k ≡ n → restText bs k c [] ≡ replicate n 67
-  unfolding restText
-  bare-rest k c n e = rw e (bare-links k n)
+-- and all that follow it
+bare-rest : {bs : List ℕ} (k c n : ℕ) → Noughts bs → 1 ≤ k → c + 1 - k ≡ n → restText bs k c [] ≡ replicate n 67
+unfolding restText
+bare-rest {bs} k c n z h e = rw e (links-plain bs n k h (λ j l. z .at (k - 1 + j)))
 
 module _ (x : Shape) (part : List ℕ) (e : Grouped (drawnOf x part)) where
   pub bare-room : {xs ys zs : List ℕ} {at p q : ℕ} (acyl : Bool) → at + (x .carbon * 2 + 260) ≤ length xs → Written xs at (67 ∷ []) ys p → Written ys p (carbonylText acyl (x .first)) zs q
@@ -58,4 +49,4 @@ module _ (x : Shape) (part : List ℕ) (e : Grouped (drawnOf x part)) where
       let gone : groupsDrawn d ≡ [] = bare-groups d (none .1) in
       let n : x .carbon + 1 - (x .first + 1) ≡ x .carbon - x .first = omega arith in
       grouped-segment d (t .table) e (t .by) g (rw (t .empty .at (x .first - 1), bare-carbon) u) v
-      (rw (gone, bare-rest (t .empty) (x .first + 1) (x .carbon) (x .carbon - x .first) n) w)
+      (rw (gone, bare-rest (x .first + 1) (x .carbon) (x .carbon - x .first) (t .empty) (omega arith) n) w)

@@ -112,7 +112,7 @@ pub empty-asked : (ks : List ℕ) (i n w : ℕ) (a b : Bool) → w ≤ n → n �
 empty-asked ks i n w a b l h u e v f = empty-both ks i n w l h (u (not-false a e)) (v f)
 
 -- carbons between empty bonds are their links
-links-plain : (ks : List ℕ) (n k : ℕ) → 1 ≤ k → Empty ks (k - 1) n → linksText ks k n ≡ replicate n 67
+pub links-plain : (ks : List ℕ) (n k : ℕ) → 1 ≤ k → Empty ks (k - 1) n → linksText ks k n ≡ replicate n 67
 unfolding linksText
 links-plain ks zero k h f = refl
 links-plain ks (suc n) k h f =
