@@ -132,7 +132,7 @@ module _ (r : Role) (d : Chain) (n : ℕ) where
   flexible-from = chainEnd-le n (literal r d)
 
   -- the j-th flexible carbon is the j-th atom from P on
-  flexible-atom : (j : ℕ) → atomOf (firstDrawn r) n (carbons r d) (firstDrawn r + (length (literal r d) + j)) ≡ flexibleAtom r d n + j
+  pub flexible-atom : (j : ℕ) → atomOf (firstDrawn r) n (carbons r d) (firstDrawn r + (length (literal r d) + j)) ≡ flexibleAtom r d n + j
   unfolding atomOf carbons flexibleAtom flex
   flexible-atom j =
       let e : firstDrawn r + (length (literal r d) + j) - firstDrawn r ≡ length (literal r d) + j = omega arith in
@@ -181,7 +181,7 @@ values-more {A} g k (suc n) =
 
 -- ---- the marks
 
-marked-atoms : (p v n : ℕ) → atomsOf (markList p v (suc n)) ≡ valuesFrom (λ i. p + 2 * i) 0 (suc n) ++ (p + 2 * suc n + 1) ∷ []
+pub marked-atoms : (p v n : ℕ) → atomsOf (markList p v (suc n)) ≡ valuesFrom (λ i. p + 2 * i) 0 (suc n) ++ (p + 2 * suc n + 1) ∷ []
 unfolding markList atomsOf
 marked-atoms p v n =
     atomsOf-append (valuesFrom (λ i. at (p + 2 * i) (v + i)) 0 (suc n)) (at (p + 2 * suc n + 1) (v + suc n) ∷ [])

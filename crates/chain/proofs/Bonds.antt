@@ -1,6 +1,6 @@
 -- The bonds of a chain: each is written by a mark of 01 or by none, and a bridge stays where an epoxide starts.
 -- Assumes nothing.
-use Prim.Native.Nat.{ℕ, zero, suc, _+_, _-_, _≤_}
+use Prim.Native.Nat.{ℕ, zero, suc, _+_, _-_, _≤_, _<_}
 use native.Mathlib.Omega.{arith}
 use native.Mathlib.Decide.{ℕ-discrete}
 use mathlib.Core.Path.{_≡_, refl, ap, _∙_}
@@ -10,7 +10,7 @@ use mathlib.Core.List.{List, [], _∷_}
 use lib.ListN.{getD, set}
 use lib.Seq.{getD-set-other}
 use lib.Dec.{eqb, ltb}
-use borrow.Author.Tests.{eqb-true, ne-eqb}
+use borrow.Author.Tests.{eqb-true, ne-eqb, ltb-true}
 use Rattle.record.specs.declared.Geometry.{Geometry}
 use Rattle.record.specs.declared.Geometry.the-variants.{Unstated, Cis, Trans}
 use Rattle.record.specs.declared.DbPos.{DbPos}
@@ -18,15 +18,15 @@ use Rattle.record.specs.declared.Ring.{Ring}
 use Rattle.record.specs.Chain.{Chain}
 use Rattle.reading.specs.Ascii.{ascii}
 use Rattle.reading.specs.Lexer.{memb, marks}
-use Rattle.reading.proofs.PartingLaws.{All}
+use Rattle.reading.proofs.PartingLaws.{All, all-map}
 use Rattle.reading.proofs.TemplateText.{MarkWell}
 use Rattle.chain.specs.declared.Role.{Role}
-use Rattle.chain.specs.Lists.{anyOf}
-use Rattle.chain.specs.Features.{doubles}
+use Rattle.chain.specs.Lists.{anyOf, valuesFrom}
+use Rattle.chain.specs.Features.{firstDrawn, doubles}
 use Rattle.chain.specs.Refusals.{isEpoxide, epoxideOn}
 use Rattle.chain.specs.Bonds.{empty, double, bridged, up, down, plainBond, plainBonds, geometryAt, openMark, opensDown, closeByte, closeMark, markBond, markFrom, bondsOf, bondAt, markOf}
 use Rattle.chain.proofs.Lists.{all-set, all-getD, all-values, getD-values}
-use Rattle.chain.proofs.Accepted.{Drawable, epoxides-free}
+use Rattle.chain.proofs.Accepted.{Drawable, RingStands, epoxides-free, first-one, doubles-on, rings-on}
 
 -- ---- every bond is written by a mark of 01 or by none
 
@@ -143,3 +143,56 @@ bridge-stands r d a k h e =
     kept-from (d .carbon) (doubles r d) 1 (d .carbon) (plainBonds (doubles r d) (d .rings) (d .carbon)) k
     (getD-values (plainBond (doubles r d) (d .rings)) 0 (suc (d .carbon)) k 0 (omega arith)
     ∙ (ap (plainBond (doubles r d) (d .rings)) z ∙ rw (epoxide-single (doubles r d) (d .rings) k (epoxides-free r d a) e, e)))
+
+-- ---- no mark before C1
+
+zero-set : (b : Bool) (ks : List ℕ) (i x : ℕ) → 0 < i → getD (cond b (set ks i x) ks) 0 0 ≡ getD ks 0 0
+zero-set true ks i x h = getD-set-other ks i 0 x 0 (λ e. omega arith)
+zero-set false ks i x h = refl
+
+zero-open : (p : ℕ) (ks : List ℕ) → getD (openMark p ks) 0 0 ≡ getD ks 0 0
+unfolding openMark
+zero-open p ks = go (ltb 1 p) refl
+  where
+    go : (b : Bool) → ltb 1 p ≡ b → getD (cond (b && eqb (getD ks (p - 1) 0) empty) (set ks (p - 1) up) ks) 0 0 ≡ getD ks 0 0
+    go true e = zero-set (eqb (getD ks (p - 1) 0) empty) ks (p - 1) up (omega (arith, ltb-true 1 p e))
+    go false e = refl
+
+zero-closed : (c : ℕ) (t : Bool) (p : ℕ) (ks : List ℕ) → getD (closeMark c t p ks) 0 0 ≡ getD ks 0 0
+unfolding closeMark
+zero-closed c t p ks = zero-set (ltb (suc p) c && eqb (getD ks (suc p) 0) empty) ks (suc p) (closeByte t (opensDown p ks)) (omega arith)
+
+zero-marked : (c : ℕ) (g : Geometry) (p : ℕ) (ks : List ℕ) → getD (markBond c g p ks) 0 0 ≡ getD ks 0 0
+unfolding markBond
+zero-marked c Unstated p ks = refl
+zero-marked c Cis p ks = zero-closed c false p (openMark p ks) ∙ zero-open p ks
+zero-marked c Trans p ks = zero-closed c true p (openMark p ks) ∙ zero-open p ks
+
+zero-from : (c : ℕ) (bs : List DbPos) (p n : ℕ) (ks : List ℕ) → getD (markFrom c bs p n ks) 0 0 ≡ getD ks 0 0
+unfolding markFrom
+zero-from c bs p zero ks = refl
+zero-from c bs p (suc n) ks = zero-from c bs (suc p) n (markBond c (geometryAt p bs) p ks) ∙ zero-marked c (geometryAt p bs) p ks
+
+-- no double bond and no epoxide starts before C1
+no-double : (bs : List DbPos) → All (λ b. 1 ≤ b .pos) bs → anyOf (λ b. eqb (b .pos) 0) bs ≡ false
+unfolding anyOf
+no-double [] h = refl
+no-double (b ∷ bs) h = rw (ne-eqb (b .pos) 0 (λ e. omega (arith, h .0))) (no-double bs (h .1))
+
+no-epoxide : (rs : List Ring) → All (λ x. 1 ≤ x .start) rs → anyOf (λ x. isEpoxide (x .bridge) && eqb (x .start) 0) rs ≡ false
+unfolding anyOf
+no-epoxide [] h = refl
+no-epoxide (x ∷ rs) h = rw (ne-eqb (x .start) 0 (λ e. omega (arith, h .0)), and-false (isEpoxide (x .bridge))) (no-epoxide rs (h .1))
+  where
+    and-false : (b : Bool) → (b && false) ≡ false
+    and-false true = refl
+    and-false false = refl
+
+pub bond-zero : (r : Role) (d : Chain) → Drawable r d → bondAt r d 0 ≡ empty
+unfolding bondAt bondsOf plainBonds plainBond valuesFrom
+bond-zero r d a =
+    zero-from (d .carbon) (doubles r d) 1 (d .carbon) (plainBonds (doubles r d) (d .rings) (d .carbon))
+    ∙ rw (
+      no-double (doubles r d) (all-map {P = λ (b : DbPos). (firstDrawn r ≤ b .pos) × (b .pos < d .carbon)} (λ b h. omega (arith, h .0, first-one r)) (doubles r d) (doubles-on r d a)),
+      no-epoxide (d .rings) (all-map {P = RingStands (firstDrawn r) (d .carbon)} (λ x h. omega (arith, h .starts, first-one r)) (d .rings) (rings-on r d a)),
+    ) refl

@@ -10,7 +10,7 @@ use lib.ListN.{length, getD}
 use lib.Dec.{eqb, leb}
 use borrow.Author.Tests.{eqb-true, leb-true}
 use Rattle.groups.specs.Groups.{Entry, entries, entryAt, blank}
-use Rattle.reading.specs.Piece.{Piece, atom, mark, dot, lpar, rpar}
+use Rattle.reading.specs.Piece.{Piece, atom, mark, dot, lpar, rpar, show}
 use Rattle.reading.specs.Part.{Part, partOf}
 use Rattle.reading.proofs.Frame.{Hangs, EachLabel}
 use Rattle.reading.proofs.WellFormed.{AllWell}
@@ -110,3 +110,12 @@ module _ (row : ℕ) (h : row < 17) where
   pub branch-counts : branchPart row .size ≡ entryAt row .atoms
   unfolding branchPart
   branch-counts = branch-from (partOf (entryAt row .branch)) refl row-is .1
+
+  -- it is the table's bytes, read whole and written
+  pub branch-whole : (partOf (entryAt row .branch) ≡ some (branchPart row)) × (show (branchPart row .pieces) ≡ entryAt row .branch)
+  unfolding branchPart partIs
+  branch-whole = go (partOf (entryAt row .branch)) refl row-is
+    where
+      go : (o : Option Part) → partOf (entryAt row .branch) ≡ o → partIs (entryAt row .atoms) o ≡ true → (o ≡ some (orNone o)) × (show (orNone o .pieces) ≡ entryAt row .branch)
+      go none e t = absurd (false≢true t)
+      go (some p) e t = (refl, part-from (entryAt row .branch) p e .shown)

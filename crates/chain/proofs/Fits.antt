@@ -42,7 +42,7 @@ every-all : {A : Type 0} (P : A → Type 0) (l : List A) → Every P l → All P
 every-all P [] h = tt
 every-all P (x ∷ l) h = (h .0, every-all P l (h .1))
 
-abbrev InTable : Mod → Type 0
+abbrev pub InTable : Mod → Type 0
 InTable g = g .row < 17
 
 oxygen-table : (p : ℕ) (gs : List Mod) → All InTable (oxygenAt p gs) × (length (oxygenAt p gs) ≤ 1)
@@ -84,10 +84,14 @@ pub branches-read : (gs : List Mod) → All InTable gs → All Branch (branches 
 unfolding branches
 branches-read gs h = all-mapped Branch (λ g. branchPart (g .row)) gs (all-map {P = InTable} (λ g q. branch-reads (g .row) q) gs h)
 
+pub floating-table : (d : Chain) → Sound d → All InTable (floating d)
+unfolding floating unlocated
+floating-table d s = all-only InTable (λ g. eqb (g .pos) 0) (d .groups) (every-all InTable (d .groups) (s .rows))
+
 pub floats-read : (d : Chain) → Sound d → All Branch (floats d) × (length (floats d) ≤ 16)
 unfolding floats floating unlocated branches
 floats-read d s = (
-  branches-read (floating d) (all-only InTable (λ g. eqb (g .pos) 0) (d .groups) (every-all InTable (d .groups) (s .rows))),
+  branches-read (floating d) (floating-table d s),
   omega (arith, length-map (floating d) (λ g. branchPart (g .row)), length-only (λ g. eqb (g .pos) 0) (d .groups), s .within .groups),
 )
 

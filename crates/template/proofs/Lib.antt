@@ -3,6 +3,7 @@ pub mod Templates
 pub mod Rows
 pub mod Placing
 pub mod Whole
+pub mod Strands
 pub mod Text
 pub mod Notes
 pub mod Sorted
@@ -11,3 +12,4 @@ pub mod Molecules
 pub mod Listing
 pub mod Theorem
 pub mod Examples
+pub mod Fields

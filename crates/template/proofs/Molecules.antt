@@ -1,18 +1,30 @@
 -- What a molecule of rows says of an atom, and the set of its sums.
 -- Assumes nothing.
-use Prim.Native.Nat.{ℕ, zero, suc, _+_}
+use Prim.Native.Nat.{ℕ, zero, suc, _+_, _-_, _≤_, _<_}
+use native.Mathlib.Decide.{ℕ-discrete}
 use native.Mathlib.Omega.{arith}
 use mathlib.Core.Path.{_≡_, refl, sym, ap, _∙_, subst}
-use mathlib.Core.Option.{some}
-use mathlib.Core.List.{List, [], _∷_}
-use Rattle.reading.specs.Row.{Row, row}
-use Rattle.reading.specs.Molecule.{At, look, Sum, setOf, sumKey, atomsFrom, moleculeOf}
-use Rattle.reading.proofs.SetLaws.{Has, set-to, set-from, sum-told}
+use mathlib.Core.Option.{Option, none, some}
+use borrow.Author.Tests.{eq-eqb, ne-eqb}
+use mathlib.Core.List.{List, [], _∷_, _++_, map}
+use Rattle.reading.specs.Ascii.{ascii}
+use Rattle.reading.specs.Row.{link, Row, row}
+use lib.ListN.{length}
+use Rattle.reading.specs.Molecule.{At, at, atomsOf, look, Bond, bond, bondKey, bondsTo, bondsFrom, bondsOf, Sum, setOf, sumKey, atomsFrom, moleculeOf}
+use Rattle.reading.proofs.SetLaws.{Has, set-to, set-from, bond-told, sum-told}
 use mathlib.Core.Logic.{inl, inr, ⊎-elim}
-use Rattle.reading.proofs.PartingLaws.{All}
+use Rattle.reading.proofs.PartingLaws.{All, all-map}
 use Rattle.reading.proofs.Part.{none≢some}
-use Rattle.template.specs.Promise.{atomAt, bytesOf, variableOf, bytesAt, variableAt, sumsIn}
+use Rattle.template.specs.Promise.{atomAt, bytesOf, variableOf, bytesAt, variableAt, sumsIn, labelOf, labelAt, rowAt, Among, bondsIn, Joined, JoinedBy, JoinedIn, noted, markIn, siteListIn, marksIn, siteListsIn}
+use Rattle.chain.proofs.Lists.{Rises, rises-le, rises-from, rises-within}
+use Rattle.template.proofs.Notes.{look-outside}
+use Rattle.chain.specs.declared.Role.{Role}
+use Rattle.chain.specs.declared.Role.the-variants as role
+use Rattle.chain.proofs.Accepted.{Drawable}
+use Rattle.template.specs.Request.{Placed}
+use Rattle.template.proofs.Placing.{Strand}
 use Rattle.template.proofs.Rows.{rowBytes}
+use Rattle.template.proofs.Strands.{bytesIn, firstLink, RowsJoined, RowsJoinedIn, rows-joined}
 
 -- ---- atoms
 
@@ -22,6 +34,49 @@ unfolding rowBytes atomAt atomsFrom
 atom-bytes n i [] ls ms fs b h = absurd (none≢some h)
 atom-bytes n zero (row a ks ∷ rs) ls ms fs b h = let e : n + 0 ≡ n = omega arith in (h, rw e)
 atom-bytes n (suc i) (row a ks ∷ rs) ls ms fs b h = let e : n + suc i ≡ suc n + i = omega arith in rw e (atom-bytes (suc n) i rs ls ms fs b h)
+
+atom-label : (n i : ℕ) (rs : List Row) (ls ms : List (At ℕ)) (fs : List (At (List ℕ))) → All (λ j. j < n + length rs) (atomsOf ls) → labelOf (atomAt i (atomsFrom n rs ls ms fs)) ≡ look (n + i) ls
+unfolding atomAt atomsFrom
+atom-label n i [] ls ms fs h = sym (look-outside (n + i) ls (all-map {P = λ (j : ℕ). j < n + 0} (λ j q. λ e. omega arith) (atomsOf ls) h))
+atom-label n zero (row a ks ∷ rs) ls ms fs h = let e : n + 0 ≡ n = omega arith in rw e refl
+atom-label n (suc i) (row a ks ∷ rs) ls ms fs h =
+    let e : n + suc i ≡ suc n + i = omega arith in
+    rw e (atom-label (suc n) i rs ls ms fs (all-map {P = λ (j : ℕ). j < n + suc (length rs)} (λ j q. omega arith) (atomsOf ls) h))
+
+-- ---- all that is noted
+
+looks : {A : Type 0} → ℕ → List Row → List (At A) → List (Option A)
+looks n [] xs = []
+looks n (r ∷ rs) xs = look n xs ∷ looks (suc n) rs xs
+
+atoms-looks : (n : ℕ) (rs : List Row) (ls ms : List (At ℕ)) (fs : List (At (List ℕ)))
+    → (map markIn (atomsFrom n rs ls ms fs) ≡ looks n rs ms) × (map siteListIn (atomsFrom n rs ls ms fs) ≡ looks n rs fs)
+unfolding atomsFrom looks
+atoms-looks n [] ls ms fs = (refl, refl)
+atoms-looks n (row a ks ∷ rs) ls ms fs =
+    let ih : (map markIn (atomsFrom (suc n) rs ls ms fs) ≡ looks (suc n) rs ms) × (map siteListIn (atomsFrom (suc n) rs ls ms fs) ≡ looks (suc n) rs fs) = atoms-looks (suc n) rs ls ms fs in
+    (rw (ih .0) refl, rw (ih .1) refl)
+
+-- what is noted at atoms that rise is found there, and nothing else
+noted-looks : {A : Type 0} (n : ℕ) (rs : List Row) (xs ys : List (At A)) → Rises n (n + length rs) (atomsOf xs) → ((i : ℕ) → n ≤ i → look i ys ≡ look i xs) → noted n (looks n rs ys) ≡ xs
+unfolding noted looks atomsOf look
+noted-looks n [] [] ys h e = refl
+noted-looks n [] (at i a ∷ xs) ys h e = absurd (omega (arith, h .0, rises-le (suc i) (n + 0) (atomsOf xs) (h .1)))
+noted-looks n (r ∷ rs) [] ys h e = rw (e n (omega arith)) (noted-looks (suc n) rs [] ys (omega arith) (λ i q. e i (omega arith)))
+noted-looks {A} n (r ∷ rs) (at i a ∷ xs) ys h e = go (ℕ-discrete n i) (λ xs′. noted-looks (suc n) rs xs′ ys)
+  where
+    up : suc n + length rs ≡ n + length (r ∷ rs)
+    up = omega arith
+
+    go : Dec (n ≡ i) → ((xs′ : List (At A)) → Rises (suc n) (suc n + length rs) (atomsOf xs′) → ((j : ℕ) → suc n ≤ j → look j ys ≡ look j xs′) → noted (suc n) (looks (suc n) rs ys) ≡ xs′) → noted n (look n ys ∷ looks (suc n) rs ys) ≡ at i a ∷ xs
+    go (yes q) ih =
+        rw (e n (omega arith), eq-eqb n i q)
+        (ap (λ (z : ℕ). at z a ∷ noted (suc n) (looks (suc n) rs ys)) q
+        ∙ ap (λ (z : List (At _)). at i a ∷ z)
+        (ih xs (rw up (rises-from (suc n) (suc i) (n + length (r ∷ rs)) (atomsOf xs) (omega arith) (h .1))) (λ j w. e j (omega arith) ∙ rw (ne-eqb j i (λ z. omega arith)) refl)))
+    go (no q) ih =
+        rw (e n (omega arith), ne-eqb n i q, look-outside n xs (all-map {P = λ (j : ℕ). (suc i ≤ j) × (j < n + length (r ∷ rs))} (λ j w. λ z. omega (arith, w .0, h .0)) (atomsOf xs) (rises-within (suc i) (n + length (r ∷ rs)) (atomsOf xs) (h .1))))
+        (ih (at i a ∷ xs) (rw up (omega (arith, h .0), h .1)) (λ j w. e j (omega arith)))
 
 module _ (rs : List Row) (ls ms : List (At ℕ)) (fs : List (At (List ℕ))) (ss : List Sum) where
   pub bytes-at : (i : ℕ) (b : List ℕ) → rowBytes i rs ≡ some b → bytesAt (moleculeOf rs ls ms fs ss) i ≡ some b
@@ -33,9 +88,76 @@ module _ (rs : List Row) (ls ms : List (At ℕ)) (fs : List (At (List ℕ))) (ss
   unfolding variableAt moleculeOf
   variable-at i b h = atom-bytes 0 i rs ls ms fs b h .1 ∙ ap (λ (z : ℕ). look z ms) (omega arith)
 
+  from : length rs ≡ 0 + length rs
+  from = omega arith
+
+  -- it has the label that the labels say
+  pub label-at : (i : ℕ) → All (λ j. j < length rs) (atomsOf ls) → labelAt (moleculeOf rs ls ms fs ss) i ≡ look i ls
+  unfolding labelAt moleculeOf
+  label-at i h =
+      let e : 0 + i ≡ i = omega arith in
+      atom-label 0 i rs ls ms fs (all-map {P = λ (j : ℕ). j < length rs} (λ j q. omega arith) (atomsOf ls) h) ∙ ap (λ (z : ℕ). look z ls) e
+
+  pub marks-in : Rises 0 (length rs) (atomsOf ms) → marksIn (moleculeOf rs ls ms fs ss) ≡ ms
+  unfolding marksIn moleculeOf
+  marks-in h = ap (noted 0) (atoms-looks 0 rs ls ms fs .0) ∙ noted-looks 0 rs ms ms (rw from at h) (λ i q. refl)
+
+  pub lists-in : Rises 0 (length rs) (atomsOf fs) → siteListsIn (moleculeOf rs ls ms fs ss) ≡ fs
+  unfolding siteListsIn moleculeOf
+  lists-in h = ap (noted 0) (atoms-looks 0 rs ls ms fs .1) ∙ noted-looks 0 rs fs fs (rw from at h) (λ i q. refl)
+
   pub sums-in : sumsIn (moleculeOf rs ls ms fs ss) ≡ setOf sumKey ss
   unfolding sumsIn moleculeOf
   sums-in = refl
+
+-- ---- bonds
+
+has-right : (x : Bond) (xs ys : List Bond) → Has x ys → Has x (xs ++ ys)
+has-right x [] ys h = h
+has-right x (b ∷ xs) ys h = inr (has-right x xs ys h)
+
+-- an atom's first link is a bond
+first-bond : (n i : ℕ) (rs : List Row) (a m : ℕ) → firstLink (rowAt i rs) ≡ some (link a m) → Has (bond a (n + i) m) (bondsFrom n rs)
+unfolding rowAt bondsFrom bondsTo
+first-bond n i [] a m h = absurd (none≢some h)
+first-bond n zero (row b [] ∷ rs) a m h = absurd (none≢some h)
+first-bond n zero (row b (link a′ m′ ∷ ks) ∷ rs) a m h =
+    let e : n + 0 ≡ n = omega arith in
+    let q : bond a n m ≡ bond a′ n m′ = cc in
+    rw e (inl q)
+first-bond n (suc i) (row b ks ∷ rs) a m h =
+    let e : n + suc i ≡ suc n + i = omega arith in
+    rw e (has-right (bond a (suc n + i) m) (bondsTo n ks) (bondsFrom (suc n) rs) (first-bond (suc n) i rs a m h))
+
+has-among : (x : Bond) (l : List Bond) → Has x l → Among x l
+has-among x [] h = absurd h
+has-among x (b ∷ l) h = ⊎-elim (λ e. inl e) (λ r. inr (has-among x l r)) h
+
+row-bytes : (i : ℕ) (rs : List Row) (b : List ℕ) → bytesIn (rowAt i rs) ≡ some b → rowBytes i rs ≡ some b
+unfolding rowAt rowBytes
+row-bytes i [] b h = absurd (none≢some h)
+row-bytes zero (row a ks ∷ rs) b h = h
+row-bytes (suc i) (row a ks ∷ rs) b h = row-bytes i rs b h
+
+module _ (rs : List Row) (ls ms : List (At ℕ)) (fs : List (At (List ℕ))) (ss : List Sum) where
+  joined-at : (n : ℕ) → RowsJoined rs n → Joined (moleculeOf rs ls ms fs ss) n
+  unfolding bondsIn moleculeOf bondsOf
+  joined-at n j =
+      let e : 0 + n ≡ n = omega arith in
+      record {
+        after = j .after;
+        oxygen = bytes-at rs ls ms fs ss (n - 1) (ascii "O") (row-bytes (n - 1) rs (ascii "O") (j .oxygen));
+        carbon = bytes-at rs ls ms fs ss n (ascii "C") (row-bytes n rs (ascii "C") (j .carbon));
+        plain = has-among (bond (n - 1) n 0) (setOf bondKey (bondsFrom 0 rs)) (set-from bondKey bond-told (bond (n - 1) n 0) (bondsFrom 0 rs) (rw e at (first-bond 0 n rs (n - 1) 0 (j .plain))));
+      }
+
+  pub joined-in : (p : Placed) → Drawable (p .role) (p .chain) → Strand 0 rs p → JoinedIn (moleculeOf rs ls ms fs ss) p
+  joined-in p a s = go (p .role) (rows-joined rs p a s)
+    where
+      go : (r : Role) → RowsJoinedIn r rs (p .first) → JoinedBy r (moleculeOf rs ls ms fs ss) (p .first)
+      go role.Slot j = joined-at (p .first) j
+      go role.Acyl j = tt
+      go role.Base j = tt
 
 -- ---- sets
 

@@ -23,6 +23,7 @@ use Rattle.chain.proofs.Lists.{all-values}
 use Rattle.chain.proofs.Branches.{Branch}
 use Rattle.chain.proofs.Fits.{CarbonFine, carbons-fine, floats-read}
 use Rattle.chain.proofs.Accepted.{Drawable}
+use Rattle.template.specs.Promise.{drawnRows}
 
 -- ---- the bytes of a row among rows
 
@@ -62,13 +63,13 @@ pub length-hung : (on n : ℕ) (p : Part) → Hangs p → length (hung on n p) �
 unfolding hung
 length-hung on n p h = length-map (p .rows) (moveRow (place on n)) ∙ part-size h
 
-length-parts : (self n : ℕ) (ps : List Part) → All Branch ps → n + length (partRows self n ps) ≡ partsEnd n ps
+pub length-parts : (self n : ℕ) (ps : List Part) → All Branch ps → n + length (partRows self n ps) ≡ partsEnd n ps
 unfolding partRows partsEnd
 length-parts self n [] h = omega arith
 length-parts self n (p ∷ ps) h =
     omega (arith, length-append (hung self n p) (partRows self (n + p .size) ps), length-hung self n p (h .0 .hangs), length-parts self (n + p .size) ps (h .1))
 
-length-bridge : (b : Bool) (n self : ℕ) → n + length (bridgeRows b self) ≡ bridgeEnd b n
+pub length-bridge : (b : Bool) (n self : ℕ) → n + length (bridgeRows b self) ≡ bridgeEnd b n
 unfolding bridgeRows bridgeEnd
 length-bridge true n self = omega arith
 length-bridge false n self = omega arith
@@ -99,7 +100,7 @@ module _ (pos : ℕ → ℕ) (rs : List Ring) where
   unfolding carbonRows own
   rows-cons k n prev c cs = simp append-assoc
 
-  length-carbons : (k n prev : ℕ) (cs : List Carbon) → All CarbonFine cs → n + length (carbonRows pos rs k n prev cs) ≡ chainEnd n cs
+  pub length-carbons : (k n prev : ℕ) (cs : List Carbon) → All CarbonFine cs → n + length (carbonRows pos rs k n prev cs) ≡ chainEnd n cs
   unfolding chainEnd
   length-carbons k n prev [] h = unfold carbonRows in omega arith
   length-carbons k n prev (c ∷ cs) h =
@@ -127,10 +128,6 @@ module _ (pos : ℕ → ℕ) (rs : List Ring) where
       (carbons-carbonic (suc k) (carbonEnd n c) (carbonLast n c) cs j (h .1) (omega arith)))
 
 -- ---- the rows of a chain
-
--- the rows that are drawn for a chain whose first carbon is atom n, hung on the atom `on`
-abbrev pub drawnRows : Role → Chain → ℕ → ℕ → List Row
-drawnRows r d n on = chainRows (firstDrawn r) (ringPairs (d .rings)) (carbons r d) n on ++ floatRows (chainEnd n (carbons r d)) (floats d)
 
 module _ (r : Role) (d : Chain) (a : Drawable r d) (n on : ℕ) where
   pub length-drawn : n + length (drawnRows r d n on) ≡ atomsEnd r d n

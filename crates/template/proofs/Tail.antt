@@ -15,6 +15,7 @@ use Rattle.reading.proofs.WellFormed.{AtomBytes, letter, chlorine, bromine, bra
 use Rattle.reading.proofs.Part.{PartFrom, part-from, part-size}
 use Rattle.chain.specs.Drawing.{orNone}
 use Rattle.template.specs.Request.{tailPart}
+use Rattle.template.specs.Promise.{Whole}
 use Rattle.template.proofs.Placing.{TailFits}
 
 -- ---- a piece gives at most one row
@@ -91,3 +92,10 @@ tail-fits t r =
     let e : tailPart t ≡ r .part = ap orNone (r .is) in
     let f : PartFrom t (r .part) = part-from t (r .part) (r .is) in
     record { hangs = rw e (f .hangs); well = rw e (f .well); few = rw e (omega (arith, part-few t (r .part) f, r .few)) }
+
+-- its bytes are the part's, written
+pub tail-whole : (t : List ℕ) → TailReads t → Whole t (tailPart t)
+unfolding tailPart
+tail-whole t r =
+    let e : tailPart t ≡ r .part = ap orNone (r .is) in
+    record { reads = rw e (r .is); shown = rw e (part-from t (r .part) (r .is) .shown) }

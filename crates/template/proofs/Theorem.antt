@@ -11,7 +11,8 @@ use lib.Dec.{ltb}
 use borrow.Author.Tests.{leb-true, ltb-true}
 use Rattle.record.specs.Chain.{Chain}
 use Rattle.reading.specs.Ascii.{ascii}
-use Rattle.reading.specs.Lexer.{memb}
+use Rattle.reading.specs.Lexer.{memb, piecesOf}
+use Rattle.reading.specs.Piece.{show}
 use Rattle.reading.specs.Row.{Row}
 use Rattle.reading.specs.Molecule.{At, at, atomsOf, notesOf, look, variablesOf, Molecule, moleculeOf, setOf, sumKey}
 use Rattle.reading.specs.Line.{flat, below, distinct, rising, once}
@@ -32,19 +33,21 @@ use Rattle.chain.proofs.Accepted.{Drawable, first-one, drawn-most, carbon-most}
 use Rattle.chain.proofs.Atoms.{carbon-atoms-rise, carbon-atoms-count, atomsEnd-le}
 use Rattle.chain.proofs.Counts.{SumStands, Chosen, written-add-up}
 use Rattle.template.specs.declared.Class.{Class}
-use Rattle.template.specs.Template.{Element, elements, fewest, most as mostTokens, roleOf, hasTail}
-use Rattle.template.specs.Request.{Placed, placedFrom, placed, allMarks, allSites, allSums, bySn, headCarbons, indicesOf, snSites, labels, orNoRows, rowsDrawn, moleculeDrawn, textOf, lineOf}
-use Rattle.template.specs.Promise.{Each, bytesAt, variableAt, Listed, Choice, AddsUp, Promise}
+use Rattle.template.specs.declared.Class.the-variants.{Fa, Gl1, Gl2, Gl3, Gp, Cl, Sb, Sa}
+use Rattle.template.specs.Template.{Element, glycerol, elements, fewest, most as mostTokens, roleOf, hasTail}
+use Rattle.template.specs.Request.{Placed, fixedPieces, placedFrom, placed, allMarks, allSites, allSums, bySn, headCarbons, indicesOf, snSites, labels, orNoRows, rowsDrawn, moleculeDrawn, textOf, lineOf}
+use Rattle.template.specs.Promise.{Each, bytesAt, variableAt, labelAt, Listed, Choice, AddsUp, siteBy, sitesBy, JoinedIn, Stretch, starLists, Stars, marksIn, siteListsIn, Marked, OwnText, Grouped, Promise}
 use Rattle.template.proofs.Templates.{snsOf, isBase, hasBase, headed, Fitting, fitting}
 use Rattle.template.proofs.Rows.{Carbonic}
-use Rattle.template.proofs.Placing.{InRows, variablesTo, AcceptsFrom, accepts-at}
+use Rattle.template.proofs.Placing.{Strand, variablesTo, AcceptsFrom, accepts-at, anchors}
+use Rattle.template.proofs.Strands.{all-each, in-rows, stretch, sites-by, stars-stand, lists-starred, marks-stand, groups-whole}
 use Rattle.template.proofs.Whole.{Stands, stands}
 use Rattle.template.proofs.Text.{text-reads}
 use Rattle.template.proofs.Notes.{endOf, placing-within, placing-drawable, all-marks-rise, all-variables-rise, all-summed, all-sums-stand, variables-most, all-sites-rise, all-sites-within, all-sites-flat, all-sites-some, sn-sites-rise, own-marks, look-outside, marks-after, total-agrees, all-chosen, own-sums}
 use Rattle.template.proofs.Sorted.{sns-placed, headed-first, base-placed, length-placed, placed-apart, all-sorted, snOf, sorted-rise, site-notes-rise, sorted-sites-apart, sorted-sites-all}
-use Rattle.template.proofs.Tail.{TailReads, tail-fits}
+use Rattle.template.proofs.Tail.{TailReads, tail-fits, tail-whole}
 use Rattle.template.proofs.Listing.{chains-listed}
-use Rattle.template.proofs.Molecules.{bytes-at, variable-at, sums-in, set-all, all-set}
+use Rattle.template.proofs.Molecules.{bytes-at, variable-at, label-at, marks-in, lists-in, joined-in, sums-in, set-all, all-set}
 
 -- ---- what is accepted
 
@@ -54,10 +57,6 @@ pub record Accepted (c : Class) (t : List ℕ) (ds : List Chain) : Type 0 where
   pub many : length ds ≤ mostTokens c
   pub chains : AcceptsFrom (roleOf c) 1 ds
   pub tail : hasTail c ≡ true → TailReads t
-
-all-each : {A : Type 0} (P : A → Type 0) (l : List A) → All P l → Each P l
-all-each P [] h = tt
-all-each P (x ∷ l) h = (h .0, all-each P l (h .1))
 
 each-all : {A : Type 0} (P : A → Type 0) (l : List A) → Each P l → All P l
 each-all P [] h = tt
@@ -206,24 +205,25 @@ module _ (t : List ℕ) (ds : List Chain) (most : ℕ) (ρ : ℕ → Role) (tail
   record Known (p : Placed) : Type 0 where
     drawable : Drawable (p .role) (p .chain)
     ends : endOf p ≤ n
-    inside : InRows 0 (s .rows) p
+    inside : All (Carbonic 0 (s .rows)) (carbonAtoms (p .role) (p .chain) (p .first))
+    strand : Strand 0 (s .rows) p
     head : isBase (p .role) ≡ true → headed es ≡ true
     late : headed es ≡ true → 2 ≤ p .first
     marks : (i : ℕ) → p .first ≤ i → i < endOf p → look i (allMarks ps) ≡ look i (draw.marks (p .role) (p .chain) (p .first) (p .variable))
 
   known : All Known ps
   known =
-      go ps (placing-drawable 0 n 0 w ps (s .placing)) (placing-within 0 n 0 w ps (s .placing)) (s .carbons) headed-base (headed-first t ds es) (own-marks 0 n 0 w ps (s .placing))
+      go ps (placing-drawable 0 n 0 w ps (s .placing)) (placing-within 0 n 0 w ps (s .placing)) (s .strands) headed-base (headed-first t ds es) (own-marks 0 n 0 w ps (s .placing))
     where
       w : ℕ
       w = variablesTo ds 0 es
 
-      go : (qs : List Placed) → All (λ p. Drawable (p .role) (p .chain)) qs → All (λ p. (0 ≤ p .first) × (endOf p ≤ n)) qs → All (InRows 0 (s .rows)) qs
+      go : (qs : List Placed) → All (λ p. Drawable (p .role) (p .chain)) qs → All (λ p. (0 ≤ p .first) × (endOf p ≤ n)) qs → All (Strand 0 (s .rows)) qs
           → All (λ p. isBase (p .role) ≡ true → headed es ≡ true) qs → All (λ p. headed es ≡ true → 2 ≤ p .first) qs
           → All (λ p. (i : ℕ) → p .first ≤ i → i < endOf p → look i (allMarks ps) ≡ look i (draw.marks (p .role) (p .chain) (p .first) (p .variable))) qs → All Known qs
       go [] a b c d l e = tt
       go (q ∷ qs) a b c d l e =
-          (record { drawable = a .0; ends = b .0 .1; inside = c .0; head = d .0; late = l .0; marks = e .0 }, go qs (a .1) (b .1) (c .1) (d .1) (l .1) (e .1))
+          (record { drawable = a .0; ends = b .0 .1; inside = in-rows 0 (s .rows) q (a .0) (c .0); strand = c .0; head = d .0; late = l .0; marks = e .0 }, go qs (a .1) (b .1) (c .1) (d .1) (l .1) (e .1))
 
   module _ (swap : Bool) where
     -- the row of a carbon is its atom's in the molecule
@@ -242,7 +242,6 @@ module _ (t : List ℕ) (ds : List Chain) (most : ℕ) (ρ : ℕ → Role) (tail
     listed p k =
         let is : List ℕ = carbonAtoms (p .role) (p .chain) (p .first) in
         record {
-          carbons = refl;
           number = heads-number (p .role) is ∙ ap (λ (z : ℕ). firstDrawn (p .role) - 1 + z) (carbon-atoms-count (p .role) (p .chain) (p .first));
           once = heads-once (p .role) (p .first) (chainEnd (p .first) (carbons (p .role) (p .chain))) is (λ e. k .late (k .head e)) (carbon-atoms-rise (p .role) (p .chain) (p .first));
           each =
@@ -311,6 +310,38 @@ module _ (t : List ℕ) (ds : List Chain) (most : ℕ) (ρ : ℕ → Role) (tail
         (all-map {P = λ (p : Placed). Known p × All (Meets count) (draw.sums (p .role) (p .chain) (p .variable))} (λ p h. adds-up count m p (h .0) (h .1)) ps
         (all-both Known (λ p. All (Meets count) (draw.sums (p .role) (p .chain) (p .variable))) ps known (own-sums count ps m))))
 
+  -- ---- what the promise says of each chain among the rows
+
+  of-each : (P : Placed → Type 0) → ((p : Placed) → Known p → P p) → Each P ps
+  of-each P h = all-each P ps (all-map {P = Known} h ps known)
+
+  all-sites-by : snSites (bySn ps) ≡ sitesBy (bySn ps)
+  all-sites-by =
+      sites-by (bySn ps) (all-sorted (λ p. p .site ≡ siteBy (p .role) (p .first)) ps (all-map {P = Known} (λ p k. k .strand .site) ps known))
+
+  -- the labels of the molecule are the sites, or none
+  labels-are : (swap : Bool) (i : ℕ) → labelAt (drawnMolecule swap) i ≡ cond (swap && ltb 1 (length all-labels)) (look i all-labels) none
+  unfolding labels
+  labels-are swap i =
+      label-at (s .rows) (labels swap all-labels) (allMarks ps) (allSites ps) (allSums ps) i (below-all n (atomsOf (labels swap all-labels)) (cond-well (swap && ltb 1 (length all-labels)) .atoms))
+      ∙ go (swap && ltb 1 (length all-labels))
+    where
+      go : (b : Bool) → look i (cond b (snSites (bySn (placedFrom t ds 0 0 es))) []) ≡ cond b (look i (snSites (bySn (placedFrom t ds 0 0 es)))) none
+      go true = refl
+      go false = unfold look in refl
+
+  variables-apart : distinct (notesOf (allMarks ps)) ≡ true
+  variables-apart = let w : ℕ = variablesTo ds 0 es in rises-distinct 0 w (notesOf (allMarks ps)) (all-variables-rise 0 n 0 w ps (s .placing))
+
+  module _ (swap : Bool) where
+    marks-are : marksIn (drawnMolecule swap) ≡ allMarks ps
+    marks-are = marks-in (s .rows) (labels swap all-labels) (allMarks ps) (allSites ps) (allSums ps) (all-marks-rise 0 n 0 (variablesTo ds 0 es) ps (s .placing))
+
+    lists-are : siteListsIn (drawnMolecule swap) ≡ starLists ps
+    lists-are =
+        lists-in (s .rows) (labels swap all-labels) (allMarks ps) (allSites ps) (allSums ps) (all-sites-rise 0 n 0 (variablesTo ds 0 es) ps (s .placing))
+        ∙ lists-starred ps (placing-drawable 0 n 0 (variablesTo ds 0 es) ps (s .placing))
+
   sns-rise : Rises 1 5 (map snOf (bySn ps))
   sns-rise = sorted-rise 1 5 ps (omega arith) sns-within (placed-apart t ds 0 0 es (f .apart))
 
@@ -319,7 +350,19 @@ module _ (t : List ℕ) (ds : List Chain) (most : ℕ) (ρ : ℕ → Role) (tail
 -- its template is drawn
 pub drawn-request : (c : Class) (t : List ℕ) (ds : List Chain) → Accepted c t ds → Stands t ds (elements c)
 drawn-request c t ds a =
-    stands t ds (mostTokens c) (roleOf c) (hasTail c) (elements c) (fitting c) (accepts-at (roleOf c) ds (a .chains)) (λ e. tail-fits t (a .tail e))
+    stands t ds (mostTokens c) (roleOf c) (hasTail c) (elements c) (fitting c) (accepts-at (roleOf c) ds (a .chains)) (λ e. tail-fits t (a .tail e)) (anchors c t ds)
+
+-- the texts of the eight templates
+own-texts : (c : Class) → Each OwnText (elements c)
+unfolding elements glycerol fixedPieces piecesOf show
+own-texts Fa = ((refl, refl), (tt, tt))
+own-texts Gl1 = ((refl, refl), (tt, ((refl, refl), (tt, ((refl, refl), (tt, tt))))))
+own-texts Gl2 = ((refl, refl), (tt, ((refl, refl), (tt, ((refl, refl), (tt, tt))))))
+own-texts Gl3 = ((refl, refl), (tt, ((refl, refl), (tt, ((refl, refl), (tt, tt))))))
+own-texts Gp = ((refl, refl), (tt, ((refl, refl), (tt, ((refl, refl), (tt, tt))))))
+own-texts Cl = ((refl, refl), (tt, ((refl, refl), (tt, ((refl, refl), (tt, ((refl, refl), (tt, tt))))))))
+own-texts Sb = ((refl, refl), (tt, ((refl, refl), (tt, tt))))
+own-texts Sa = ((refl, refl), (tt, ((refl, refl), (tt, ((refl, refl), (tt, tt))))))
 
 -- ---- DEMAND 3
 
@@ -336,6 +379,19 @@ promise c swap t ds a =
       indices = rw same (all-listed t ds (mostTokens c) (roleOf c) (hasTail c) es f s swap);
       choice = rw same (chosen t ds (mostTokens c) (roleOf c) (hasTail c) es f s swap);
       carbons = rw same (all-add-up t ds (mostTokens c) (roleOf c) (hasTail c) es f s swap);
+      rows = rw same-rows (each (Stretch (s .rows)) (λ p k. stretch (s .rows) p (k .drawable) (k .strand)));
+      sites = all-sites-by t ds (mostTokens c) (roleOf c) (hasTail c) es f s;
+      joined = rw same (each (JoinedIn drawn) (λ p k. joined-in (s .rows) (labels swap (snSites (bySn ps))) (allMarks ps) (allSites ps) (allSums ps) p (k .drawable) (k .strand)));
+      labelled = rw (same, ← all-sites-by t ds (mostTokens c) (roleOf c) (hasTail c) es f s) (labels-are t ds (mostTokens c) (roleOf c) (hasTail c) es f s swap);
+      floats = rw same (lists-are t ds (mostTokens c) (roleOf c) (hasTail c) es f s swap);
+      stars = rw same-rows (each (Stars (s .rows)) (λ p k. stars-stand (s .rows) p (k .drawable) (k .strand)));
+      marks = rw same (marks-are t ds (mostTokens c) (roleOf c) (hasTail c) es f s swap);
+      marked = each Marked (λ p k. marks-stand p (k .drawable));
+      variables = variables-apart t ds (mostTokens c) (roleOf c) (hasTail c) es f s;
+      drawn = rw same-rows (s .is);
+      texts = own-texts c;
+      tail = λ e. tail-whole t (a .tail e);
+      groups = each Grouped (λ p k. groups-whole p (k .drawable));
     }
   where
     es : List Element
@@ -349,6 +405,15 @@ promise c swap t ds a =
 
     ps : List Placed
     ps = placedFrom t ds 0 0 (elements c)
+
+    each : (P : Placed → Type 0) → ((p : Placed) → Known t ds (mostTokens c) (roleOf c) (hasTail c) (elements c) (fitting c) s p → P p) → Each P ps
+    each = of-each t ds (mostTokens c) (roleOf c) (hasTail c) es f s
+
+    drawn : Molecule
+    drawn = moleculeOf (s .rows) (labels swap (snSites (bySn ps))) (allMarks ps) (allSites ps) (allSums ps)
+
+    same-rows : rowsDrawn c t ds ≡ s .rows
+    same-rows = ap orNoRows (s .is)
 
     same : moleculeDrawn c swap t ds ≡ moleculeOf (s .rows) (labels swap (snSites (bySn ps))) (allMarks ps) (allSites ps) (allSums ps)
     same = ap (λ (z : List Row). moleculeOf z (labels swap (snSites (bySn ps))) (allMarks ps) (allSites ps) (allSums ps)) (ap orNoRows (s .is))

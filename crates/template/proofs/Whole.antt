@@ -21,7 +21,7 @@ use Rattle.template.specs.Template.{Element, fixed, tail, slot, chain}
 use Rattle.template.specs.Request.{chainAt, fixedPieces, itemsOf, allItems, placedFrom}
 use Rattle.template.proofs.Templates.{Turn, no, to, turnAll, ends, Begins, begins, headed, mostAtoms, Fitting}
 use Rattle.template.proofs.Rows.{rowBytes, Carbonic}
-use Rattle.template.proofs.Placing.{Accepts, TailFits, Placing, InRows, Made, MadeTo, made-all, atomsTo, variablesTo}
+use Rattle.template.proofs.Placing.{Accepts, TailFits, Placing, Strand, Anchors, Made, MadeTo, made-all, atomsTo, variablesTo, atomTo, stackTo}
 
 -- ---- the first two atoms
 
@@ -60,7 +60,7 @@ pub record Stands (t : List ℕ) (ds : List Chain) (es : List Element) : Type 0 
   pub rows : List Row
   pub is : drawn (allItems t ds es) ≡ some rows
   pub placing : Placing 0 (length rows) 0 (variablesTo ds 0 es) (placedFrom t ds 0 0 es)
-  pub carbons : All (InRows 0 rows) (placedFrom t ds 0 0 es)
+  pub strands : All (Strand 0 rows) (placedFrom t ds 0 0 es)
   pub few : length rows ≤ 4000
   pub heads : headed es ≡ true → Carbonic 0 rows 0 × Carbonic 0 rows 1
 
@@ -70,19 +70,19 @@ whole-is rs n cur [] h = refl
 whole-is rs n cur (p ∷ stk) h = absurd (omega arith)
 
 pub stands : (t : List ℕ) (ds : List Chain) (most : ℕ) (ρ : ℕ → Role) (tailed : Bool) (es : List Element) → Fitting most ρ tailed es
-    → ((sn : ℕ) (d : Chain) → chainAt sn ds ≡ some d → Accepts (ρ sn) d) → (tailed ≡ true → TailFits t) → Stands t ds es
+    → ((sn : ℕ) (d : Chain) → chainAt sn ds ≡ some d → Accepts (ρ sn) d) → (tailed ≡ true → TailFits t) → Anchors t ds 0 0 [] es → Stands t ds es
 unfolding ends drawn
-stands t ds most ρ tailed es f accepts h =
-    go (turnAll es 0 fresh) (f .runs) (made-all t ds ρ accepts es (f .roles) (λ q. h (sym (f .tails) ∙ q)) 0 0 0 [] fresh)
+stands t ds most ρ tailed es f accepts h g =
+    go (turnAll es 0 fresh) (f .runs) (made-all t ds ρ accepts es (f .roles) (λ q. h (sym (f .tails) ∙ q)) 0 0 0 [] fresh g)
   where
-    made : Made (allItems t ds es) (placedFrom t ds 0 0 es) 0 0 0 [] fresh (atomsTo t ds 0 es) (variablesTo ds 0 es) (mostAtoms es) 0 after → Stands t ds es
+    made : Made (allItems t ds es) (placedFrom t ds 0 0 es) 0 0 0 [] fresh (atomsTo t ds 0 es) (variablesTo ds 0 es) (atomTo t ds 0 0 [] es) (stackTo t ds 0 0 [] es) (mostAtoms es) 0 after → Stands t ds es
     made m =
         let n : length (m .drawn .rows) ≡ atomsTo t ds 0 es = omega (arith, m .drawn .many) in
         record {
           rows = m .drawn .rows;
-          is = ap whole (m .drawn .does) ∙ whole-is (m .drawn .rows) (atomsTo t ds 0 es) (m .drawn .current) (m .drawn .stack) (m .drawn .deep);
+          is = ap whole (m .drawn .does) ∙ whole-is (m .drawn .rows) (atomsTo t ds 0 es) (atomTo t ds 0 0 [] es) (stackTo t ds 0 0 [] es) (m .drawn .deep);
           placing = rw n (m .placing);
-          carbons = m .carbons;
+          strands = m .strands;
           few = omega (arith, m .few, leb-true (mostAtoms es) 4000 (f .small));
           heads = λ q. carbonic (headed-carbons t ds es (m .drawn .rows) _ q (m .drawn .does));
         }
@@ -90,7 +90,7 @@ stands t ds most ρ tailed es f accepts h =
         carbonic : {rs : List Row} → TwoCarbons rs → Carbonic 0 rs 0 × Carbonic 0 rs 1
         carbonic c = (record { from = omega arith; is = c .zeroth }, record { from = omega arith; is = c .first })
 
-    go : (T : Turn) → ends T ≡ true → MadeTo (allItems t ds es) (placedFrom t ds 0 0 es) 0 0 0 [] fresh (atomsTo t ds 0 es) (variablesTo ds 0 es) (mostAtoms es) T → Stands t ds es
+    go : (T : Turn) → ends T ≡ true → MadeTo (allItems t ds es) (placedFrom t ds 0 0 es) 0 0 0 [] fresh (atomsTo t ds 0 es) (variablesTo ds 0 es) (atomTo t ds 0 0 [] es) (stackTo t ds 0 0 [] es) (mostAtoms es) T → Stands t ds es
     go no e m = absurd (false≢true e)
     go (to zero fresh) e m = absurd (false≢true e)
     go (to zero opened) e m = absurd (false≢true e)
