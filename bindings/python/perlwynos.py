@@ -3,7 +3,7 @@
 >>> import perlwynos
 >>> drawn = perlwynos.draw("GL1", ["2:0"])
 >>> drawn.line
-b'C(CO)(O)COC(=O)C'
+'C(CO)(O)COC(=O)C'
 >>> drawn.carbons, drawn.sites
 ({1: (6, 8)}, {1: 5})
 
@@ -96,8 +96,8 @@ class _Fixed(dict):
 class Drawn(NamedTuple):
     """An accepted request. Atoms are counted from 0, as they stand in the line."""
 
-    line: bytes
-    """The CXSMILES line."""
+    line: str
+    """The CXSMILES line, which is ASCII."""
     carbons: Dict[int, Tuple[int, ...]]
     """By the sn of each chain that has carbons: the atoms of these, from C1 on."""
     sites: Dict[int, int]
@@ -157,7 +157,7 @@ class _Rooms:
             start = end
         for at in range(_SITE, _SITE + 2 * report[_SITES], 2):
             sites[report[at]] = report[at + 1]
-        return Drawn(self.line[: report[_LENGTH]], _Fixed(carbons), _Fixed(sites))
+        return Drawn(self.line[: report[_LENGTH]].decode("ascii"), _Fixed(carbons), _Fixed(sites))
 
 
 # Rooms that no call is using. A call takes its rooms out and puts them back, so that no
@@ -175,6 +175,13 @@ def _bytes(text: Text, name: str) -> bytes:
     raise TypeError(f"{name} must be bytes or str, not {type(text).__name__}")
 
 
+def _flag(swap: Union[bool, int]) -> bool:
+    # A cell of a sheet is text, and "0" is true: whatever could be such a cell is no flag.
+    if isinstance(swap, int) and swap in (0, 1):
+        return bool(swap)
+    raise TypeError(f"swap must be a bool, 0 or 1, not {swap!r}")
+
+
 def draw(class_code: Text, tokens: Iterable[Text], tail: Text = b"", swap: bool = False) -> Drawn:
     """Draws one request, or raises `Refused`.
 
@@ -182,7 +189,7 @@ def draw(class_code: Text, tokens: Iterable[Text], tail: Text = b"", swap: bool 
     tokens      the chain names in the order of their sn, as "18:1(9Z)"; "0:0" leaves a
                 place without a chain
     tail        the head group's text, for the classes that have one
-    swap        whether the chains may be exchanged, which the line then says
+    swap        whether the chains may be exchanged, which the line then says: a bool, 0 or 1
 
     Texts are bytes or str; a str is passed on as its UTF-8 bytes. May be called from
     several threads at once.
@@ -191,6 +198,7 @@ def draw(class_code: Text, tokens: Iterable[Text], tail: Text = b"", swap: bool 
         raise TypeError("tokens must be a list of chain names, not one name")
     code = _bytes(class_code, "class_code")
     end = _bytes(tail, "tail")
+    flag = _flag(swap)
     names = [_bytes(token, f"token {place}") for place, token in enumerate(tokens, 1)]
     # The call has places for four; of a fifth it only needs to know that it is there.
     places = []
@@ -204,7 +212,7 @@ def draw(class_code: Text, tokens: Iterable[Text], tail: Text = b"", swap: bool 
     try:
         while True:
             number = _call(
-                code, len(code), bool(swap), end, len(end), len(names), *places,
+                code, len(code), flag, end, len(end), len(names), *places,
                 rooms.line, len(rooms.line), rooms.index, len(rooms.index), rooms.report,
             )
             if number == 0:

@@ -1,6 +1,9 @@
 """Tests of perlwynos.py: python3 -m unittest, in this folder, after ./build."""
 
+import csv
 import doctest
+import io
+import json
 import pathlib
 import pickle
 import re
@@ -30,28 +33,28 @@ def answer(class_code, tokens, tail=b"", swap=False):
         return b"%d\t%d\t\t" % (refused.number, refused.place), b""
     lists = (b"%d:%s" % (sn, b".".join(b"%d" % atom for atom in atoms)) for sn, atoms in drawn.carbons.items())
     sites = (b"%d:%d" % site for site in drawn.sites.items())
-    return b"0\t0\t%s\t%s" % (drawn.line, b";".join(lists)), b";".join(sites)
+    return b"0\t0\t%s\t%s" % (drawn.line.encode("ascii"), b";".join(lists)), b";".join(sites)
 
 
 class Accepted(unittest.TestCase):
     def test_worked_lines(self):
         self.assertEqual(
             draw("FA", ["6:1"]),
-            Drawn(b"OC(=O)CC=CC |Sg:n:3:a:ht,Sg:n:6:b:ht| constrain(a+b=3)", {1: (1, 3, 4, 5, 6)}, {1: 1}),
+            Drawn("OC(=O)CC=CC |Sg:n:3:a:ht,Sg:n:6:b:ht| constrain(a+b=3)", {1: (1, 3, 4, 5, 6)}, {1: 1}),
         )
-        self.assertEqual(draw("FA", ["5:0;OH"]), Drawn(b"OC(=O)CCCC.*O |m:7:3.4.5.6|", {1: (1, 3, 4, 5, 6)}, {1: 1}))
-        self.assertEqual(draw("SB", ["d6:0"], tail="O"), Drawn(b"C(CO)(N)C(O)CCC", {1: (1, 0, 4, 6, 7, 8)}, {}))
+        self.assertEqual(draw("FA", ["5:0;OH"]), Drawn("OC(=O)CCCC.*O |m:7:3.4.5.6|", {1: (1, 3, 4, 5, 6)}, {1: 1}))
+        self.assertEqual(draw("SB", ["d6:0"], tail="O"), Drawn("C(CO)(N)C(O)CCC", {1: (1, 0, 4, 6, 7, 8)}, {}))
 
     def test_several_chains(self):
         self.assertEqual(
             draw("GP", ["2:0", "2:0"], "O", swap=True),
-            Drawn(b"C(CO)(OC(=O)C)COC(=O)C |$;;;sn2;;;;;sn1$| swappable(sn1,sn2)", {1: (9, 11), 2: (4, 6)}, {1: 8, 2: 3}),
+            Drawn("C(CO)(OC(=O)C)COC(=O)C |$;;;sn2;;;;;sn1$| swappable(sn1,sn2)", {1: (9, 11), 2: (4, 6)}, {1: 8, 2: 3}),
         )
-        self.assertEqual(draw("GP", ["2:0", "2:0"], "O").line, b"C(CO)(OC(=O)C)COC(=O)C")
+        self.assertEqual(draw("GP", ["2:0", "2:0"], "O").line, "C(CO)(OC(=O)C)COC(=O)C")
 
     def test_a_place_without_a_chain(self):
-        self.assertEqual(draw("GL2", ["0:0", "2:0"]), Drawn(b"C(CO)(OC(=O)C)CO", {2: (4, 6)}, {2: 3}))
-        self.assertEqual(draw("GL1", ["0:0"]), Drawn(b"C(CO)(O)CO", {}, {}))
+        self.assertEqual(draw("GL2", ["0:0", "2:0"]), Drawn("C(CO)(OC(=O)C)CO", {2: (4, 6)}, {2: 3}))
+        self.assertEqual(draw("GL1", ["0:0"]), Drawn("C(CO)(O)CO", {}, {}))
 
     def test_str_and_bytes(self):
         drawn = draw("SA", ["d4:0", "2:0"], "O")
@@ -60,12 +63,20 @@ class Accepted(unittest.TestCase):
         self.assertEqual(draw("SA", iter(["d4:0", "2:0"]), "O"), drawn)
 
     def test_a_token_of_255_bytes(self):
-        self.assertEqual(draw("FA", ["2:0".ljust(255)]).line, b"OC(=O)C")
+        self.assertEqual(draw("FA", ["2:0".ljust(255)]).line, "OC(=O)C")
+
+    def test_a_line_in_csv_and_json(self):
+        line = draw("FA", ["18:1(9Z)"]).line
+        self.assertEqual(line, "OC(=O)CCCCCCC/C=C\\CCCCCCCC")
+        written = io.StringIO()
+        csv.writer(written).writerow([line])
+        self.assertEqual(written.getvalue(), line + "\r\n")
+        self.assertEqual(json.loads(json.dumps({"line": line}))["line"], line)
 
     def test_what_is_drawn_cannot_be_altered(self):
         drawn = draw("FA", ["2:0"])
         with self.assertRaises(AttributeError):
-            drawn.line = b""
+            drawn.line = ""
         for table in (drawn.carbons, drawn.sites):
             for alter in (
                 lambda t: t.__setitem__(1, ()),
@@ -92,13 +103,13 @@ class Rooms(unittest.TestCase):
         """Each of its 64 groups lists 254 sites."""
         drawn = draw("CL", self.LONG, swap=True)
         self.assertGreater(len(drawn.line), 65536)
-        self.assertTrue(drawn.line.endswith(b"| swappable(sn1,sn2,sn3,sn4)"))
+        self.assertTrue(drawn.line.endswith("| swappable(sn1,sn2,sn3,sn4)"))
         self.assertEqual([len(atoms) for atoms in drawn.carbons.values()], [255] * 4)
         atoms = [atom for listed in drawn.carbons.values() for atom in listed]
         self.assertEqual(len(set(atoms)), 4 * 255)
         # The room stays as large, and what was in it does not show.
         self.assertEqual([len(rooms.line) for rooms in perlwynos._unused], [131072])
-        self.assertEqual(draw("FA", ["2:0"]), Drawn(b"OC(=O)C", {1: (1, 3)}, {1: 1}))
+        self.assertEqual(draw("FA", ["2:0"]), Drawn("OC(=O)C", {1: (1, 3)}, {1: 1}))
 
     def test_lines_about_as_long_as_the_first_room(self):
         lengths = set()
@@ -106,14 +117,14 @@ class Rooms(unittest.TestCase):
             for groups in range(3, 7):
                 drawn = draw("FA", [f"{carbons}:0;(OH){groups}"])
                 lengths.add(len(drawn.line))
-                self.assertTrue(drawn.line.endswith(b"|"))
+                self.assertTrue(drawn.line.endswith("|"))
         self.assertLess(min(lengths), 4096)
         self.assertGreater(max(lengths), 4096)
 
     def test_rooms_that_start_with_one(self):
         with mock.patch.multiple(perlwynos, _LINE_ROOM=1, _INDEX_ROOM=1):
             drawn = draw("FA", ["255:0"])
-        self.assertEqual(drawn.line, b"OC(=O)" + 254 * b"C")
+        self.assertEqual(drawn.line, "OC(=O)" + 254 * "C")
         self.assertEqual(drawn.carbons[1], (1, *range(3, 257)))
 
     def test_a_call_within_a_call(self):
@@ -128,7 +139,7 @@ class Rooms(unittest.TestCase):
 
         with mock.patch.object(perlwynos._Rooms, "drawn", interrupted):
             outer = draw("FA", ["2:0"])
-        self.assertEqual(outer, Drawn(b"OC(=O)C", {1: (1, 3)}, {1: 1}))
+        self.assertEqual(outer, Drawn("OC(=O)C", {1: (1, 3)}, {1: 1}))
         self.assertEqual(within[1], draw("FA", ["9:0"]))
 
     def test_threads(self):
@@ -215,6 +226,17 @@ class Refusals(unittest.TestCase):
         for wrong in (("FA", "6:1"), ("FA", b"6:1"), ("FA", [None]), ("FA", [6]), (1, ["6:1"]), ("GP", ["6:1"], None)):
             with self.subTest(wrong=wrong):
                 self.assertRaises(TypeError, draw, *wrong)
+
+    def test_what_is_no_flag(self):
+        """A cell of a sheet is text, and `bool("0")` is true."""
+        plain, swapped = draw("GL2", ["2:0", "2:0"]), draw("GL2", ["2:0", "2:0"], swap=True)
+        self.assertNotIn("swappable", plain.line)
+        self.assertIn("swappable", swapped.line)
+        self.assertEqual(draw("GL2", ["2:0", "2:0"], swap=0), plain)
+        self.assertEqual(draw("GL2", ["2:0", "2:0"], swap=1), swapped)
+        for wrong in ("0", "1", "", b"0", b"1", None, 2, -1, 0.0, 1.0, [], "False"):
+            with self.subTest(swap=wrong):
+                self.assertRaises(TypeError, draw, "GL2", ["2:0", "2:0"], swap=wrong)
 
 
 class Header(unittest.TestCase):
