@@ -1,7 +1,8 @@
 /* Perlwynos: chain names of lipids to one CXSMILES line with the atom number of
  * every chain carbon. The library is target/staticlib/libcapi.a, written by
- * `rt staticlib capi` for x86-64 Linux; it allocates nothing, keeps nothing
- * between calls and may be called from several threads at once.
+ * `rt staticlib capi` for x86-64 Linux, or lib/libperlwynos.a of a release; it
+ * allocates nothing, keeps nothing between calls and may be called from several
+ * threads at once.
  */
 #ifndef PERLWYNOS_H
 #define PERLWYNOS_H
@@ -12,6 +13,8 @@
 #ifdef __cplusplus
 extern "C" {
 #endif
+
+#define PERLWYNOS_VERSION "0.2.0"
 
 /* How many numbers `report` must have room for, and where each stands in it.
  * A place that is not used holds 0.

@@ -1,12 +1,20 @@
-"""Tests of perlwynos.py: python3 -m unittest, in this folder, after ./build."""
+"""Tests of perlwynos: python3 -m unittest, in this folder, after ./build.
+
+What needs other files of the project is passed over where this folder was copied without them.
+"""
 
 import csv
 import doctest
+import importlib.util
 import io
 import json
+import os
 import pathlib
 import pickle
 import re
+import subprocess
+import sys
+import tempfile
 import threading
 import unittest
 from unittest import mock
@@ -14,14 +22,17 @@ from unittest import mock
 import perlwynos
 from perlwynos import Drawn, Refused, draw
 
-ROOT = pathlib.Path(__file__).resolve().parents[2]
+HERE = pathlib.Path(__file__).resolve().parent
+ROOT = HERE.parent.parent
 VECTORS = ROOT / "vectors"
+PROJECT = (ROOT / "include/perlwynos.h").exists()
+of_the_project = unittest.skipUnless(PROJECT, "the project is not at hand")
 
 
 def load_tests(_loader, tests, _pattern):
     tests.addTests(doctest.DocTestSuite(perlwynos))
-    for name in ("README.md", "bindings/python/README.md"):
-        tests.addTests(doctest.DocFileSuite(str(ROOT / name), module_relative=False))
+    for path in [HERE / "README.md"] + PROJECT * [ROOT / "README.md"]:
+        tests.addTests(doctest.DocFileSuite(str(path), module_relative=False))
     return tests
 
 
@@ -239,7 +250,16 @@ class Refusals(unittest.TestCase):
                 self.assertRaises(TypeError, draw, "GL2", ["2:0", "2:0"], swap=wrong)
 
 
-class Header(unittest.TestCase):
+@of_the_project
+class Project(unittest.TestCase):
+    """That the copies here of what the project says are true."""
+
+    def test_meanings(self):
+        _, *rows = (ROOT / "tools/sheet/answers.tsv").read_text(encoding="ascii").splitlines()
+        stated = {int(number): (meaning, mender) for number, meaning, mender in (row.split("\t") for row in rows)}
+        self.assertEqual((stated.pop(0), stated.pop(42)[1]), (("accepted", ""), "whoever made the sheet"))
+        self.assertEqual(perlwynos._MEANINGS, stated)
+
     def test_numbers(self):
         text = (ROOT / "include/perlwynos.h").read_text(encoding="ascii")
         stated = {name: int(number) for name, number in re.findall(r"PERLWYNOS(_[A-Z_]+) = (\d+)", text)}
@@ -251,6 +271,7 @@ class Header(unittest.TestCase):
         self.assertEqual(sorted(perlwynos._MEANINGS), sorted(stated.values()))
 
 
+@of_the_project
 class Vectors(unittest.TestCase):
     """All stored requests, and what the batch program prints for them."""
 
@@ -283,6 +304,36 @@ class Vectors(unittest.TestCase):
 
     def test_chains(self):
         self.run_over("chains")
+
+
+@of_the_project
+class Examples(unittest.TestCase):
+    """The examples on examples/orders.tsv, but for rows that only the batch program refuses."""
+
+    def run_over(self, name):
+        titles, *rows = (ROOT / "examples/orders.tsv").read_text(encoding="latin-1").split("\n")[:-1]
+        stored = (ROOT / "examples/orders.out").read_text(encoding="ascii").split("\n")[1:]
+        both = [(row, answer.split("\t")) for row, answer in zip(rows, stored) if answer[:3] not in ("41\t", "42\t")]
+        both = [(row, answer) for row, answer in both if row.isascii() and "\r" not in row]
+        with tempfile.TemporaryDirectory() as folder:
+            sheet = pathlib.Path(folder, "orders.tsv")
+            sheet.write_text("\n".join([titles, *(row for row, _ in both)]) + "\n", encoding="ascii")
+            environment = {**os.environ, "PYTHONPATH": os.pathsep.join(sys.path)}
+            found = subprocess.run(
+                [sys.executable, str(HERE / "examples" / name), str(sheet)],
+                stdout=subprocess.PIPE, check=True, env=environment, encoding="ascii",
+            ).stdout
+        written = list(csv.DictReader(io.StringIO(found, newline="")))
+        self.assertGreater(len(both), 200)
+        self.assertEqual([(row["answer"], row["line"]) for row in written], [(answer[0], answer[2]) for _, answer in both])
+        self.assertTrue(all((row["answer"] == "0") == (row["meaning"] == "") for row in written))
+
+    def test_csv(self):
+        self.run_over("orders_csv.py")
+
+    @unittest.skipUnless(importlib.util.find_spec("pandas"), "there is no pandas")
+    def test_pandas(self):
+        self.run_over("orders_pandas.py")
 
 
 if __name__ == "__main__":

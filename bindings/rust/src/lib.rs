@@ -20,9 +20,9 @@
 //! [`draw`] answers with vectors of its own. [`draw_into`] writes to slices that the
 //! caller lends, and allocates nothing.
 //!
-//! The crate calls `perlwynos_draw` of the static library libcapi.a. The build looks for
-//! this in the folder that the environment variable `PERLWYNOS_LIB` names, else in
-//! target/staticlib of the project.
+//! The crate calls `perlwynos_draw` of the static library. The build looks for this in the
+//! folder that the environment variable `PERLWYNOS_LIB` names, else in target/staticlib of
+//! the project or in lib of a release.
 
 #![deny(missing_docs, unsafe_op_in_unsafe_fn)]
 
@@ -180,7 +180,8 @@ impl Reason {
         }
     }
 
-    /// What is wrong, said of a token, which stands before it, or of the whole request.
+    /// What is wrong, said of a token, which stands before it, or of the whole request:
+    /// tools/sheet/answers.tsv of the project.
     const fn meaning(self) -> &'static str {
         match self {
             Reason::Unreadable => "cannot be read as a chain name",

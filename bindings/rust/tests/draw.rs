@@ -137,6 +137,22 @@ fn numbers_of_the_header() {
 }
 
 #[test]
+fn sentences_of_the_project() {
+    let rows: Vec<&str> = include_str!("../../../tools/sheet/answers.tsv").lines().skip(1).collect();
+    assert_eq!(rows.len(), Reason::ALL.len() + 2); // 0, and 42 of the batch program
+    for row in rows {
+        let cells: Vec<&str> = row.split('\t').collect();
+        let Some(reason) = Reason::from_number(cells[0].parse().unwrap()) else {
+            assert!(["0", "42"].contains(&cells[0]));
+            continue;
+        };
+        let token = cells[1].contains("{}").then_some(3);
+        let said = format!("refusal {}: {}; {} can mend it", cells[0], cells[1].replace("{}", "token 3"), cells[2]);
+        assert_eq!(Refusal { reason, token }.to_string(), said);
+    }
+}
+
+#[test]
 fn too_many_tokens() {
     for class in Class::ALL {
         refused(&Request::new(class, &[&b"2:0"[..]; 5]), 21, 0);

@@ -24,6 +24,8 @@ from typing import Dict, Iterable, NamedTuple, Tuple, Union
 
 __all__ = ["Drawn", "Refused", "draw"]
 
+__version__ = "0.2.0"
+
 Text = Union[bytes, str]
 
 # The places in a report, and the one refusal that is answered here: include/perlwynos.h.
@@ -39,7 +41,7 @@ _AUTHOR = "the author of the name"
 _PICKER = "whoever picked the template"
 _PROGRAM = "the calling program"
 
-# What each refusal says, of the token that `{}` stands for, and who can mend it.
+# What each refusal says, of the token that `{}` stands for, and who can mend it: tools/sheet/answers.tsv of the project.
 _MEANINGS = {
     11: ("{} cannot be read as a chain name", _AUTHOR),
     12: ("{} puts a group on C1 of an acyl chain, which is the carbonyl carbon", _AUTHOR),
@@ -61,18 +63,21 @@ class Refused(Exception):
     """A request that cannot be drawn.
 
     `number` is the number of the refusal, `place` the token that it concerns, from 1, or
-    0 where no token is meant. `mender` says who can put it right.
+    0 where no token is meant. `meaning` says what is wrong, `mender` who can put it right.
+
+    >>> Refused(14, 2).meaning
+    'token 2 has too few carbons for its double bonds without a position'
     """
 
     def __init__(self, number: int, place: int):
         super().__init__(number, place)
         self.number = number
         self.place = place
-        self.mender = _MEANINGS[number][1]
+        meaning, self.mender = _MEANINGS[number]
+        self.meaning = meaning.format(f"token {place}")
 
     def __str__(self) -> str:
-        meaning = _MEANINGS[self.number][0].format(f"token {self.place}")
-        return f"refusal {self.number}: {meaning}; {self.mender} can mend it"
+        return f"refusal {self.number}: {self.meaning}; {self.mender} can mend it"
 
 
 class _Fixed(dict):
@@ -193,6 +198,11 @@ def draw(class_code: Text, tokens: Iterable[Text], tail: Text = b"", swap: bool 
 
     Texts are bytes or str; a str is passed on as its UTF-8 bytes. May be called from
     several threads at once.
+
+    >>> draw("GP", ["2:0", "0:0"], tail="O").line
+    'C(CO)(O)COC(=O)C'
+    >>> draw("GL2", ["2:0", "2:0"], swap=True).line
+    'C(CO)(OC(=O)C)COC(=O)C |$;;;sn2;;;;;sn1$| swappable(sn1,sn2)'
     """
     if isinstance(tokens, (bytes, str)):
         raise TypeError("tokens must be a list of chain names, not one name")
