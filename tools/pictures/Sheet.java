@@ -216,10 +216,14 @@ class Line {
             }
         }
         List<String> floating = floating();
+        // What is alike is said once: the group with its sites, and how many there are.
+        Map<String, Integer> alike = new LinkedHashMap<>();
         int i = 0;
         for (int[] list : sites.values()) {
-            words.add(floating.get(i++) + " on one of " + sites(list));
+            alike.merge(floating.get(i++) + "\t" + sites(list), 1, Integer::sum);
         }
+        alike.forEach((group, count) -> words.add(
+                count == 1 ? group.replace("\t", " on one of ") : count + " " + group.replace("\t", ", each on one of ")));
         carbons.forEach((sn, atoms) -> words.add(carbons(sn, atoms)));
         return words;
     }
@@ -255,10 +259,13 @@ class Line {
                     }
                 }
             }
-            if (!places.isEmpty() || later) {
-                String named = places.isEmpty() ? "the carbons" : ranges(places, "C");
-                String behind = !later ? "" : places.isEmpty() ? " from the first repeat on" : " and the carbons from the first repeat on";
-                return named + behind + (carbons.size() > 1 ? " of sn" + chain.getKey() : "");
+            String of = carbons.size() > 1 ? " of sn" + chain.getKey() : "";
+            if (!places.isEmpty()) {
+                String behind = " and " + (of.isEmpty() ? "the" : "its") + " carbons from the first repeat on";
+                return ranges(places, "C") + of + (later ? behind : "");
+            }
+            if (later) {
+                return "the carbons" + of + " from the first repeat on";
             }
         }
         return "atoms " + ranges(Arrays.stream(list).boxed().toList(), "");
