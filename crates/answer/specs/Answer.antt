@@ -11,7 +11,8 @@ use Rattle.record.specs.Chain.{Chain}
 use Rattle.reading.specs.Molecule.{At, at}
 use Rattle.shown.specs.declared.Site.{Site}
 use Rattle.template.specs.declared.Class.{Class}
-use Rattle.template.specs.Request.{placed, bySn, snSites, lineOf, indexOf}
+use Rattle.template.specs.Drawn.{placed, bySn, snSites}
+use Rattle.template.specs.Written.{lineOf, indexOf}
 use Rattle.listing.specs.declared.Listed.{Listed}
 use Rattle.listing.specs.declared.Lists.{Lists}
 use Rattle.sn_sites.specs.declared.Sites.{Sites}

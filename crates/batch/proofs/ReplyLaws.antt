@@ -12,11 +12,14 @@ use borrow.Author.Tests.{ltb-false}
 use Rattle.emit.specs.Text.{Written}
 use Rattle.record.specs.Chain.{Chain}
 use Rattle.template.specs.declared.Class.{Class}
-use Rattle.template.specs.Request.{Placed, placed, insertBySn, bySn, indicesOf, allIndices, indexOf, lineOf}
+use Rattle.template.specs.Drawn.{Placed, placed, bySn}
+use Rattle.template.specs.Written.{indicesOf, allIndices, indexOf, lineOf}
 use Rattle.judge.specs.Verdict.{Verdict, Refused, Drawable, verdict, tokens}
 use Rattle.listing.specs.declared.Listed.{Listed}
 use Rattle.listing.specs.Four.{four}
 use Rattle.listing.specs.Lists.{noList, listOf}
+use Rattle.template.proofs.Sorted.{length-sorted}
+use Rattle.rising.proofs.FourLaws.{four-held}
 use Rattle.listing.proofs.PlacedLaws.{places-few}
 use Rattle.answer.specs.declared.Answer.{Answer}
 use Rattle.forward.specs.Answer.{refusal, acceptance, short, answerTo, atStart, lineAfter, indexAfter, Answers}
@@ -50,24 +53,6 @@ carbons-told [] rest = refl
 carbons-told (p ∷ ps) rest =
     rw (append-assoc (indicesOf p) (allIndices ps) rest, take-append-seam (indicesOf p) (allIndices ps ++ rest), drop-append-seam (indicesOf p) (allIndices ps ++ rest), carbons-told ps rest)
 
-four-held : (l : List Listed) → length l ≤ 4 → take (length l) (four noList l) ≡ l
-unfolding four
-four-held l h = take-take (length l) 4 (l ++ replicate 4 noList) h ∙ take-append-seam l (replicate 4 noList)
-
-length-insert : (p : Placed) (ps : List Placed) → length (insertBySn p ps) ≡ suc (length ps)
-unfolding insertBySn
-length-insert p [] = refl
-length-insert p (q ∷ qs) = go (leb (p .sn) (q .sn)) (length-insert p qs)
-  where
-    go : (b : Bool) → length (insertBySn p qs) ≡ suc (length qs) → length (cond b (p ∷ q ∷ qs) (q ∷ insertBySn p qs)) ≡ suc (suc (length qs))
-    go true e = refl
-    go false e = ap suc e
-
-pub length-sorted : (ps : List Placed) → length (bySn ps) ≡ length ps
-unfolding bySn
-length-sorted [] = refl
-length-sorted (p ∷ ps) = length-insert p (bySn ps) ∙ ap suc (length-sorted ps)
-
 chains-told : (c : Class) (t : List ℕ) (ds : List Chain) (rest : List ℕ)
     → carbonsOf (take (length (map listOf (bySn (placed c t ds)))) (four noList (map listOf (bySn (placed c t ds))))) (indexOf c t ds ++ rest)
     ≡ map carbonsIn (bySn (placed c t ds))
@@ -75,7 +60,7 @@ unfolding indexOf
 chains-told c t ds rest =
     let ps = bySn (placed c t ds) in
     let few : length (map listOf ps) ≤ 4 = omega (arith, length-map ps listOf, length-sorted (placed c t ds), places-few c t ds) in
-    rw (four-held (map listOf ps) few) (carbons-told ps rest)
+    rw (four-held noList (map listOf ps) few) (carbons-told ps rest)
 
 -- ---- the reply
 

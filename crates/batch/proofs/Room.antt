@@ -13,8 +13,9 @@ use Rattle.record.specs.Chain.{Chain}
 use Rattle.reading.specs.Parting.{joined}
 use Rattle.reading.proofs.PartingLaws.{All}
 use Rattle.template.specs.declared.Class.{Class}
-use Rattle.template.specs.Request.{Placed, placed, bySn, indicesOf, allIndices, indexOf, lineOf}
-use Rattle.template.proofs.Sorted.{all-sorted}
+use Rattle.template.specs.Drawn.{Placed, placed, bySn}
+use Rattle.template.specs.Written.{indicesOf, allIndices, indexOf, lineOf}
+use Rattle.template.proofs.Sorted.{all-sorted, length-sorted}
 use Rattle.template.proofs.Theorem.{Accepted, indices-small}
 use Rattle.placed.proofs.Ready.{sns-few}
 use Rattle.judge.specs.Verdict.{Verdict, Refused, Drawable, verdict, isRefusal}
@@ -31,7 +32,7 @@ use Rattle.tally.specs.Counts.{answers}
 use Rattle.heads.proofs.Room.{digits-few, total, joined-total, numbers-total, row-length}
 use Rattle.beginning.specs.Beginning.{refused, replyText}
 use Rattle.batch.specs.Reply.{carbonsIn, accepted, lineRoom, replyTo, replyOf}
-use Rattle.batch.proofs.ReplyLaws.{length-sorted, either-left, either-right}
+use Rattle.batch.proofs.ReplyLaws.{either-left, either-right}
 use Rattle.batch.proofs.Tallied.{refusal-small}
 
 -- ---- the chains

@@ -8,7 +8,7 @@ use mathlib.Core.List.{List, [], _∷_, _++_, map, append-assoc, append-nil}
 use lib.ListN.{length, drop, length-append, length-drop}
 use lib.Dec.{ltb}
 use borrow.Author.Tests.{ltb-false}
-use Rattle.template.specs.Request.{lineOf, indexOf}
+use Rattle.template.specs.Written.{lineOf, indexOf}
 use Rattle.judge.specs.Verdict.{Verdict, Refused, Drawable, verdict}
 use Rattle.forward.specs.Answer.{short, atStart}
 use Rattle.form.specs.Parts.{partsAt}

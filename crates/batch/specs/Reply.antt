@@ -8,7 +8,8 @@ use lib.ListN.{length, take}
 use Rattle.emit.specs.Text.{Written}
 use Rattle.record.specs.Chain.{Chain}
 use Rattle.template.specs.declared.Class.{Class}
-use Rattle.template.specs.Request.{Placed, placed, bySn, indicesOf, indexOf, lineOf}
+use Rattle.template.specs.Drawn.{Placed, placed, bySn}
+use Rattle.template.specs.Written.{indicesOf, indexOf, lineOf}
 use Rattle.judge.specs.Verdict.{Verdict, Refused, Drawable, verdict}
 use Rattle.answer.specs.declared.Answer.{Answer}
 use Rattle.forward.specs.Answer.{short, atStart}

@@ -12,7 +12,7 @@ use Rattle.emit.proofs.Laws.{written-nil, written-append}
 use Rattle.reading.specs.Molecule.{At}
 use Rattle.reading.specs.Show.{labelBlocks, swapTexts, blockTexts, trailerTexts}
 use Rattle.chain.specs.Drawing.{markList, siteLists}
-use Rattle.template.specs.Request.{labels}
+use Rattle.template.specs.Drawn.{labels}
 use Rattle.shown.specs.declared.Site.{Site}
 use Rattle.shown.specs.Chained.{shown, stillFirst, blocksEnd}
 use Rattle.shown.specs.Notes.{labelsOf, sumList}

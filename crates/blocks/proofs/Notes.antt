@@ -13,7 +13,7 @@ use Rattle.emit.proofs.Laws.{written-append}
 use Rattle.reading.specs.Molecule.{At, at, Sum, notesOf}
 use Rattle.reading.specs.Line.{below}
 use Rattle.reading.specs.Show.{showMark, showSites, showSum, labelBlocks, swapTexts, blockTexts, trailerTexts, showLine}
-use Rattle.template.specs.Request.{labels}
+use Rattle.template.specs.Drawn.{labels}
 use Rattle.shown.specs.declared.Site.{Site}
 use Rattle.shown.specs.Chained.{shownBlocks, shownParts, blocksEnd}
 use Rattle.shown.specs.Notes.{labelsOf, Digits}

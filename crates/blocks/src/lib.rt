@@ -11,7 +11,7 @@ ghost use Prim.Native.Nat.{_≤_};
 ghost use lib.ListN.{take};
 ghost use Rattle.emit.specs.Text.{Written};
 ghost use Rattle.reading.specs.Show.{labelBlocks, swapTexts, blockTexts, trailerTexts};
-ghost use Rattle.template.specs.Request.{labels};
+ghost use Rattle.template.specs.Drawn.{labels};
 ghost use Rattle.shown.specs.Chained.{shownParts};
 ghost use Rattle.shown.specs.Notes.{labelsOf, Digits};
 ghost use Rattle.placed.specs.Notes.{chainsIn};

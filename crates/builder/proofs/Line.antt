@@ -17,7 +17,7 @@ use Rattle.reading.specs.Line.{below}
 use Rattle.reading.proofs.PartingLaws.{and-left, and-right}
 use Rattle.shown.specs.declared.Site.{Site}
 use Rattle.shown.specs.Notes.{labelsOf, Digits}
-use Rattle.template.specs.Request.{labels}
+use Rattle.template.specs.Drawn.{labels}
 use Rattle.placed.specs.Notes.{chainsIn}
 use Rattle.sn_sites.specs.declared.Sites.{Sites}
 use Rattle.blocks.specs.Marks.{marksIn, sumsIn}

@@ -28,8 +28,9 @@ use Rattle.shapes.proofs.Sn.{chain-there}
 use Rattle.branches.specs.Text.{rowsIn}
 use Rattle.atoms.proofs.NumberLaws.{atoms-end-shift}
 use Rattle.template.specs.Template.{slot, chain as bare}
-use Rattle.template.specs.Request as request
-use Rattle.template.specs.Request.{nonempty, siteOf, indicesOf, place, atomsAfter, variablesAfter, chainItem, slotOxygen, itemsOf}
+use Rattle.template.specs.Drawn as request
+use Rattle.template.specs.Drawn.{nonempty, siteOf, place, atomsAfter, variablesAfter, chainItem, slotOxygen, itemsOf}
+use Rattle.template.specs.Written.{indicesOf}
 use Rattle.template.specs.Built.{chainIn, labelsAfter, elementAtoms, elementVariables, elementLabels, elementPlaced}
 use Rattle.builder.specs.declared.Atoms.{Atoms}
 use Rattle.builder.specs.declared.Variables.{Variables}

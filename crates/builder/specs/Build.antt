@@ -16,8 +16,8 @@ use Rattle.drawable.specs.Drawn.{Drawn}
 use Rattle.drawable.specs.Chains.{Chains}
 use Rattle.shapes.specs.Sn.{ChainAt}
 use Rattle.template.specs.Template.{Element, slot, chain}
-use Rattle.template.specs.Request as request
-use Rattle.template.specs.Request.{nonempty, place, atomsAfter, variablesAfter, chainItem, itemsOf}
+use Rattle.template.specs.Drawn as request
+use Rattle.template.specs.Drawn.{nonempty, place, atomsAfter, variablesAfter, chainItem, itemsOf}
 use Rattle.template.specs.Built.{labelsAfter, elementAtoms, elementVariables, elementLabels, elementPlaced}
 use Rattle.placed.specs.declared.Placed.{Placed}
 use Rattle.placed.specs.Notes.{chainsIn}

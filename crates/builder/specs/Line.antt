@@ -5,7 +5,7 @@ use mathlib.Core.Bool.{Bool}
 use mathlib.Core.List.{List}
 use lib.ListN.{length, take}
 use Rattle.emit.specs.Text.{Written}
-use Rattle.template.specs.Request.{labels}
+use Rattle.template.specs.Drawn.{labels}
 use Rattle.shown.specs.declared.Site.{Site}
 use Rattle.shown.specs.Notes.{labelsOf, Digits}
 use Rattle.placed.specs.declared.Placed.{Placed}

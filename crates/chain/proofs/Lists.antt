@@ -9,10 +9,20 @@ use mathlib.Core.List.{List, [], _∷_, _++_, map}
 use lib.ListN.{length, getD, set, drop}
 use lib.Dec.{eqb, ltb}
 use borrow.Author.Tests.{eqb-true, eqb-false, eq-eqb, ne-eqb, lt-ltb}
-use Rattle.chain.specs.Lists.{anyOf, only, valuesFrom, largest}
+use Rattle.chain.specs.Lists.{anyOf, Each, only, valuesFrom, largest}
 use Rattle.reading.specs.Lexer.{memb}
 use Rattle.reading.specs.Line.{distinct, times, rising}
 use Rattle.reading.proofs.PartingLaws.{All, all-map, and-both}
+
+-- ---- what holds of every element
+
+pub all-each : {A : Type 0} (P : A → Type 0) (l : List A) → All P l → Each P l
+all-each P [] h = tt
+all-each P (x ∷ l) h = (h .0, all-each P l (h .1))
+
+pub each-all : {A : Type 0} (P : A → Type 0) (l : List A) → Each P l → All P l
+each-all P [] h = tt
+each-all P (x ∷ l) h = (h .0, each-all P l (h .1))
 
 -- ---- tests
 

@@ -18,7 +18,7 @@ use Rattle.reading.specs.Molecule.{At, at, Sum, sum}
 use Rattle.chain.specs.declared.Role.{Role}
 use Rattle.chain.specs.Lists.{only, valuesFrom}
 use Rattle.chain.specs.Features.{firstDrawn, isAcyl, groupsOn, floating, literalEnd, remaining, siteSkip}
-use Rattle.chain.specs.Bonds.{bridged, bondAt, markOf}
+use Rattle.chain.specs.Bonds.{double, bridged, bondAt, markOf}
 
 -- ---- the atoms
 
@@ -66,7 +66,7 @@ bare m = record { before = m; parts = []; bridge = false }
 -- so many `C=C`
 unfoldable pub pairs : ℕ → List reading.Carbon
 pairs zero = []
-pairs (suc n) = bare 0 ∷ bare 61 ∷ pairs n
+pairs (suc n) = bare 0 ∷ bare double ∷ pairs n
 
 -- "Then any mark, `C`, n−1 `C=C`, `C=CC`": a carbon, n times `C=C`, a carbon
 unfoldable pub flexible : ℕ → ℕ → List reading.Carbon

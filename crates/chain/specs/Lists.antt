@@ -1,4 +1,4 @@
--- Lists: tests over their elements, and the values of a function at numbers that follow one another. Assumes nothing.
+-- Lists: tests over their elements, what holds of each, and the values of a function at numbers that follow one another. Assumes nothing.
 use Prim.Native.Nat.{ℕ, zero, suc, max}
 use mathlib.Core.Bool.{Bool, true, false, cond, _||_, _&&_}
 use mathlib.Core.List.{List, [], _∷_}
@@ -12,6 +12,11 @@ anyOf test (a ∷ l) = test a || anyOf test l
 unfoldable pub allOf : {A : Type 0} → (A → Bool) → List A → Bool
 allOf test [] = true
 allOf test (a ∷ l) = test a && allOf test l
+
+-- every element has a property
+abbrev pub Each : {A : Type 0} → (A → Type 0) → List A → Type 0
+Each P [] = Unit {0}
+Each P (a ∷ l) = P a × Each P l
 
 -- the elements that pass a test, in order
 unfoldable pub only : {A : Type 0} → (A → Bool) → List A → List A

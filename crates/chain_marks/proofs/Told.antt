@@ -7,14 +7,13 @@ use mathlib.Core.List.{List, [], _∷_, _++_, map}
 use lib.Dec.{eqb}
 use borrow.Author.Tests.{ne-eqb}
 use Rattle.reading.specs.Molecule.{At, Sum}
-use Rattle.chain.specs.Lists.{valuesFrom}
+use Rattle.chain.specs.Lists.{valuesFrom, Each}
 use Rattle.chain.specs.Features.{remaining}
 use Rattle.chain.specs.Drawing.{markList}
 use Rattle.chain.specs.Drawing as draw
 use Rattle.atoms.proofs.NumberLaws.{flexible-atom-shift}
-use Rattle.template.specs.Request as request
-use Rattle.template.specs.Request.{allMarks, allSums}
-use Rattle.template.specs.Promise.{Each}
+use Rattle.template.specs.Drawn as request
+use Rattle.template.specs.Drawn.{allMarks, allSums}
 use Rattle.shown.specs.Notes.{sumList}
 use Rattle.shown.proofs.Chained.{sums-are}
 use Rattle.placed.specs.Fragment.{noted, gathered, Told}

@@ -20,7 +20,7 @@ use Rattle.ramps.specs.Index.{inRoom}
 use Rattle.loads.specs.Counts.{Counts}
 use Rattle.shown.specs.Chained.{shown}
 use Rattle.shown.proofs.Chained.{still-one}
-use Rattle.template.specs.Request.{headCarbons}
+use Rattle.template.specs.Written.{headCarbons}
 use Rattle.placed.specs.declared.Placed.{Placed}
 use Rattle.placed.specs.Notes.{nowhere, chainsIn}
 use Rattle.placed.specs.Fragment.{summed}

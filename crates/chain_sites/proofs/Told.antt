@@ -14,9 +14,10 @@ use Rattle.chain.specs.Drawing.{branchPart, branches, siteLists, siteAtoms, car
 use Rattle.chain.specs.Drawing as draw
 use Rattle.ramps.proofs.IndexLaws.{room-is}
 use Rattle.atoms.proofs.NumberLaws.{chain-end-shift}
-use Rattle.template.specs.Request as request
-use Rattle.template.specs.Request.{headCarbons, indicesOf, allSites}
-use Rattle.template.specs.Promise.{Each}
+use Rattle.template.specs.Drawn as request
+use Rattle.template.specs.Written.{headCarbons, indicesOf}
+use Rattle.template.specs.Drawn.{allSites}
+use Rattle.chain.specs.Lists.{Each}
 use Rattle.placed.specs.Fragment.{noted, rowsOf, gathered, Told}
 use Rattle.placed.proofs.Laws.{row-count}
 use Rattle.chain_sites.specs.Sites.{siteListsOf, siteListsIn}

@@ -5,7 +5,7 @@ use mathlib.Core.List.{List, [], _∷_, _++_, map}
 use lib.ListN.{length, take, drop}
 use Rattle.reading.specs.Molecule.{At}
 use Rattle.chain.specs.Drawing.{branchPart, siteLists}
-use Rattle.template.specs.Request.{headCarbons}
+use Rattle.template.specs.Written.{headCarbons}
 use Rattle.placed.specs.declared.Placed.{Placed}
 use Rattle.ramps.specs.Index.{inRoom}
 

@@ -14,7 +14,7 @@ ghost use lib.ListN.{length, take, drop};
 ghost use Rattle.reading.specs.Molecule.{at as noted};
 ghost use Rattle.reading.specs.Show.{showSites};
 ghost use Rattle.chain.specs.Drawing.{branchPart, siteLists};
-ghost use Rattle.template.specs.Request.{headCarbons};
+ghost use Rattle.template.specs.Written.{headCarbons};
 ghost use Rattle.placed.specs.Notes.{chainsIn};
 ghost use Rattle.chain_marks.specs.Put.{PutBlocks};
 ghost use Rattle.loads.specs.Counts.{Counts};

@@ -14,7 +14,8 @@ use Rattle.reading.specs.Molecule.{at}
 use Rattle.shown.specs.declared.Site.{Site}
 use Rattle.shown.specs.Notes.{labelsOf}
 use Rattle.template.specs.declared.Class.{Class}
-use Rattle.template.specs.Request.{placed, bySn, snSites, lineOf, indexOf}
+use Rattle.template.specs.Drawn.{placed, bySn, snSites}
+use Rattle.template.specs.Written.{lineOf, indexOf}
 use Rattle.placed.specs.declared.Placed.{Placed}
 use Rattle.placed.specs.Fragment.{noted}
 use Rattle.placed.proofs.Ready.{sns-few}

@@ -11,13 +11,14 @@ use Rattle.record.specs.Chain.{Chain}
 use Rattle.drawable.specs.Chains.{Chains}
 use Rattle.shapes.specs.Shapes.{chainsKept}
 use Rattle.template.specs.declared.Class.{Class}
-use Rattle.template.specs.Request.{placed, indicesOf, indexOf}
+use Rattle.template.specs.Drawn.{placed}
+use Rattle.template.specs.Written.{indicesOf, indexOf}
 use Rattle.builder.specs.Build.{rooms}
 use Rattle.placed.specs.Notes.{chainsIn}
 use Rattle.placed.specs.Fragment.{gathered}
 use Rattle.rising.specs.Order.{placesIn}
 use Rattle.listing.specs.declared.Lists.{Lists}
-use Rattle.listing.proofs.PlacedLaws.{all-each}
+use Rattle.chain.proofs.Lists.{all-each}
 use Rattle.listing.specs.Lists.{listsAt, ListsHeld}
 use Rattle.indices.specs.Index.{indicesAt}
 use Rattle.lines.specs.declared.Line.{Line}

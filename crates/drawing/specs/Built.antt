@@ -7,7 +7,8 @@ use lib.ListN.{take}
 use Rattle.emit.specs.Text.{Written}
 use Rattle.record.specs.Chain.{Chain}
 use Rattle.template.specs.declared.Class.{Class}
-use Rattle.template.specs.Request.{placed, indicesOf, lineOf}
+use Rattle.template.specs.Drawn.{placed}
+use Rattle.template.specs.Written.{indicesOf, lineOf}
 use Rattle.placed.specs.declared.Placed.{Placed}
 use Rattle.placed.specs.Fragment.{noted, gathered}
 use Rattle.rising.specs.declared.Rising.{Rising}

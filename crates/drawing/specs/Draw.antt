@@ -6,7 +6,8 @@ use lib.ListN.{length}
 use Rattle.record.specs.Chain.{Chain}
 use Rattle.drawable.specs.Chains.{Chains}
 use Rattle.template.specs.declared.Class.{Class}
-use Rattle.template.specs.Request.{placed, indicesOf}
+use Rattle.template.specs.Drawn.{placed}
+use Rattle.template.specs.Written.{indicesOf}
 use Rattle.placed.specs.Fragment.{gathered}
 use Rattle.judge.specs.Verdict.{Drawable}
 use Rattle.answer.specs.declared.Answer.{Answer}

@@ -4,22 +4,29 @@ use Prim.Native.Nat.{ℕ, zero, suc, _+_, _≤_, _<_}
 use native.Mathlib.Omega.{arith}
 use mathlib.Core.Path.{_≡_, refl, sym, ap, _∙_, subst}
 use mathlib.Core.Bool.{Bool, true, false, cond, not, false≢true}
-use mathlib.Core.List.{List, [], _∷_, _++_}
-use lib.ListN.{length, take, drop}
+use mathlib.Core.List.{List, [], _∷_, _++_, map}
+use lib.ListN.{length, take, drop, length-map}
 use borrow.Author.Tests.{not-false}
 use Rattle.record.specs.Chain.{Chain}
 use Rattle.tail.specs.Grammar.{isTail}
 use Rattle.shapes.specs.Shapes.{chainsKept}
 use Rattle.template.specs.declared.Class.{Class}
 use Rattle.template.specs.Template.{hasTail}
-use Rattle.template.specs.Request.{lineOf, indexOf}
+use Rattle.template.specs.Drawn.{placed, bySn, snSites}
+use Rattle.template.specs.Written.{lineOf, indexOf}
+use Rattle.template.specs.Promise.{Promise}
+use Rattle.template.proofs.Sorted.{length-sorted, sites-count}
+use Rattle.rising.proofs.FourLaws.{four-held}
+use Rattle.listing.specs.Sites.{noSite}
+use Rattle.listing.specs.Lists.{noList, listOf}
+use Rattle.listing.proofs.PlacedLaws.{places-few}
 use Rattle.template.proofs.Theorem.{promise}
 use Rattle.judge.specs.declared.Judged.{Judged}
 use Rattle.judge.specs.Judged.{JudgedIs}
 use Rattle.judge.specs.Verdict.{Verdict, Refused, Drawable, wrongTail, verdict, tokens}
 use Rattle.judge.proofs.Accepted.{judged-accepted, judged-fits, answer-drawable, answer-refused}
 use Rattle.answer.specs.declared.Answer.{Answer}
-use Rattle.answer.specs.Answer.{refusal, acceptance, short, answerTo, atStart, lineAfter, indexAfter, Answers}
+use Rattle.answer.specs.Answer.{siteOf, refusal, acceptance, short, answerTo, atStart, lineAfter, indexAfter, Answers}
 use Rattle.drawing.specs.Draw.{ChainsDrawn}
 use Rattle.forward.specs.Call.{Kept, Called}
 use Rattle.forward.proofs.Ready.{ready}
@@ -60,16 +67,21 @@ module _ (class t : List ℕ) (count : ℕ) (sn1 sn2 sn3 sn4 : List ℕ) where
   unfolding acceptance
   kept-by c ds swap xs is ys js a e h z =
       let room : short c swap t ds (length xs) (length is) ≡ false = number-of (short c swap t ds (length xs) (length is)) c swap t ds (sym (ap (λ (x : Answer). x .number) (h .answer)) ∙ z) in
-      let long : a .length ≡ length (lineOf c swap t ds) = ap (λ (x : Answer). x .length) (rw room at (h .answer)) in
+      let is-accepted : a ≡ acceptance c swap t ds = rw room at (h .answer) in
+      let long : a .length ≡ length (lineOf c swap t ds) = ap (λ (x : Answer). x .length) is-accepted in
       let line : ys ≡ atStart (lineOf c swap t ds) xs = rw room at (h .line) in
       let index : js ≡ atStart (indexOf c t ds) is = rw room at (h .index) in
+      let promised : Promise c swap t ds = promise c swap t ds (judged-accepted class t count sn1 sn2 sn3 sn4 c ds e) in
+      let few : length (bySn (placed c t ds)) ≤ 4 = omega (arith, length-sorted (placed c t ds), places-few c t ds) in
       record {
         class = c;
         chains = ds;
         judged = e;
         line = rw (long, line) (start-taken (lineOf c swap t ds) xs);
         lists = rw index (start-taken (indexOf c t ds) is);
-        promise = promise c swap t ds (judged-accepted class t count sn1 sn2 sn3 sn4 c ds e);
+        listed = rw is-accepted (four-held noList (map listOf (bySn (placed c t ds))) (omega (arith, length-map (bySn (placed c t ds)) listOf, few)));
+        sites = rw (is-accepted, ← promised .sites) (four-held noSite (map siteOf (snSites (bySn (placed c t ds)))) (omega (arith, length-map (snSites (bySn (placed c t ds))) siteOf, sites-count (bySn (placed c t ds)), few)));
+        promise = promised;
       }
 
   right-tail : (c : Class) (ds : List Chain) → v ≡ Drawable c ds → hasTail c ≡ true → isTail t ≡ true

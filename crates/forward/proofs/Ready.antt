@@ -14,7 +14,7 @@ use Rattle.drawable.specs.Drawn.{Drawn}
 use Rattle.drawable.specs.Chains.{Chains, drawnIn}
 use Rattle.template.specs.declared.Class.{Class}
 use Rattle.template.specs.Template.{roleOf, hasTail}
-use Rattle.template.specs.Request.{chainAt, unlessEmpty, nonempty, tailPart, placed}
+use Rattle.template.specs.Drawn.{chainAt, unlessEmpty, nonempty, tailPart, placed}
 use Rattle.template.proofs.Placing.{AcceptsFrom}
 use Rattle.template.proofs.Tail.{tail-fits}
 use Rattle.template.proofs.Theorem.{Accepted}
@@ -24,7 +24,7 @@ use Rattle.placed.proofs.Ready.{stands-carried, told}
 use Rattle.templates.specs.Templates.{TailOf}
 use Rattle.templates.specs.Classes.{StoodIn}
 use Rattle.templates.proofs.Fits.{fits-class}
-use Rattle.listing.proofs.PlacedLaws.{each-all}
+use Rattle.chain.proofs.Lists.{each-all}
 use Rattle.lines.proofs.Room.{places-most, index-room, carbons-few, rows-room}
 use Rattle.judge.specs.Judged.{DrawsAll, none as noChains, more, Drawing}
 use Rattle.room.specs.Ready.{Ready}

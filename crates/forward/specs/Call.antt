@@ -3,24 +3,29 @@
 use Prim.Native.Nat.{ℕ}
 use mathlib.Core.Path.{_≡_}
 use mathlib.Core.Bool.{Bool}
-use mathlib.Core.List.{List}
+use mathlib.Core.List.{List, map}
 use lib.ListN.{length, take}
 use Rattle.record.specs.Chain.{Chain}
 use Rattle.template.specs.declared.Class.{Class}
-use Rattle.template.specs.Request.{lineOf, indexOf}
+use Rattle.template.specs.Drawn.{placed, bySn}
+use Rattle.template.specs.Written.{lineOf, indexOf}
+use Rattle.template.specs.Chains.{sitesBy}
 use Rattle.template.specs.Promise.{Promise}
+use Rattle.listing.specs.Lists.{listOf}
 use Rattle.judge.specs.Verdict.{Verdict, Drawable}
 use Rattle.answer.specs.declared.Answer.{Answer}
-use Rattle.answer.specs.Answer.{Answers}
+use Rattle.answer.specs.Answer.{siteOf, Answers}
 
--- what is kept where the request is accepted: it has a class and chains, the line and the lists that stand in the slices are theirs, and
--- the promise holds of them
+-- what is kept where the request is accepted: it has a class and chains; the line and the lists that stand in the slices, and the chains and
+-- sites that the answer names, are theirs; and the promise holds of them
 pub record Kept (v : Verdict) (swap : Bool) (t ys js : List ℕ) (a : Answer) : Type 0 where
   pub class : Class
   pub chains : List Chain
   pub judged : v ≡ Drawable class chains
   pub line : take (a .length) ys ≡ lineOf class swap t chains
   pub lists : take (length (indexOf class t chains)) js ≡ indexOf class t chains
+  pub listed : take (a .lists .count) (a .lists .items) ≡ map listOf (bySn (placed class t chains))
+  pub sites : take (a .sites .count) (a .sites .items) ≡ map siteOf (sitesBy (bySn (placed class t chains)))
   pub promise : Promise class swap t chains
 
 pub record Called (v : Verdict) (swap : Bool) (t xs is ys js : List ℕ) (a : Answer) : Type 0 where

@@ -9,8 +9,9 @@ use lib.Seq.{take-all, take-nil, take-at, drop-at, drop-drop}
 use Rattle.emit.specs.Text.{Written}
 use Rattle.emit.proofs.Laws.{written-nil, written-append}
 use Rattle.reading.proofs.PartingLaws.{All}
-use Rattle.template.specs.Request as request
-use Rattle.template.specs.Request.{indicesOf, allIndices, bySn}
+use Rattle.template.specs.Drawn as request
+use Rattle.template.specs.Written.{indicesOf, allIndices}
+use Rattle.template.specs.Drawn.{bySn}
 use Rattle.placed.specs.declared.Placed.{Placed}
 use Rattle.placed.specs.Fragment.{noted, gathered, summed}
 use Rattle.placed.proofs.Laws.{gathered-append}

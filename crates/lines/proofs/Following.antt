@@ -15,9 +15,10 @@ use Rattle.shown.specs.declared.Site.{Site}
 use Rattle.drawable.specs.Chains.{Chains}
 use Rattle.template.specs.declared.Class.{Class}
 use Rattle.template.specs.Template.{elements, hasTail}
-use Rattle.template.specs.Request as request
-use Rattle.template.specs.Request.{placed, indicesOf, bySn, snSites, labels, allMarks, allSites, allSums, textOf, lineOf}
-use Rattle.template.specs.Promise.{Each}
+use Rattle.template.specs.Drawn as request
+use Rattle.template.specs.Drawn.{placed, bySn, snSites, labels, allMarks, allSites, allSums}
+use Rattle.template.specs.Written.{indicesOf, textOf, lineOf}
+use Rattle.chain.specs.Lists.{Each}
 use Rattle.placed.specs.declared.Placed.{Placed}
 use Rattle.placed.specs.Fragment.{noted, rowsOf, gathered, Told}
 use Rattle.placed.specs.Notes.{chainsIn}

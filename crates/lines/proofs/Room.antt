@@ -7,7 +7,7 @@ use native.Mathlib.Omega.{arith}
 use mathlib.Core.Path.{_≡_, refl, ap, _∙_}
 use mathlib.Core.Bool.{Bool, true, false, cond}
 use mathlib.Core.List.{List, [], _∷_, map}
-use lib.Dec.{eqb, leb}
+use lib.Dec.{eqb}
 use lib.ListN.{length, length-append}
 use Rattle.record.specs.declared.Mod.{Mod}
 use Rattle.record.specs.Chain.{Chain}
@@ -19,10 +19,12 @@ use Rattle.drawable.proofs.Lists.{length-only}
 use Rattle.branches.specs.Text.{rowsIn}
 use Rattle.template.specs.declared.Class.{Class}
 use Rattle.template.specs.Template.{elements}
-use Rattle.template.specs.Request.{Placed, placedFrom, placed, insertBySn, bySn, indicesOf}
+use Rattle.template.specs.Drawn.{Placed, placedFrom, placed, bySn}
+use Rattle.template.specs.Written.{indicesOf}
 use Rattle.template.specs.Promise.{namesOf, chainsFrom}
 use Rattle.template.proofs.Placing.{variablesTo}
 use Rattle.template.proofs.Notes.{placing-drawable}
+use Rattle.template.proofs.Sorted.{length-sorted}
 use Rattle.template.proofs.Theorem.{Accepted, promise, drawn-request, indices-most}
 use Rattle.placed.specs.Fragment.{rowsOf, gathered}
 
@@ -44,20 +46,6 @@ more-places : (k m n r : ℕ) → k ≤ n → r ≤ k * m → r ≤ n * m
 more-places k m n r h g = omega (arith, g, mul-le-mul-right m h)
 
 -- ---- no more chains are placed than there are tokens
-
-length-inserted : (p : Placed) (ps : List Placed) → length (insertBySn p ps) ≡ suc (length ps)
-unfolding insertBySn
-length-inserted p [] = refl
-length-inserted p (q ∷ qs) = go (leb (p .sn) (q .sn)) (length-inserted p qs)
-  where
-    go : (b : Bool) → length (insertBySn p qs) ≡ suc (length qs) → length (cond b (p ∷ q ∷ qs) (q ∷ insertBySn p qs)) ≡ suc (suc (length qs))
-    go true h = refl
-    go false h = ap suc h
-
-length-sorted : (ps : List Placed) → length (bySn ps) ≡ length ps
-unfolding bySn
-length-sorted [] = refl
-length-sorted (p ∷ ps) = length-inserted p (bySn ps) ∙ ap suc (length-sorted ps)
 
 length-names : (ps : List Placed) → length (namesOf ps) ≡ length ps
 unfolding namesOf

@@ -9,9 +9,10 @@ use Rattle.record.specs.Chain.{Chain}
 use Rattle.drawable.specs.Chains.{Chains}
 use Rattle.template.specs.declared.Class.{Class}
 use Rattle.template.specs.Template.{elements, hasTail}
-use Rattle.template.specs.Request as request
-use Rattle.template.specs.Request.{placed, indicesOf, lineOf}
-use Rattle.template.specs.Promise.{Each}
+use Rattle.template.specs.Drawn as request
+use Rattle.template.specs.Drawn.{placed}
+use Rattle.template.specs.Written.{indicesOf, lineOf}
+use Rattle.chain.specs.Lists.{Each}
 use Rattle.placed.specs.declared.Placed.{Placed}
 use Rattle.placed.specs.Notes.{chainsIn}
 use Rattle.placed.specs.Fragment.{noted, rowsOf, gathered, Told}

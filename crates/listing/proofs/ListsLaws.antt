@@ -8,8 +8,9 @@ use mathlib.Core.List.{List, [], _∷_, _++_, map, map-append}
 use lib.ListN.{length, take, getD, set, replicate, length-append}
 use lib.Seq.{take-suc}
 use Rattle.reading.proofs.PartingLaws.{All}
-use Rattle.template.specs.Request as request
-use Rattle.template.specs.Request.{bySn, indicesOf, allIndices}
+use Rattle.template.specs.Drawn as request
+use Rattle.template.specs.Drawn.{bySn}
+use Rattle.template.specs.Written.{indicesOf, allIndices}
 use Rattle.placed.specs.declared.Placed.{Placed}
 use Rattle.placed.specs.Fragment.{noted, gathered}
 use Rattle.rising.specs.declared.Rising.{Rising}

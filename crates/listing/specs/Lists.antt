@@ -3,8 +3,8 @@ use Prim.Native.Nat.{ℕ, _+_, _≤_}
 use mathlib.Core.Path.{_≡_}
 use mathlib.Core.List.{List, [], _∷_, map}
 use lib.ListN.{length}
-use Rattle.template.specs.Request as request
-use Rattle.template.specs.Request.{indicesOf}
+use Rattle.template.specs.Drawn as request
+use Rattle.template.specs.Written.{indicesOf}
 use Rattle.placed.specs.declared.Placed.{Placed}
 use Rattle.rising.specs.Four.{Filled}
 use Rattle.rising.specs.Order.{picked}

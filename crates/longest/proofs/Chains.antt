@@ -13,16 +13,15 @@ use Rattle.reading.specs.Molecule.{at, Sum, sum}
 use Rattle.reading.specs.Show.{showMark, showSites, showSum}
 use Rattle.reading.proofs.PartingLaws.{All, all-map}
 use Rattle.chain.specs.declared.Role.{Role}
-use Rattle.chain.specs.Lists.{valuesFrom}
+use Rattle.chain.specs.Lists.{valuesFrom, Each}
 use Rattle.chain.specs.Features.{firstDrawn, groupsOn, floating, literalEnd, remaining, drawnCount, siteSkip}
 use Rattle.chain.specs.Bonds.{bondAt, markOf}
 use Rattle.chain.specs.Drawing.{literal, flexible, carbons, floats, carbonAtoms, flexibleAtom, markList, marks, variables, sums, siteAtoms, siteLists, sites}
-use Rattle.chain.proofs.Lists.{all-append, all-right, all-drop, all-values, length-values}
+use Rattle.chain.proofs.Lists.{each-all, all-append, all-right, all-drop, all-values, length-values}
 use Rattle.chain.proofs.Fits.{length-carbons}
-use Rattle.template.specs.Request.{Placed, headCarbons, indicesOf, allMarks, allSites, allSums}
-use Rattle.template.specs.Promise.{Each}
+use Rattle.template.specs.Drawn.{Placed, allMarks, allSites, allSums}
+use Rattle.template.specs.Written.{headCarbons, indicesOf}
 use Rattle.placed.specs.Fragment.{summed, Told}
-use Rattle.listing.proofs.PlacedLaws.{each-all}
 use Rattle.longest.specs.Longest.{drawnMost, sitesMost}
 use Rattle.longest.proofs.Blocks.{total, total-map, Numbered, mark-few, Sited, sites-few, Summed, sum-few}
 use Rattle.longest.proofs.Texts.{Short, chain-end, parts-append, parts-few, literal-light, carbons-light, floats-short, length-floats, drawn-few}

@@ -13,8 +13,9 @@ use Rattle.reading.proofs.PartingLaws.{All}
 use Rattle.template.specs.declared.Class.{Class}
 use Rattle.template.specs.declared.Class.the-variants.{Fa, Gl1, Gl2, Gl3, Gp, Cl, Sb, Sa}
 use Rattle.template.specs.Template.{elements, glycerol, roleOf, hasTail}
-use Rattle.template.specs.Request.{nonempty, fixedPieces, atomsOfPieces, placedFrom, placed, allMarks, allSites, allSums, bySn, snSites, labels, textOf, lineOf}
-use Rattle.template.specs.Promise.{Each}
+use Rattle.template.specs.Drawn.{nonempty, fixedPieces, atomsOfPieces, placedFrom, placed, allMarks, allSites, allSums, bySn, snSites, labels}
+use Rattle.template.specs.Written.{textOf, lineOf}
+use Rattle.chain.specs.Lists.{Each}
 use Rattle.placed.specs.Fragment.{summed, Told}
 use Rattle.listing.proofs.PlacedLaws.{places-few}
 use Rattle.templates.specs.Templates.{TailOf}

@@ -23,8 +23,9 @@ use Rattle.shapes.specs.Shapes.{noShape, shapesIn, chainsKept}
 use Rattle.shapes.proofs.Laws.{shape-past}
 use Rattle.template.specs.declared.Class.{Class}
 use Rattle.template.specs.Template.{Element, fixed, tail, slot, chain, elements, roleOf, hasTail}
-use Rattle.template.specs.Request.{chainAt, nonempty, fixedPieces, tailPart, atomsOfPieces, siteOf, place, atomsAfter, variablesAfter, placedFrom, placed, lineOf}
-use Rattle.template.specs.Promise.{Each}
+use Rattle.template.specs.Drawn.{chainAt, nonempty, fixedPieces, tailPart, atomsOfPieces, siteOf, place, atomsAfter, variablesAfter, placedFrom, placed}
+use Rattle.template.specs.Written.{lineOf}
+use Rattle.chain.specs.Lists.{Each}
 use Rattle.placed.specs.Fragment as fragment
 use Rattle.shapes.specs.Sn.{drawnAt, IsDrawn}
 use Rattle.placed.specs.Fragment.{Carries, Stood}

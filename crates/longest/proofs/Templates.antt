@@ -5,7 +5,7 @@ use mathlib.Core.Path.{_≡_, refl, sym, ap, _∙_}
 use mathlib.Core.Bool.{Bool, true, false, cond, _&&_}
 use mathlib.Core.Option.{Option, none, some}
 use mathlib.Core.List.{List, [], _∷_, _++_, append-assoc, append-nil, map}
-use lib.Dec.{leb, ltb}
+use lib.Dec.{ltb}
 use lib.ListN.{length, length-append}
 use Rattle.record.specs.Chain.{Chain}
 use Rattle.reading.specs.Ascii.{ascii}
@@ -21,10 +21,10 @@ use Rattle.chain.specs.Drawing.{carbons}
 use Rattle.chain.proofs.Lists.{all-append}
 use Rattle.chain.proofs.Atoms.{chainEnd-le, atomsEnd-le}
 use Rattle.template.specs.Template.{Element, fixed, tail, slot, chain}
-use Rattle.template.specs.Request.{Placed, nonempty, fixedPieces, tailPart, atomsOfPieces, siteOf, place, atomsAfter, placedFrom, chainItem, slotOxygen, itemsOf, allItems, siteNote, snSites, insertBySn, bySn, labels}
+use Rattle.template.specs.Drawn.{Placed, nonempty, fixedPieces, tailPart, atomsOfPieces, siteOf, place, atomsAfter, placedFrom, chainItem, slotOxygen, itemsOf, allItems, siteNote, snSites, bySn, labels}
 use Rattle.template.specs.Built.{elementAtoms, elementVariables, elementPlaced, atomsFrom}
 use Rattle.template.proofs.BuiltLaws.{placed-cons}
-use Rattle.template.proofs.Sorted.{all-sorted}
+use Rattle.template.proofs.Sorted.{all-sorted, length-sorted, sites-count}
 use Rattle.placed.specs.Fragment.{summed}
 use Rattle.longest.specs.Longest.{sitesMost, numbersMost, chainMost, chainMostOf}
 use Rattle.longest.proofs.Texts.{text-most, atoms-most}
@@ -191,29 +191,6 @@ module _ (t : List ℕ) (ds : List Chain) where
       go : (s : Option ℕ) → By m s → upToLast (snSites ps) ≤ suc m → upToLast (siteNote s (p .sn) ++ snSites ps) ≤ suc m
       go none a b = b
       go (some i) a b = omega arith
-
-  sites-count : (ps : List Placed) → length (snSites ps) ≤ length ps
-  unfolding snSites
-  sites-count [] = omega arith
-  sites-count (p ∷ ps) = go (p .site) (sites-count ps)
-    where
-      go : (s : Option ℕ) → length (snSites ps) ≤ length ps → length (siteNote s (p .sn) ++ snSites ps) ≤ suc (length ps)
-      go none a = omega arith
-      go (some i) a = omega arith
-
-  length-inserted : (p : Placed) (ps : List Placed) → length (insertBySn p ps) ≡ suc (length ps)
-  unfolding insertBySn
-  length-inserted p [] = refl
-  length-inserted p (q ∷ qs) = go (leb (p .sn) (q .sn)) (length-inserted p qs)
-    where
-      go : (b : Bool) → length (insertBySn p qs) ≡ suc (length qs) → length (cond b (p ∷ q ∷ qs) (q ∷ insertBySn p qs)) ≡ suc (suc (length qs))
-      go true e = refl
-      go false e = ap suc e
-
-  length-sorted : (ps : List Placed) → length (bySn ps) ≡ length ps
-  unfolding bySn
-  length-sorted [] = refl
-  length-sorted (p ∷ ps) = length-inserted p (bySn ps) ∙ ap suc (length-sorted ps)
 
   -- the labels stand at sites, and there are no more than chains
   pub labels-weigh : (swap : Bool) (es : List Element)

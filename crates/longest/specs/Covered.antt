@@ -10,8 +10,9 @@ use Rattle.drawable.specs.declared.Shape.{Shape}
 use Rattle.shapes.specs.Shapes.{noShape, shapesIn, chainsKept}
 use Rattle.template.specs.declared.Class.{Class}
 use Rattle.template.specs.Template.{hasTail}
-use Rattle.template.specs.Request.{nonempty, placed, lineOf}
-use Rattle.template.specs.Promise.{Each}
+use Rattle.template.specs.Drawn.{nonempty, placed}
+use Rattle.template.specs.Written.{lineOf}
+use Rattle.chain.specs.Lists.{Each}
 use Rattle.placed.specs.Fragment.{Stood, Told}
 use Rattle.templates.specs.Templates.{TailOf}
 use Rattle.templates.specs.Classes.{StoodIn}

@@ -9,7 +9,7 @@ use Rattle.chain.specs.declared.Role.{Role}
 use Rattle.chain.specs.Features.{groupsOn, floating}
 use Rattle.template.specs.declared.Class.{Class}
 use Rattle.template.specs.Template.{roleOf}
-use Rattle.template.specs.Request.{nonempty}
+use Rattle.template.specs.Drawn.{nonempty}
 
 -- a chain in the text: the mark, the C and the bridge of each carbon; fourteen bytes for the carbonyl O, for each group in brackets and for each
 -- that floats; and both labels of each ring. No chain has more atoms than these are bytes.

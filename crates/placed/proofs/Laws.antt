@@ -12,9 +12,9 @@ use Rattle.chain.specs.Features.{floating}
 use Rattle.chain.specs.Drawing.{carbonAtoms}
 use Rattle.ramps.specs.Index.{indexFrom, indices}
 use Rattle.atoms.proofs.NumberLaws.{carbon-atoms-shift}
-use Rattle.template.specs.Request as request
-use Rattle.template.specs.Request.{headCarbons, indicesOf}
-use Rattle.template.specs.Promise.{Each}
+use Rattle.template.specs.Drawn as request
+use Rattle.template.specs.Written.{headCarbons, indicesOf}
+use Rattle.chain.specs.Lists.{Each}
 use Rattle.branches.specs.Text.{rowsIn}
 use Rattle.placed.specs.Fragment.{noted, indexList, rowsOf, gathered, summed, Told}
 

@@ -14,18 +14,19 @@ use Rattle.reading.proofs.PartingLaws.{All, all-map, and-left, and-right}
 use Rattle.reading.proofs.ListLaws.{below-all}
 use Rattle.chain.specs.declared.Role.{Role}
 use Rattle.chain.specs.declared.Role.the-variants as role
-use Rattle.chain.specs.Lists.{allOf}
+use Rattle.chain.specs.Lists.{allOf, Each}
 use Rattle.chain.specs.Features.{firstDrawn}
 use Rattle.chain.specs.Drawing.{carbons, variables}
-use Rattle.chain.proofs.Lists.{all-append, all-both}
+use Rattle.chain.proofs.Lists.{all-each, all-append, all-both}
 use Rattle.chain.proofs.Atoms.{chainEnd-le, atomsEnd-le}
 use Rattle.chain.proofs.Accepted.{Drawable, first-one, drawn-most, carbon-most, unlocated-most}
 use Rattle.drawable.specs.Drawn.{Drawn, Draws}
 use Rattle.atoms.proofs.Readable.{sound-readable}
 use Rattle.template.specs.declared.Class.{Class}
 use Rattle.template.specs.Template.{Element, fixed, tail, slot, chain, elements, most, roleOf, hasTail}
-use Rattle.template.specs.Request.{Placed, chainAt, unlessEmpty, nonempty, place, siteOf, fixedPieces, tailPart, atomsOfPieces, atomsAfter, variablesAfter, placedFrom, placed, indicesOf}
-use Rattle.template.specs.Promise.{Each}
+use Rattle.template.specs.Drawn.{Placed, chainAt, unlessEmpty, nonempty, place, siteOf, fixedPieces, tailPart, atomsOfPieces, atomsAfter, variablesAfter, placedFrom, placed}
+use Rattle.template.specs.Written.{indicesOf}
+use Rattle.template.specs.Chains.{parentOf}
 use Rattle.template.proofs.Templates.{snsOf, sameRole, inRole, Fitting, fitting}
 use Rattle.template.proofs.Placing.{Accepts, AcceptsFrom, Placing, same-role, variablesTo}
 use Rattle.template.proofs.Notes.{endOf, placing-within, placing-drawable, variables-most}
@@ -69,10 +70,6 @@ placing-variables lo hi v w (p ∷ ps) h =
     let q = placing-variables (endOf p) hi (v + variables (p .chain)) w ps (h .1) in
     (omega (arith, q .0), (omega (arith, h .0 .variable, q .0), q .1))
 
-all-each : {A : Type 0} (P : A → Type 0) (l : List A) → All P l → Each P l
-all-each P [] h = tt
-all-each P (x ∷ l) h = (h .0, all-each P l (h .1))
-
 -- the sns of a template are those from 1 to 4
 pub sns-few : (c : Class) (t : List ℕ) (ds : List Chain) → All (λ p. (1 ≤ p .sn) × (p .sn ≤ 4)) (placed c t ds)
 unfolding placed allOf
@@ -92,7 +89,7 @@ told c t ds a =
     ps : List Placed
     ps = placedFrom t ds 0 0 (elements c)
 
-    st : Whole.Stands t ds (elements c)
+    st : Whole.Stands (parentOf c) t ds (elements c)
     st = drawn-request c t ds a
 
     w : ℕ

@@ -16,9 +16,10 @@ use Rattle.branches.specs.Text.{rowsIn}
 use Rattle.fragment.specs.Segment.{Readable}
 use Rattle.ramps.specs.Index.{indices}
 use Rattle.totals.specs.Sum.{sumOf}
-use Rattle.template.specs.Request as request
-use Rattle.template.specs.Request.{nonempty, headCarbons, indicesOf}
-use Rattle.template.specs.Promise.{Each}
+use Rattle.template.specs.Drawn as request
+use Rattle.template.specs.Drawn.{nonempty}
+use Rattle.template.specs.Written.{headCarbons, indicesOf}
+use Rattle.chain.specs.Lists.{Each}
 use Rattle.placed.specs.declared.Placed.{Placed}
 
 -- ---- a chain of the request

@@ -1,6 +1,7 @@
 pub use Rattle.smiles.proofs.Reading
 pub use Rattle.smiles.proofs.OpenLabels
 pub use Rattle.smiles.proofs.Frame
+pub use Rattle.smiles.proofs.Members
 pub use Rattle.smiles.proofs.Chain
 pub use Rattle.smiles.proofs.WellFormed
 pub use Rattle.smiles.proofs.LexShow

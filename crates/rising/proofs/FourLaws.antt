@@ -5,6 +5,7 @@ use native.Mathlib.Omega.{arith}
 use mathlib.Core.Path.{_≡_, refl, ap, ap₂, _∙_}
 use mathlib.Core.List.{List, [], _∷_, _++_, append-nil, append-assoc}
 use lib.ListN.{length, take, set, replicate}
+use lib.Seq.{take-take, take-append-seam}
 use Rattle.rising.specs.Four.{four, Filled, Added}
 
 module _ {A : Type 0} (z v : A) where
@@ -68,3 +69,8 @@ take-four z (a ∷ b ∷ c ∷ d ∷ l) = refl
 -- what is counted is what the list starts with
 pub filled-held : {A : Type 0} (z : A) (l : List A) (n : ℕ) (xs : List A) → n ≡ length (take 4 l) → xs ≡ four z l → take n xs ≡ take 4 l
 filled-held z l n xs e f = ap₂ (λ (k : ℕ) (ys : List _). take k ys) e f ∙ take-four z l
+
+-- a list of at most four is all that they hold
+pub four-held : {A : Type 0} (z : A) (l : List A) → length l ≤ 4 → take (length l) (four z l) ≡ l
+unfolding four
+four-held z l h = take-take (length l) 4 (l ++ replicate 4 z) h ∙ take-append-seam l (replicate 4 z)

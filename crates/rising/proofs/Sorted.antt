@@ -12,8 +12,8 @@ use borrow.Author.Tests.{le-leb, lt-leb, eqb-true, eq-eqb, ne-eqb}
 use Rattle.reading.proofs.PartingLaws.{All, all-map}
 use Rattle.chain.specs.Lists.{only}
 use Rattle.chain.proofs.Lists.{all-append}
-use Rattle.template.specs.Request as request
-use Rattle.template.specs.Request.{insertBySn, bySn}
+use Rattle.template.specs.Drawn as request
+use Rattle.template.specs.Drawn.{insertBySn, bySn}
 use Rattle.placed.specs.declared.Placed.{Placed}
 use Rattle.placed.specs.Fragment.{noted}
 use Rattle.rising.specs.declared.Rising.{Rising}

@@ -9,8 +9,9 @@ use lib.ListN.{length, length-append}
 use lib.Dec.{leb}
 use Rattle.record.specs.Chain.{Chain}
 use Rattle.template.specs.declared.Class.{Class}
-use Rattle.template.specs.Request as request
-use Rattle.template.specs.Request.{placed, insertBySn, bySn, indicesOf, allIndices, indexOf}
+use Rattle.template.specs.Drawn as request
+use Rattle.template.specs.Drawn.{placed, insertBySn, bySn}
+use Rattle.template.specs.Written.{indicesOf, allIndices, indexOf}
 use Rattle.placed.specs.Fragment.{gathered}
 
 length-inserted : (p : request.Placed) (ps : List request.Placed) → length (allIndices (insertBySn p ps)) ≡ length (indicesOf p) + length (allIndices ps)

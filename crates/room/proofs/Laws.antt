@@ -13,7 +13,8 @@ use Rattle.record.specs.Chain.{Chain}
 use Rattle.drawable.specs.Chains.{Chains}
 use Rattle.shapes.specs.Shapes.{chainsKept}
 use Rattle.template.specs.declared.Class.{Class}
-use Rattle.template.specs.Request.{placed, indicesOf, lineOf, indexOf}
+use Rattle.template.specs.Drawn.{placed}
+use Rattle.template.specs.Written.{indicesOf, lineOf, indexOf}
 use Rattle.placed.specs.Fragment.{gathered}
 use Rattle.builder.specs.Build.{rooms}
 use Rattle.lines.specs.declared.Line.{Line}

@@ -9,8 +9,9 @@ use Rattle.drawable.specs.Chains.{Chains}
 use Rattle.shapes.specs.Shapes.{chainsKept}
 use Rattle.template.specs.declared.Class.{Class}
 use Rattle.template.specs.Template.{elements, hasTail}
-use Rattle.template.specs.Request.{placed, indicesOf}
-use Rattle.template.specs.Promise.{Each}
+use Rattle.template.specs.Drawn.{placed}
+use Rattle.template.specs.Written.{indicesOf}
+use Rattle.chain.specs.Lists.{Each}
 use Rattle.placed.specs.Fragment.{rowsOf, gathered, Told}
 use Rattle.templates.specs.Templates.{FitsAll, TailOf}
 use Rattle.templates.specs.Classes.{StoodIn}

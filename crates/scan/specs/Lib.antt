@@ -1,2 +1,3 @@
+pub use Rattle.part.specs.Ascii
 pub use Rattle.part.specs.Part
 pub mod Number

@@ -10,12 +10,13 @@ use mathlib.Core.List.{List, [], _∷_, _++_, append-assoc, append-nil}
 use lib.ListN.{length}
 use lib.Dec.{eqb, ltb, leb}
 use borrow.Author.Tests.{eqb-true, eqb-false, eq-eqb, ne-eqb, lt-ltb, le-ltb, le-leb, lt-leb}
-use Rattle.smiles.specs.Ascii.{ascii}
+use Rattle.part.specs.Ascii.{ascii}
 use Rattle.smiles.specs.Row.{Link, link, row}
 use Rattle.smiles.specs.Piece.{atom}
 use Rattle.smiles.specs.Machine.{Entry, entry, fresh, after, marked, st, lookup, remove, among, links, labels, joins, plainly}
 use Rattle.smiles.specs.Part.{Part, place}
-use Rattle.smiles.specs.Chain.{Ring, ring, Carbon, partsEnd, bridgeEnd, bridgeLast, carbonEnd, carbonLast, chainEnd, chainLast, atomFrom, atomOf, partRows, bridgeRows, ringLinks, carbonRows, chainRows, labelsAt, markPieces, partPieces, bridgePieces, chainPieces, floatPieces, floatRows, floatEnd, floatLast}
+use Rattle.smiles.specs.Chain.{Ring, ring, Carbon, partsEnd, bridgeEnd, bridgeLast, carbonEnd, carbonLast, chainEnd, chainLast, atomFrom, atomOf, partRows, bridgeRows, ringLinks, carbonMembers, chainMembers, floatMembers, rowsOf, labelsAt, markPieces, partPieces, bridgePieces, chainPieces, floatPieces, floatEnd, floatLast}
+use Rattle.smiles.proofs.Members.{carbon-rows, float-rows}
 use Rattle.smiles.proofs.Reading.{Reads, reads-nil, reads-cons, reads-append, steps-mark, steps-atom, steps-plain, steps-dot}
 use Rattle.smiles.proofs.OpenLabels.{lookup-same, lookup-other, lookup-removed, lookup-remove-other, lookup-append, nothing-open, label-opens, label-closes, labels-cons}
 use Rattle.smiles.proofs.Frame.{Hangs, EachOf, EachLabel, each-label-map, Shut, frame-after, frame-branch, labels-over}
@@ -261,7 +262,7 @@ partsEnd-le n (p ∷ ps) = omega (arith, partsEnd-le (n + p .size) ps)
 -- the carbons from k on read, from open labels t of their rings, over others; `left` are the rings' labels that are open then
 record Chained (pos : ℕ → ℕ) (rs : List Ring) (l k n prev : ℕ) (cs : List Carbon) (stk : List ℕ) (t ext : List Entry) : Type 0 where
   left : List Entry
-  does : Reads (chainPieces rs l k cs) (st n prev stk (t ++ ext) after) (carbonRows pos rs k n prev cs) (st (chainEnd n cs) (chainLast n prev cs) stk (left ++ ext) after)
+  does : Reads (chainPieces rs l k cs) (st n prev stk (t ++ ext) after) (rowsOf (carbonMembers pos rs k n prev cs)) (st (chainEnd n cs) (chainLast n prev cs) stk (left ++ ext) after)
   holds : Holds pos (past k cs) l rs left
   below : (m : ℕ) → m < l → lookup m left ≡ lookup m t
   above : (m : ℕ) → l + length rs ≤ m → lookup m left ≡ lookup m t
@@ -300,17 +301,18 @@ module _ (pos : ℕ → ℕ) (f : ℕ) (mono : (i j : ℕ) → f ≤ i → i < j
     chained-cons : (c : Carbon) (cs : List Carbon) (k n prev : ℕ) (t : List Entry) → pos k ≡ n → ((m : ℕ) → m < l → lookup m t ≡ none) → PartsFit l ext (c .parts)
         → (q : Pass pos k l rs (link prev (plainly (c .before)) ∷ []) t)
         → Chained pos rs l (suc k) (carbonEnd n c) (carbonLast n c) cs stk (q .left) ext → Chained pos rs l k n prev (c ∷ cs) stk t ext
-    unfolding chainPieces carbonRows chainEnd chainLast past carbonEnd carbonLast
+    unfolding chainPieces chainEnd chainLast past carbonEnd carbonLast
     chained-cons c cs k n prev t e lo fit q z =
         record {
           left = z .left;
           does =
-              reads-append
+              rw (carbon-rows pos rs k n prev c cs)
+              (reads-append
               (reads-carbon (c .before) (labelsAt k l rs) n prev stk (t ++ ext) (q .left ++ ext) (link prev (plainly (c .before)) ∷ ringLinks pos k rs)
               (labels-over (labelsAt k l rs) n (link prev (plainly (c .before)) ∷ []) (link prev (plainly (c .before)) ∷ ringLinks pos k rs) t (q .left) ext
               (free-at k l rs ext free) (rw e at (q .does))))
               (reads-append (reads-parts (c .parts) l (suc n) n stk (q .left) ext (omega arith) (λ m g. q .below m g ∙ lo m g) fit)
-              (reads-append (reads-bridge (c .bridge) (partsEnd (suc n) (c .parts)) n stk (q .left ++ ext)) (z .does)));
+              (reads-append (reads-bridge (c .bridge) (partsEnd (suc n) (c .parts)) n stk (q .left ++ ext)) (z .does))));
           holds = z .holds;
           below = λ m g. z .below m g ∙ q .below m g;
           above = λ m g. z .above m g ∙ q .above m g;
@@ -318,7 +320,7 @@ module _ (pos : ℕ → ℕ) (f : ℕ) (mono : (i j : ℕ) → f ≤ i → i < j
 
     chained : (cs : List Carbon) (k n prev : ℕ) (t : List Entry) → f ≤ k → ((m : ℕ) → m < l → lookup m t ≡ none) → CarbonsFit l ext cs → Follows pos k n cs → Bridged k rs cs
         → ((m : ℕ) → Clear pos (link prev m ∷ []) k rs) → Holds pos k l rs t → Chained pos rs l k n prev cs stk t ext
-    unfolding chainPieces carbonRows chainEnd chainLast Follows Bridged CarbonsFit past
+    unfolding chainPieces carbonMembers rowsOf chainEnd chainLast Follows Bridged CarbonsFit past
     chained [] k n prev t fk lo fit w b c h = record { left = t; does = reads-nil _; holds = h; below = λ m q. refl; above = λ m q. refl }
     chained (x ∷ cs) k n prev t fk lo fit w b c h =
         let q : Pass pos k l rs (link prev (plainly (x .before)) ∷ []) t = pass pos f mono k fk l rs (link prev (plainly (x .before)) ∷ []) t good (c (plainly (x .before))) h in
@@ -383,8 +385,8 @@ atomOf-follows f n cs = follows (atomOf f n cs) cs f n (λ j. ap (atomFrom n cs)
 -- The chain reads after the atom `cur`, in any state in which the labels of its rings, from l on, are not open. Stack and open labels stay.
 pub chain : (f : ℕ) (rs : List Ring) (cs : List Carbon) → RingsFit f rs cs
     → (n cur : ℕ) (stk : List ℕ) (ext : List Entry) (l : ℕ) → CarbonsFit l ext cs → ((m : ℕ) → l ≤ m → m < l + length rs → lookup m ext ≡ none)
-    → Reads (chainPieces rs l f cs) (st n cur stk ext after) (chainRows f rs cs n cur) (st (chainEnd n cs) (chainLast n cur cs) stk ext after)
-unfolding lookup chainRows
+    → Reads (chainPieces rs l f cs) (st n cur stk ext after) (rowsOf (chainMembers f rs cs n cur)) (st (chainEnd n cs) (chainLast n cur cs) stk ext after)
+unfolding lookup chainMembers
 chain f rs cs good n cur stk ext l fit free =
     let z : Chained (atomOf f n cs) rs l f n cur cs stk [] ext =
     chained (atomOf f n cs) f (atomOf-rises f n cs) rs (good .rings) l stk ext free cs f n cur [] (omega arith) (λ m g. refl) fit (atomOf-follows f n cs) (good .bridged)
@@ -392,7 +394,7 @@ chain f rs cs good n cur stk ext l fit free =
     finish z
   where
     finish : Chained (atomOf f n cs) rs l f n cur cs stk [] ext
-        → Reads (chainPieces rs l f cs) (st n cur stk ext after) (carbonRows (atomOf f n cs) rs f n cur cs) (st (chainEnd n cs) (chainLast n cur cs) stk ext after)
+        → Reads (chainPieces rs l f cs) (st n cur stk ext after) (rowsOf (carbonMembers (atomOf f n cs) rs f n cur cs)) (st (chainEnd n cs) (chainLast n cur cs) stk ext after)
     finish z = rw (nothing-open (z .left) none-left) at (z .does)
       where
         none-left : (m : ℕ) → lookup m (z .left) ≡ none
@@ -404,12 +406,13 @@ chain f rs cs good n cur stk ext l fit free =
 -- ---- the parts that float
 
 pub floats : (ps : List Part) (l n cur : ℕ) (stk : List ℕ) (ext : List Entry) → PartsFit l ext ps
-    → Reads (floatPieces ps) (st n cur stk ext after) (floatRows n ps) (st (floatEnd n ps) (floatLast n cur ps) stk ext after)
-unfolding floatPieces floatRows floatEnd floatLast joins PartsFit
-floats [] l n cur stk ext f = reads-nil _
+    → Reads (floatPieces ps) (st n cur stk ext after) (rowsOf (floatMembers n ps)) (st (floatEnd n ps) (floatLast n cur ps) stk ext after)
+unfolding floatPieces floatEnd floatLast joins PartsFit
+floats [] l n cur stk ext f = unfold floatMembers rowsOf in reads-nil _
 floats (p ∷ ps) l n cur stk ext f =
-    reads-append
+    rw (float-rows n p ps)
+    (reads-append
     (reads-cons (steps-dot n cur stk ext)
     (reads-cons (steps-plain (ascii "*") n cur stk ext fresh)
     (frame-after (f .0 .hangs) (suc n) n stk ext (omega arith) (each-label-map (λ m w. w .1) (p .pieces) (f .0 .free)))))
-    (floats ps l (suc n + p .size) (place n (suc n) (p .last)) stk ext (f .1))
+    (floats ps l (suc n + p .size) (place n (suc n) (p .last)) stk ext (f .1)))

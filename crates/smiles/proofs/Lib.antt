@@ -1,6 +1,7 @@
 pub mod Reading
 pub mod OpenLabels
 pub mod Frame
+pub mod Members
 pub mod Chain
 pub mod WellFormed
 pub mod LexShow

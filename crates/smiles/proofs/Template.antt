@@ -7,7 +7,9 @@ use Rattle.smiles.specs.Row.{Row}
 use Rattle.smiles.specs.Piece.{Piece, atom, mark, dot, lpar, rpar}
 use Rattle.smiles.specs.Machine.{Phase, fresh, opened, after, marked, State, st, Out, fail, ok, lookup, labels, step, andThen, prepend, run, whole, readPieces}
 use Rattle.smiles.specs.Part.{Part}
-use Rattle.smiles.specs.Template.{Chain, Item, piece, part, chain, itemPieces, nextLabel, templatePieces, drawPart, drawChain, draw, drawAll, drawn}
+use Rattle.smiles.specs.Chain.{chainEnd, chainMembers, floatMembers, rowsOf}
+use Rattle.smiles.specs.Template.{Chain, Item, piece, part, chain, itemPieces, nextLabel, templatePieces, drawPart, members, drawChain, draw, drawAll, drawn}
+use Rattle.smiles.proofs.Members.{rows-append}
 use Rattle.smiles.proofs.Reading.{Reads, reads-nil, reads-cons, reads-append, Stands, reads-stands}
 use Rattle.smiles.proofs.Frame.{Hangs, free-nil, frame, frame-after}
 use Rattle.smiles.proofs.Part.{none≢some}
@@ -87,12 +89,13 @@ agrees-part p n cur stk (marked m) w h = tt
 
 agrees-chain : (l : ℕ) (c : Chain) (n cur : ℕ) (stk : List ℕ) (ph : Phase) → ChainFits l c → Stands (st n cur stk [] ph)
     → Agrees (itemPieces l (chain c)) (st n cur stk [] ph) (drawChain c (st n cur stk [] ph))
-unfolding drawChain itemPieces lookup
+unfolding drawChain members itemPieces lookup
 agrees-chain l c n cur stk fresh w h = tt
 agrees-chain l c n cur stk opened w h = tt
 agrees-chain l c n cur stk after w h =
     agrees-reads _ h
-    (reads-append (law.chain (c .first) (c .rings) (c .carbons) (w .rings) n cur stk [] l (w .carbons) (λ m a b. refl)) (law.floats (c .floats) l _ _ stk [] (w .floats)))
+    (rw (rows-append (chainMembers (c .first) (c .rings) (c .carbons) n cur) (floatMembers (chainEnd n (c .carbons)) (c .floats)))
+    (reads-append (law.chain (c .first) (c .rings) (c .carbons) (w .rings) n cur stk [] l (w .carbons) (λ m a b. refl)) (law.floats (c .floats) l _ _ stk [] (w .floats))))
 agrees-chain l c n cur stk (marked m) w h = tt
 
 agrees-item : (l : ℕ) (i : Item) (s : State) → ItemFits l i → Ready s → Agrees (itemPieces l i) s (draw i s)

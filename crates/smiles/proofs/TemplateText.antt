@@ -7,7 +7,7 @@ use native.Mathlib.Omega.{arith}
 use mathlib.Core.List.{List, [], _∷_, _++_}
 use lib.ListN.{length}
 use lib.Dec.{T, eqb}
-use Rattle.smiles.specs.Ascii.{ascii}
+use Rattle.part.specs.Ascii.{ascii}
 use Rattle.smiles.specs.Row.{Row}
 use Rattle.smiles.specs.Piece.{atom, rpar, show}
 use Rattle.smiles.specs.Lexer.{memb, organic, marks}

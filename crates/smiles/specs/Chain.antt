@@ -4,9 +4,9 @@
 -- its carbonyl O, its groups' atoms and its bridge after it, then the chain's floating parts".
 use Prim.Native.Nat.{ℕ, zero, suc, _+_, _-_}
 use mathlib.Core.Bool.{Bool, true, false, cond, _||_}
-use mathlib.Core.List.{List, [], _∷_, _++_}
+use mathlib.Core.List.{List, [], _∷_, _++_, map}
 use lib.Dec.{eqb}
-use Rattle.smiles.specs.Ascii.{ascii}
+use Rattle.part.specs.Ascii.{ascii}
 use Rattle.smiles.specs.Row.{Link, link, Row, row}
 use Rattle.smiles.specs.Piece.{Piece, atom, mark, dot, lpar, rpar}
 use Rattle.smiles.specs.Machine.{plainly}
@@ -85,18 +85,48 @@ unfoldable pub ringLinks : (ℕ → ℕ) → ℕ → List Ring → List Link
 ringLinks pos k [] = []
 ringLinks pos k (ring s e ∷ rs) = cond (eqb e k) (link (pos s) 0 ∷ ringLinks pos k rs) (ringLinks pos k rs)
 
--- the carbons from k on, the first of them atom n, which joins the atom `prev`
-unfoldable pub carbonRows : (ℕ → ℕ) → List Ring → ℕ → ℕ → ℕ → List Carbon → List Row
-unfolding ringLinks partRows bridgeRows carbonEnd carbonLast plainly ascii
-carbonRows pos rs k n prev [] = []
-carbonRows pos rs k n prev (c ∷ cs) =
-    (row (ascii "C") (link prev (plainly (c .before)) ∷ ringLinks pos k rs) ∷ [])
-    ++ (partRows n (suc n) (c .parts) ++ (bridgeRows (c .bridge) n ++ carbonRows pos rs (suc k) (carbonEnd n c) (carbonLast n c) cs))
+-- What an atom of a chain is: one of its carbons; the `*` of a part that floats; any other, which hangs on one of these or stands between two carbons.
+pub data Kind : Type 0 where
+  own star other : Kind
 
--- a chain whose first carbon is carbon f and atom n, hung on the atom `on`
-unfoldable pub chainRows : ℕ → List Ring → List Carbon → ℕ → ℕ → List Row
-unfolding carbonRows atomOf
-chainRows f rs cs n on = carbonRows (atomOf f n cs) rs f n on cs
+-- an atom of a chain: what it is, and its row
+pub record Member : Type 0 where
+  pub kind : Kind
+  pub row : Row
+
+abbrev pub member : Kind → Row → Member
+member k r = record { kind = k; row = r }
+
+unfoldable pub others : List Row → List Member
+others rs = map (member other) rs
+
+-- the carbons from k on, the first of them atom n, which joins the atom `prev`: each carbon, what branches off it, and its bridge
+unfoldable pub carbonMembers : (ℕ → ℕ) → List Ring → ℕ → ℕ → ℕ → List Carbon → List Member
+unfolding others ringLinks partRows bridgeRows carbonEnd carbonLast plainly ascii
+carbonMembers pos rs k n prev [] = []
+carbonMembers pos rs k n prev (c ∷ cs) =
+    (member own (row (ascii "C") (link prev (plainly (c .before)) ∷ ringLinks pos k rs)) ∷ [])
+    ++ (others (partRows n (suc n) (c .parts)) ++ (others (bridgeRows (c .bridge) n) ++ carbonMembers pos rs (suc k) (carbonEnd n c) (carbonLast n c) cs))
+
+-- 01, "Unlocated groups append `.*branch`": the parts that float, the first of them from atom n on
+unfoldable pub floatMembers : ℕ → List Part → List Member
+unfolding others hung ascii
+floatMembers n [] = []
+floatMembers n (p ∷ ps) = (member star (row (ascii "*") []) ∷ others (hung n (suc n) p)) ++ floatMembers (suc n + p .size) ps
+
+-- the carbons of a chain whose first carbon is carbon f and atom n, hung on the atom `on`
+unfoldable pub chainMembers : ℕ → List Ring → List Carbon → ℕ → ℕ → List Member
+unfolding carbonMembers atomOf
+chainMembers f rs cs n on = carbonMembers (atomOf f n cs) rs f n on cs
+
+-- the rows of members, and the numbers of those of some kind, of which the first is atom n
+unfoldable pub rowsOf : List Member → List Row
+rowsOf [] = []
+rowsOf (m ∷ ms) = m .row ∷ rowsOf ms
+
+unfoldable pub places : (Kind → Bool) → ℕ → List Member → List ℕ
+places is n [] = []
+places is n (m ∷ ms) = let r = places is (suc n) ms in cond (is (m .kind)) (n ∷ r) r
 
 -- ---- what is written
 
@@ -126,17 +156,12 @@ chainPieces rs l k (c ∷ cs) =
     (markPieces (c .before) ++ (atom (ascii "C") (labelsAt k l rs) ∷ []))
     ++ (partPieces (c .parts) ++ (bridgePieces (c .bridge) ++ chainPieces rs l (suc k) cs))
 
--- ---- the parts that float: 01, "Unlocated groups append `.*branch`"
+-- ---- the parts that float, written, and where they end
 
 unfoldable pub floatPieces : List Part → List Piece
 unfolding ascii
 floatPieces [] = []
 floatPieces (p ∷ ps) = (dot ∷ atom (ascii "*") [] ∷ p .pieces) ++ floatPieces ps
-
-unfoldable pub floatRows : ℕ → List Part → List Row
-unfolding hung ascii
-floatRows n [] = []
-floatRows n (p ∷ ps) = (row (ascii "*") [] ∷ hung n (suc n) p) ++ floatRows (suc n + p .size) ps
 
 unfoldable pub floatEnd : ℕ → List Part → ℕ
 floatEnd n [] = n

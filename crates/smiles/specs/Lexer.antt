@@ -8,7 +8,7 @@ use mathlib.Core.Option.{Option, none, some}
 use mathlib.Core.List.{List, [], _∷_, _++_}
 use lib.ListN.{length}
 use lib.Dec.{eqb, leb}
-use Rattle.smiles.specs.Ascii.{ascii}
+use Rattle.part.specs.Ascii.{ascii}
 use Rattle.smiles.specs.Piece.{Piece, atom, mark, dot, lpar, rpar}
 
 -- ---- the bytes

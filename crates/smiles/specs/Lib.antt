@@ -1,4 +1,4 @@
-pub mod Ascii
+pub use Rattle.part.specs.Ascii
 pub mod Row
 pub mod Piece
 pub mod Lexer

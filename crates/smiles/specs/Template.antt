@@ -10,7 +10,7 @@ use Rattle.smiles.specs.Row.{Row}
 use Rattle.smiles.specs.Piece.{Piece}
 use Rattle.smiles.specs.Machine.{fresh, opened, after, marked, State, st, Out, fail, ok, step, andThen, whole}
 use Rattle.smiles.specs.Part.{Part, place, hung}
-use Rattle.smiles.specs.Chain.{Ring, Carbon, chainEnd, chainLast, chainRows, chainPieces, floatPieces, floatRows, floatEnd, floatLast}
+use Rattle.smiles.specs.Chain.{Ring, Carbon, chainEnd, chainLast, Member, chainMembers, floatMembers, rowsOf, chainPieces, floatPieces, floatEnd, floatLast}
 
 -- a chain: its first carbon's number, its rings, its carbons, the parts that float
 pub record Chain : Type 0 where
@@ -52,13 +52,18 @@ drawPart p (st n cur stk t opened) = ok (hung cur n p) (st (n + p .size) (place 
 drawPart p (st n cur stk t after) = ok (hung cur n p) (st (n + p .size) (place cur n (p .last)) stk t after)
 drawPart p (st n cur stk t (marked m)) = fail
 
+-- the atoms of a chain, of which the first is atom n, hung on the atom `on`: its carbons with what they carry, then the parts that float
+unfoldable pub members : Chain → ℕ → ℕ → List Member
+unfolding chainMembers floatMembers chainEnd
+members c n on = chainMembers (c .first) (c .rings) (c .carbons) n on ++ floatMembers (chainEnd n (c .carbons)) (c .floats)
+
 -- a chain hangs on the atom before it, which is carbon f − 1 or what stands for it
 unfoldable pub drawChain : Chain → State → Out
-unfolding chainRows chainEnd chainLast floatRows floatEnd floatLast
+unfolding rowsOf members chainEnd chainLast floatEnd floatLast
 drawChain c (st n cur stk t fresh) = fail
 drawChain c (st n cur stk t opened) = fail
 drawChain c (st n cur stk t after) =
-    ok (chainRows (c .first) (c .rings) (c .carbons) n cur ++ floatRows (chainEnd n (c .carbons)) (c .floats))
+    ok (rowsOf (members c n cur))
     (st (floatEnd (chainEnd n (c .carbons)) (c .floats)) (floatLast (chainEnd n (c .carbons)) (chainLast n cur (c .carbons)) (c .floats)) stk t after)
 drawChain c (st n cur stk t (marked m)) = fail
 

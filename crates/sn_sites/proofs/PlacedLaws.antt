@@ -14,24 +14,15 @@ use Rattle.reading.proofs.PartingLaws.{All, all-map, and-left, and-right}
 use Rattle.reading.proofs.ListLaws.{below-all}
 use Rattle.chain.specs.declared.Role.{Role}
 use Rattle.chain.specs.declared.Role.the-variants.{Slot, Acyl, Base}
-use Rattle.chain.specs.Lists.{allOf}
-use Rattle.chain.proofs.Lists.{all-append, all-both}
+use Rattle.chain.specs.Lists.{allOf, Each}
+use Rattle.chain.proofs.Lists.{all-each, all-append, all-both}
 use Rattle.template.specs.declared.Class.{Class}
 use Rattle.template.specs.Template.{Element, fixed, tail, slot, chain, elements}
-use Rattle.template.specs.Request as request
-use Rattle.template.specs.Request.{nonempty, fixedPieces, tailPart, atomsOfPieces, siteOf, place, atomsAfter, variablesAfter, placedFrom, placed}
-use Rattle.template.specs.Promise.{Each}
+use Rattle.template.specs.Drawn as request
+use Rattle.template.specs.Drawn.{nonempty, fixedPieces, tailPart, atomsOfPieces, siteOf, place, atomsAfter, variablesAfter, placedFrom, placed}
 use Rattle.template.proofs.Templates.{snsOf, fitting}
 use Rattle.template.proofs.Sorted.{sns-placed, length-placed}
 use Rattle.placed.specs.Fragment.{siteOr}
-
-pub all-each : {A : Type 0} (P : A → Type 0) (l : List A) → All P l → Each P l
-all-each P [] h = tt
-all-each P (x ∷ l) h = (h .0, all-each P l (h .1))
-
-pub each-all : {A : Type 0} (P : A → Type 0) (l : List A) → Each P l → All P l
-each-all P [] h = tt
-each-all P (x ∷ l) h = (h .0, each-all P l (h .1))
 
 -- ---- the sns are 1 to 4
 

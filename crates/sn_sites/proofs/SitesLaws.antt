@@ -16,14 +16,13 @@ use Rattle.reading.specs.Line.{below}
 use Rattle.reading.proofs.PartingLaws.{All, and-left, and-right, and-both}
 use Rattle.chain.specs.declared.Role.{Role}
 use Rattle.chain.specs.declared.Role.the-variants.{Slot, Acyl, Base}
-use Rattle.chain.specs.Lists.{only}
-use Rattle.chain.proofs.Lists.{all-append}
+use Rattle.chain.specs.Lists.{only, Each}
+use Rattle.chain.proofs.Lists.{each-all, all-append}
 use Rattle.shown.specs.declared.Site.{Site}
 use Rattle.shown.specs.Notes.{labelsOf, Digits}
 use Rattle.template.specs.declared.Class.{Class}
-use Rattle.template.specs.Request as request
-use Rattle.template.specs.Request.{siteOf, placed, bySn, siteNote, snSites}
-use Rattle.template.specs.Promise.{Each}
+use Rattle.template.specs.Drawn as request
+use Rattle.template.specs.Drawn.{siteOf, placed, bySn, siteNote, snSites}
 use Rattle.template.proofs.Sorted.{all-sorted}
 use Rattle.placed.specs.declared.Placed.{Placed}
 use Rattle.placed.specs.Fragment.{noted, siteOr, gathered}
@@ -37,7 +36,7 @@ use Rattle.rising.proofs.Picked.{picked-append, picked-none, picked-take, picke
 use Rattle.rising.proofs.Sorted.{picked-sorted}
 use Rattle.sn_sites.specs.declared.Sites.{Sites}
 use Rattle.sn_sites.specs.Sites.{noSite, siteIn, hasSite, siteList, sitesAt, allSiteList, SitesAre, SitesHeld}
-use Rattle.sn_sites.proofs.PlacedLaws.{each-all, Sited, sns-told, places-few, sites-placed}
+use Rattle.sn_sites.proofs.PlacedLaws.{Sited, sns-told, places-few, sites-placed}
 
 -- what is counted are the sites, as far as there is room
 pub sites-held : {l : List Site} {r : Sites} → SitesAre l r → take (r .count) (r .items) ≡ take 4 l

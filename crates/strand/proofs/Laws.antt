@@ -25,7 +25,7 @@ use Rattle.atoms.specs.declared.ChainAtoms.{ChainAtoms}
 use Rattle.ramps.specs.Index.{indices}
 use Rattle.loads.specs.Counts.{Counts}
 use Rattle.atoms.specs.Atoms.{AtomsOf}
-use Rattle.template.specs.Request.{headCarbons}
+use Rattle.template.specs.Written.{headCarbons}
 use Rattle.strand.specs.Strand.{headCount, Indexed, rooms, StrandOf, GroupedShape}
 
 -- ---- the template's carbons

@@ -18,7 +18,7 @@ use Rattle.branches.specs.Text.{rowsIn}
 use Rattle.fragment.specs.Segment.{Readable}
 use Rattle.atoms.specs.declared.ChainAtoms.{ChainAtoms}
 use Rattle.ramps.specs.Index.{indices}
-use Rattle.template.specs.Request.{headCarbons}
+use Rattle.template.specs.Written.{headCarbons}
 use Rattle.placed.specs.Fragment.{Carries}
 use Rattle.strand.specs.declared.Strand.{Strand}
 

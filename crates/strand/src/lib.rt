@@ -15,7 +15,7 @@ ghost use Rattle.drawable.specs.Drawn.{groupsIn, drawnOf, bondsDrawn, ringsDraw
 ghost use Rattle.carbons.specs.ByCarbon.{BondsBy};
 ghost use Rattle.carbons.specs.Tokens.{tokens, TokensOf, Rising, Grouped};
 ghost use Rattle.loads.specs.Counts.{Counts};
-ghost use Rattle.template.specs.Request.{headCarbons};
+ghost use Rattle.template.specs.Written.{headCarbons};
 ghost use Rattle.strand.specs.Strand.{headCount, Indexed, rooms, StrandOf, GroupedShape};
 
 // A chain that is laid down: the places after its text, its indices and its rows; how many indices it has; and, counted from its first atom, the

@@ -13,7 +13,7 @@ use Rattle.reading.proofs.ShowLex.{show-append}
 use Rattle.chain.specs.declared.Role.{Role}
 use Rattle.chain.specs.Drawing.{chainDrawn, ringPairs}
 use Rattle.template.specs.Template.{Element, fixed, tail, slot, chain}
-use Rattle.template.specs.Request.{Placed, place, nonempty, placedFrom, chainItem, slotOxygen, fixedPieces, itemsOf, allItems}
+use Rattle.template.specs.Drawn.{Placed, place, nonempty, placedFrom, chainItem, slotOxygen, fixedPieces, itemsOf, allItems}
 use Rattle.template.specs.Built.{chainIn, elementAtoms, elementVariables, labelsAfter, elementLabels, elementPlaced, atomsFrom, variablesFrom, labelsFrom}
 
 -- the chains of elements, the first taken off

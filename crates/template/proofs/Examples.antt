@@ -16,7 +16,7 @@ use Rattle.chain.specs.Drawing.{orNone, chainDrawn, carbonAtoms, marks, sites, 
 use Rattle.emit.specs.Text.{digits}
 use Rattle.template.specs.declared.Class.{Class}
 use Rattle.template.specs.declared.Class.the-variants.{Fa, Sb}
-use Rattle.template.specs.Request.{lineOf, indexOf}
+use Rattle.template.specs.Written.{lineOf, indexOf}
 use Rattle.template.specs.Promise.{Promise}
 use Rattle.template.proofs.Theorem.{Accepted, promise}
 

@@ -20,7 +20,7 @@ use Rattle.chain.specs.declared.Role.the-variants as role
 use Rattle.chain.specs.Lists.{allOf, valuesFrom}
 use Rattle.chain.proofs.Lists.{Rises, rises-from}
 use Rattle.template.specs.Template.{Element, fixed, tail, slot, chain}
-use Rattle.template.specs.Request.{chainAt, nonempty, fixedPieces, tailPart, Placed, atomsOfPieces, siteOf, place, atomsAfter, variablesAfter, placedFrom, insertBySn, bySn}
+use Rattle.template.specs.Drawn.{chainAt, nonempty, fixedPieces, tailPart, Placed, atomsOfPieces, siteOf, place, atomsAfter, variablesAfter, placedFrom, insertBySn, bySn}
 use Rattle.template.specs.Promise.{chainsFrom, namesOf}
 use Rattle.template.proofs.Templates.{snsOf}
 use Rattle.template.proofs.Sorted.{Apart, all-sorted, snOf}

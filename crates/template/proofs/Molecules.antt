@@ -5,6 +5,7 @@ use native.Mathlib.Decide.{ℕ-discrete}
 use native.Mathlib.Omega.{arith}
 use mathlib.Core.Path.{_≡_, refl, sym, ap, _∙_, subst}
 use mathlib.Core.Option.{Option, none, some}
+use mathlib.Core.Bool.{true}
 use borrow.Author.Tests.{eq-eqb, ne-eqb}
 use mathlib.Core.List.{List, [], _∷_, _++_, map}
 use Rattle.reading.specs.Ascii.{ascii}
@@ -15,16 +16,21 @@ use Rattle.reading.proofs.SetLaws.{Has, set-to, set-from, bond-told, sum-told}
 use mathlib.Core.Logic.{inl, inr, ⊎-elim}
 use Rattle.reading.proofs.PartingLaws.{All, all-map}
 use Rattle.reading.proofs.Part.{none≢some}
-use Rattle.template.specs.Promise.{atomAt, bytesOf, variableOf, bytesAt, variableAt, sumsIn, labelOf, labelAt, rowAt, Among, bondsIn, Joined, JoinedBy, JoinedIn, noted, markIn, siteListIn, marksIn, siteListsIn}
+use Rattle.template.specs.Atoms.{atomAt, bytesOf, variableOf, bytesAt, variableAt, sumsIn, labelOf, labelAt, rowAt, Among, bondsIn, noted, markIn, siteListIn, marksIn, siteListsIn}
+use Rattle.template.specs.declared.Class.{Class}
+use Rattle.template.specs.Written.{headCarbons}
+use Rattle.template.specs.Chains.{hangsOn, parentOf, markBefore, Joined, ownCarbons, HeadedBy}
 use Rattle.chain.proofs.Lists.{Rises, rises-le, rises-from, rises-within}
 use Rattle.template.proofs.Notes.{look-outside}
+use Rattle.chain.specs.Lists.{Each}
+use Rattle.chain.specs.Drawing.{sums}
+use Rattle.template.specs.Drawn.{Placed, allSums}
 use Rattle.chain.specs.declared.Role.{Role}
 use Rattle.chain.specs.declared.Role.the-variants as role
 use Rattle.chain.proofs.Accepted.{Drawable}
-use Rattle.template.specs.Request.{Placed}
-use Rattle.template.proofs.Placing.{Strand}
+use Rattle.template.proofs.Templates.{isBase}
 use Rattle.template.proofs.Rows.{rowBytes}
-use Rattle.template.proofs.Strands.{bytesIn, firstLink, RowsJoined, RowsJoinedIn, rows-joined}
+use Rattle.template.proofs.Strands.{bytesIn, firstLink, RowsJoined, indices-own}
 
 -- ---- atoms
 
@@ -112,7 +118,7 @@ module _ (rs : List Row) (ls ms : List (At ℕ)) (fs : List (At (List ℕ))) (ss
 
 -- ---- bonds
 
-has-right : (x : Bond) (xs ys : List Bond) → Has x ys → Has x (xs ++ ys)
+has-right : {A : Type 0} (x : A) (xs ys : List A) → Has x ys → Has x (xs ++ ys)
 has-right x [] ys h = h
 has-right x (b ∷ xs) ys h = inr (has-right x xs ys h)
 
@@ -129,7 +135,7 @@ first-bond n (suc i) (row b ks ∷ rs) a m h =
     let e : n + suc i ≡ suc n + i = omega arith in
     rw e (has-right (bond a (suc n + i) m) (bondsTo n ks) (bondsFrom (suc n) rs) (first-bond (suc n) i rs a m h))
 
-has-among : (x : Bond) (l : List Bond) → Has x l → Among x l
+has-among : {A : Type 0} (x : A) (l : List A) → Has x l → Among x l
 has-among x [] h = absurd h
 has-among x (b ∷ l) h = ⊎-elim (λ e. inl e) (λ r. inr (has-among x l r)) h
 
@@ -139,25 +145,37 @@ row-bytes i [] b h = absurd (none≢some h)
 row-bytes zero (row a ks ∷ rs) b h = h
 row-bytes (suc i) (row a ks ∷ rs) b h = row-bytes i rs b h
 
-module _ (rs : List Row) (ls ms : List (At ℕ)) (fs : List (At (List ℕ))) (ss : List Sum) where
-  joined-at : (n : ℕ) → RowsJoined rs n → Joined (moleculeOf rs ls ms fs ss) n
-  unfolding bondsIn moleculeOf bondsOf
-  joined-at n j =
-      let e : 0 + n ≡ n = omega arith in
-      record {
-        after = j .after;
-        oxygen = bytes-at rs ls ms fs ss (n - 1) (ascii "O") (row-bytes (n - 1) rs (ascii "O") (j .oxygen));
-        carbon = bytes-at rs ls ms fs ss n (ascii "C") (row-bytes n rs (ascii "C") (j .carbon));
-        plain = has-among (bond (n - 1) n 0) (setOf bondKey (bondsFrom 0 rs)) (set-from bondKey bond-told (bond (n - 1) n 0) (bondsFrom 0 rs) (rw e at (first-bond 0 n rs (n - 1) 0 (j .plain))));
-      }
+-- a chain whose rows are joined to the atom that it hangs on is joined to it in the molecule
+pub joined-in : (rs : List Row) (ls ms : List (At ℕ)) (fs : List (At (List ℕ))) (ss : List Sum) (c : Class) (p : Placed)
+    → RowsJoined rs (parentOf c (p .role)) (hangsOn (p .role) (p .first)) (p .first) (markBefore (p .role) (p .chain)) → Joined c (moleculeOf rs ls ms fs ss) p
+unfolding bondsIn moleculeOf bondsOf
+joined-in rs ls ms fs ss c p j =
+    let n : ℕ = p .first in
+    let k : ℕ = hangsOn (p .role) n in
+    let m : ℕ = markBefore (p .role) (p .chain) in
+    let e : 0 + n ≡ n = omega arith in
+    record {
+      before = j .before;
+      parent = bytes-at rs ls ms fs ss k (parentOf c (p .role)) (row-bytes k rs (parentOf c (p .role)) (j .parent-is));
+      carbon = bytes-at rs ls ms fs ss n (ascii "C") (row-bytes n rs (ascii "C") (j .carbon));
+      bonded = has-among (bond k n m) (setOf bondKey (bondsFrom 0 rs)) (set-from bondKey bond-told (bond k n m) (bondsFrom 0 rs) (rw e at (first-bond 0 n rs k m (j .bonded))));
+    }
 
-  pub joined-in : (p : Placed) → Drawable (p .role) (p .chain) → Strand 0 rs p → JoinedIn (moleculeOf rs ls ms fs ss) p
-  joined-in p a s = go (p .role) (rows-joined rs p a s)
-    where
-      go : (r : Role) → RowsJoinedIn r rs (p .first) → JoinedBy r (moleculeOf rs ls ms fs ss) (p .first)
-      go role.Slot j = joined-at (p .first) j
-      go role.Acyl j = tt
-      go role.Base j = tt
+-- a base whose C2 is atom 0, with atom 1 joined to it
+pub headed-in : (rs : List Row) (ls ms : List (At ℕ)) (fs : List (At (List ℕ))) (ss : List Sum) (p : Placed) → Drawable (p .role) (p .chain) → (isBase (p .role) ≡ true → firstLink (rowAt 1 rs) ≡ some (link 0 0))
+    → HeadedBy (p .role) (moleculeOf rs ls ms fs ss) p
+unfolding bondsIn moleculeOf bondsOf
+headed-in rs ls ms fs ss p a h = go (p .role) refl (h)
+  where
+    go : (r : Role) → p .role ≡ r → (isBase r ≡ true → firstLink (rowAt 1 rs) ≡ some (link 0 0)) → HeadedBy r (moleculeOf rs ls ms fs ss) p
+    go role.Slot e l = tt
+    go role.Acyl e l = tt
+    go role.Base e l =
+        let on : hangsOn (p .role) (p .first) ≡ 0 = ap (λ (r : Role). hangsOn r (p .first)) e in
+        record {
+          listed = indices-own p a ∙ ap (λ (r : Role). headCarbons r ++ ownCarbons p) e ∙ ap (λ (k : ℕ). 1 ∷ k ∷ ownCarbons p) (sym on);
+          bonded = rw on (has-among (bond 0 1 0) (setOf bondKey (bondsFrom 0 rs)) (set-from bondKey bond-told (bond 0 1 0) (bondsFrom 0 rs) (first-bond 0 1 rs 0 0 (l refl))));
+        }
 
 -- ---- sets
 
@@ -177,3 +195,19 @@ module _ (P : Sum → Type 0) (ss : List Sum) where
 
   pub all-set : All P (setOf sumKey ss) → All P ss
   all-set h = has-all P ss (λ x q. all-has P x (setOf sumKey ss) h (set-from sumKey sum-told x ss q))
+
+-- the sums of each chain are among those of all
+has-left : (x : Sum) (xs ys : List Sum) → Has x xs → Has x (xs ++ ys)
+has-left x [] ys h = absurd h
+has-left x (b ∷ xs) ys h = ⊎-elim (λ e. inl e) (λ r. inr (has-left x xs ys r)) h
+
+each-among : (ss l : List Sum) → ((x : Sum) → Has x l → Has x ss) → Each (λ x. Among x (setOf sumKey ss)) l
+each-among ss [] h = tt
+each-among ss (x ∷ l) h = (has-among x (setOf sumKey ss) (set-from sumKey sum-told x ss (h x (inl refl))), each-among ss l (λ y q. h y (inr q)))
+
+pub sums-among : (ss : List Sum) (ps : List Placed) → ((x : Sum) → Has x (allSums ps) → Has x ss) → All (λ p. Each (λ x. Among x (setOf sumKey ss)) (sums (p .role) (p .chain) (p .variable))) ps
+unfolding allSums
+sums-among ss [] h = tt
+sums-among ss (p ∷ ps) h =
+    let own : List Sum = sums (p .role) (p .chain) (p .variable) in
+    (each-among ss own (λ x q. h x (has-left x own (allSums ps) q)), sums-among ss ps (λ x q. h x (has-right x own (allSums ps) q)))

@@ -24,7 +24,7 @@ use Rattle.chain.proofs.Lists.{Rises, rises-le, rises-from, rises-to, rises-app
 use Rattle.chain.proofs.Accepted.{Drawable, drawn-some, unlocated-most}
 use Rattle.chain.proofs.Atoms.{chainEnd-le, atomsEnd-le, carbon-atoms-rise, carbon-atoms-count, marks-rise, marks-notes, sums-notes, variables-rise, sites-rise, sites-carbons, sites-some, atomsOf-append, notesOf-append}
 use Rattle.chain.proofs.Counts.{SumStands, sums-stand, Chosen, sums-chosen}
-use Rattle.template.specs.Request.{Placed, allMarks, allSites, allSums, siteNote, snSites}
+use Rattle.template.specs.Drawn.{Placed, allMarks, allSites, allSums, siteNote, snSites}
 use Rattle.template.proofs.Placing.{SiteFrom, Placing}
 
 -- the atom after a chain's last

@@ -18,8 +18,8 @@ use Rattle.reading.specs.Ascii.{ascii}
 use Rattle.reading.specs.Row.{Link, Row, row}
 use Rattle.reading.specs.Piece.{Piece, atom, mark, dot, lpar, rpar}
 use Rattle.reading.specs.Machine.{Phase, fresh, opened, after, marked, State, st, ok, labels, joins, placed as put, step, prepend, andThen}
-use Rattle.reading.specs.Part.{Part, hung, place as at}
-use Rattle.reading.specs.Chain.{chainEnd, chainLast, floatLast}
+use Rattle.reading.specs.Part.{Part, moveRow, hung, place as at}
+use Rattle.reading.specs.Chain.{rowsOf, chainEnd, chainLast, floatLast}
 use Rattle.reading.specs.Template as template
 use Rattle.reading.specs.Template.{Item, piece, part, drawPart, drawChain, draw, drawAll}
 use Rattle.reading.proofs.Reading.{andThen-assoc, prepend-nil, then-ok}
@@ -38,10 +38,10 @@ use Rattle.chain.proofs.Few.{atoms-most}
 use Rattle.template.specs.declared.Class.{Class}
 use Rattle.template.specs.declared.Class.the-variants.{Fa, Gl1, Gl2, Gl3, Gp, Cl, Sb, Sa}
 use Rattle.template.specs.Template.{Element, fixed, tail, slot, chain, glycerol, elements}
-use Rattle.template.specs.Request.{chainAt, unlessEmpty, nonempty, fixedPieces, tailPart, chainItem, slotOxygen, itemsOf, allItems, Placed, atomsOfPiece, atomsOfPieces, siteOf, place, atomsAfter, variablesAfter, placedFrom}
+use Rattle.template.specs.Drawn.{chainAt, unlessEmpty, nonempty, fixedPieces, tailPart, chainItem, slotOxygen, itemsOf, allItems, Placed, atomsOfPiece, atomsOfPieces, siteOf, place, atomsAfter, variablesAfter, placedFrom}
 use Rattle.template.proofs.Templates.{Turn, no, to, turnPiece, andTurn, turnPieces, turnTail, turnChain, turnElement, turnAll, mostAtoms, sameRole, inRole, isTailed}
-use Rattle.template.specs.Promise.{hangsOn, siteBy, drawnRows, ownRows}
-use Rattle.template.proofs.Rows.{length-hung, length-drawn}
+use Rattle.template.specs.Chains.{hangsOn, parentOf, siteBy, ownMembers}
+use Rattle.template.proofs.Rows.{drawnRows, length-hung, length-drawn}
 
 -- ---- items, drawn
 
@@ -68,11 +68,37 @@ drawn-append {xs} {ys} {n} {cur} {stk = stk} {ph = ph} a b =
       many = omega (arith, length-append (a .rows) (b .rows), a .many, b .many);
     }
 
+-- ---- the last atom before a chain
+
+-- the bytes of the last of some rows, or b where there are none
+unfoldable pub lastBytes : Option (List ℕ) → List Row → Option (List ℕ)
+lastBytes b [] = b
+lastBytes b (row x ks ∷ rs) = lastBytes (some x) rs
+
+last-append : (b : Option (List ℕ)) (xs ys : List Row) → lastBytes b (xs ++ ys) ≡ lastBytes (lastBytes b xs) ys
+unfolding lastBytes
+last-append b [] ys = refl
+last-append b (row x ks ∷ xs) ys = last-append (some x) xs ys
+
+last-hung : (b : Option (List ℕ)) (on n : ℕ) (rs : List Row) → lastBytes b (map (moveRow (at on n)) rs) ≡ lastBytes b rs
+unfolding lastBytes
+last-hung b on n [] = refl
+last-hung b on n (row x ks ∷ rs) = last-hung (some x) on n rs
+
+-- the last atom of some pieces, or b
+unfoldable pub lastAtom : Option (List ℕ) → List Piece → Option (List ℕ)
+lastAtom b [] = b
+lastAtom b (atom x ls ∷ us) = lastAtom (some x) us
+lastAtom b (mark m ∷ us) = lastAtom b us
+lastAtom b (dot ∷ us) = lastAtom b us
+lastAtom b (lpar ∷ us) = lastAtom b us
+lastAtom b (rpar ∷ us) = lastAtom b us
+
 -- ---- one piece
 
-abbrev DrawnTo : List Item → ℕ → ℕ → List ℕ → Phase → ℕ → ℕ → List ℕ → Turn → Type 0
-DrawnTo is n cur stk ph m c z no = Unit {0}
-DrawnTo is n cur stk ph m c z (to k ph′) = Drawn is n cur stk ph m c z k ph′
+abbrev DrawnTo : List Item → ℕ → ℕ → List ℕ → Option (List ℕ) → Phase → ℕ → ℕ → List ℕ → Option (List ℕ) → Turn → Type 0
+DrawnTo is n cur stk b ph m c z b′ no = Unit {0}
+DrawnTo is n cur stk b ph m c z b′ (to k ph′) = (x : Drawn is n cur stk ph m c z k ph′) × (lastBytes b (x .rows) ≡ b′)
 
 -- the current atom after a piece, and the atoms at which branches are open
 unfoldable pub pieceAtom : Piece → ℕ → ℕ → List ℕ → ℕ
@@ -91,41 +117,42 @@ pieceStack lpar cur stk = cur ∷ stk
 pieceStack rpar cur [] = []
 pieceStack rpar cur (p ∷ stk) = stk
 
-silent : (u : Piece) (n cur cur′ : ℕ) (stk stk′ : List ℕ) (ph ph′ : Phase) → step u (st n cur stk [] ph) ≡ ok [] (st n cur′ stk′ [] ph′)
-    → Drawn (piece u ∷ []) n cur stk ph (n + 0) cur′ stk′ (length stk′) ph′
-unfolding drawAll draw andThen prepend
-silent u n cur cur′ stk stk′ ph ph′ e =
+silent : (u : Piece) (n cur cur′ : ℕ) (stk stk′ : List ℕ) (b : Option (List ℕ)) (ph ph′ : Phase) → step u (st n cur stk [] ph) ≡ ok [] (st n cur′ stk′ [] ph′)
+    → (x : Drawn (piece u ∷ []) n cur stk ph (n + 0) cur′ stk′ (length stk′) ph′) × (lastBytes b (x .rows) ≡ b)
+unfolding drawAll draw andThen prepend lastBytes
+silent u n cur cur′ stk stk′ b ph ph′ e =
     let z : n + 0 ≡ n = omega arith in
-    record { rows = []; does = rw (e, z); deep = refl; many = refl }
+    (record { rows = []; does = rw (e, z); deep = refl; many = refl }, refl)
 
-one-row : (u : Piece) (n cur : ℕ) (stk : List ℕ) (ph : Phase) (r : Row) → step u (st n cur stk [] ph) ≡ ok (r ∷ []) (st (suc n) n stk [] after)
-    → Drawn (piece u ∷ []) n cur stk ph (n + 1) n stk (length stk) after
-unfolding drawAll draw andThen prepend
-one-row u n cur stk ph r e =
+one-row : (u : Piece) (n cur : ℕ) (stk : List ℕ) (b : Option (List ℕ)) (ph : Phase) (bs : List ℕ) (ks : List Link) → step u (st n cur stk [] ph) ≡ ok (row bs ks ∷ []) (st (suc n) n stk [] after)
+    → (x : Drawn (piece u ∷ []) n cur stk ph (n + 1) n stk (length stk) after) × (lastBytes b (x .rows) ≡ some bs)
+unfolding drawAll draw andThen prepend lastBytes
+one-row u n cur stk b ph bs ks e =
     let z : n + 1 ≡ suc n = omega arith in
-    record { rows = r ∷ []; does = rw (e, z); deep = refl; many = refl }
+    (record { rows = row bs ks ∷ []; does = rw (e, z); deep = refl; many = refl }, refl)
 
-piece-drawn : (u : Piece) (n cur : ℕ) (stk : List ℕ) (ph : Phase) → DrawnTo (piece u ∷ []) n cur stk ph (n + atomsOfPiece u) (pieceAtom u n cur stk) (pieceStack u cur stk) (turnPiece u (length stk) ph)
-unfolding turnPiece atomsOfPiece pieceAtom pieceStack step put labels
-piece-drawn (atom b []) n cur stk ph = one-row (atom b []) n cur stk ph (row b (joins ph cur)) refl
-piece-drawn (atom b (l ∷ ls)) n cur stk ph = tt
-piece-drawn (mark m) n cur stk fresh = tt
-piece-drawn (mark m) n cur stk opened = silent (mark m) n cur _ stk _ opened _ refl
-piece-drawn (mark m) n cur stk after = silent (mark m) n cur _ stk _ after _ refl
-piece-drawn (mark m) n cur stk (marked m′) = tt
-piece-drawn dot n cur stk fresh = tt
-piece-drawn dot n cur stk opened = tt
-piece-drawn dot n cur stk after = silent dot n cur _ stk _ after _ refl
-piece-drawn dot n cur stk (marked m) = tt
-piece-drawn lpar n cur stk fresh = tt
-piece-drawn lpar n cur stk opened = tt
-piece-drawn lpar n cur stk after = silent lpar n cur _ stk _ after _ refl
-piece-drawn lpar n cur stk (marked m) = tt
-piece-drawn rpar n cur [] ph = tt
-piece-drawn rpar n cur (p ∷ stk) fresh = tt
-piece-drawn rpar n cur (p ∷ stk) opened = tt
-piece-drawn rpar n cur (p ∷ stk) after = silent rpar n cur _ (p ∷ stk) _ after _ refl
-piece-drawn rpar n cur (p ∷ stk) (marked m) = tt
+piece-drawn : (u : Piece) (n cur : ℕ) (stk : List ℕ) (b : Option (List ℕ)) (ph : Phase)
+    → DrawnTo (piece u ∷ []) n cur stk b ph (n + atomsOfPiece u) (pieceAtom u n cur stk) (pieceStack u cur stk) (lastAtom b (u ∷ [])) (turnPiece u (length stk) ph)
+unfolding turnPiece atomsOfPiece pieceAtom pieceStack lastAtom step put labels
+piece-drawn (atom a []) n cur stk b ph = one-row (atom a []) n cur stk b ph a (joins ph cur) refl
+piece-drawn (atom a (l ∷ ls)) n cur stk b ph = tt
+piece-drawn (mark m) n cur stk b fresh = tt
+piece-drawn (mark m) n cur stk b opened = silent (mark m) n cur _ stk _ b opened _ refl
+piece-drawn (mark m) n cur stk b after = silent (mark m) n cur _ stk _ b after _ refl
+piece-drawn (mark m) n cur stk b (marked m′) = tt
+piece-drawn dot n cur stk b fresh = tt
+piece-drawn dot n cur stk b opened = tt
+piece-drawn dot n cur stk b after = silent dot n cur _ stk _ b after _ refl
+piece-drawn dot n cur stk b (marked m) = tt
+piece-drawn lpar n cur stk b fresh = tt
+piece-drawn lpar n cur stk b opened = tt
+piece-drawn lpar n cur stk b after = silent lpar n cur _ stk _ b after _ refl
+piece-drawn lpar n cur stk b (marked m) = tt
+piece-drawn rpar n cur [] b ph = tt
+piece-drawn rpar n cur (p ∷ stk) b fresh = tt
+piece-drawn rpar n cur (p ∷ stk) b opened = tt
+piece-drawn rpar n cur (p ∷ stk) b after = silent rpar n cur _ (p ∷ stk) _ b after _ refl
+piece-drawn rpar n cur (p ∷ stk) b (marked m) = tt
 
 -- ---- the chains in their places
 
@@ -162,104 +189,104 @@ placing-append lo mid hi v u w (p ∷ ps) qs h g =
 
 -- ---- items and their chains
 
--- the last row before a slot's chain is its O
-abbrev pub Led : Role → List Row → Type 0
-Led role.Slot rs = record { front : List Row; links : List Link; is : rs ≡ front ++ row (ascii "O") links ∷ [] }
-Led role.Acyl rs = Unit {0}
-Led role.Base rs = Unit {0}
+-- a chain in a slot, or an acyl chain outside of one, comes right after the atom that its class says: π by role
+abbrev pub Led : (Role → List ℕ) → Role → Option (List ℕ) → Type 0
+Led π role.Slot b = b ≡ some (π role.Slot)
+Led π role.Acyl b = b ≡ some (π role.Acyl)
+Led π role.Base b = Unit {0}
 
--- a chain's rows stand among these, which are numbered from n
-pub record Strand (n : ℕ) (rs : List Row) (p : Placed) : Type 0 where
+-- a chain's rows stand among these, which are numbered from n; b is the last atom before them
+pub record Strand (π : Role → List ℕ) (b : Option (List ℕ)) (n : ℕ) (rs : List Row) (p : Placed) : Type 0 where
   pub before : List Row
   pub behind : List Row
-  pub is : rs ≡ before ++ (ownRows p ++ behind)
+  pub is : rs ≡ before ++ (rowsOf (ownMembers p) ++ behind)
   pub from : n + length before ≡ p .first
-  pub led : Led (p .role) before
+  pub led : Led π (p .role) (lastBytes b before)
   pub site : p .site ≡ siteBy (p .role) (p .first)
 
-pub record Made (is : List Item) (ps : List Placed) (n v cur : ℕ) (stk : List ℕ) (ph : Phase) (m w c : ℕ) (z : List ℕ) (most k : ℕ) (ph′ : Phase) : Type 0 where
+-- items that are drawn, with their chains, from the last atom b on to the last atom b′
+pub record Made (π : Role → List ℕ) (is : List Item) (ps : List Placed) (n v cur : ℕ) (stk : List ℕ) (b : Option (List ℕ)) (ph : Phase) (m w c : ℕ) (z : List ℕ) (b′ : Option (List ℕ)) (most k : ℕ) (ph′ : Phase) : Type 0 where
   pub drawn : Drawn is n cur stk ph m c z k ph′
   pub placing : Placing n m v w ps
-  pub strands : All (Strand n (drawn .rows)) ps
+  pub strands : All (Strand π b n (drawn .rows)) ps
+  pub last : lastBytes b (drawn .rows) ≡ b′
   pub few : m ≤ n + most
 
-abbrev pub MadeTo : List Item → List Placed → ℕ → ℕ → ℕ → List ℕ → Phase → ℕ → ℕ → ℕ → List ℕ → ℕ → Turn → Type 0
-MadeTo is ps n v cur stk ph m w c z most no = Unit {0}
-MadeTo is ps n v cur stk ph m w c z most (to k ph′) = Made is ps n v cur stk ph m w c z most k ph′
+abbrev pub MadeTo : (Role → List ℕ) → List Item → List Placed → ℕ → ℕ → ℕ → List ℕ → Option (List ℕ) → Phase → ℕ → ℕ → ℕ → List ℕ → Option (List ℕ) → ℕ → Turn → Type 0
+MadeTo π is ps n v cur stk b ph m w c z b′ most no = Unit {0}
+MadeTo π is ps n v cur stk b ph m w c z b′ most (to k ph′) = Made π is ps n v cur stk b ph m w c z b′ most k ph′
 
-led-before : (r : Role) (xs ys : List Row) → Led r ys → Led r (xs ++ ys)
-led-before role.Slot xs ys h = record { front = xs ++ h .front; links = h .links; is = ap (λ (z : List Row). xs ++ z) (h .is) ∙ sym (append-assoc xs (h .front) (row (ascii "O") (h .links) ∷ [])) }
-led-before role.Acyl xs ys h = tt
-led-before role.Base xs ys h = tt
-
-strand-after : (n : ℕ) (xs ys : List Row) (p : Placed) → Strand n xs p → Strand n (xs ++ ys) p
-strand-after n xs ys p s =
+strand-after : (π : Role → List ℕ) (b : Option (List ℕ)) (n : ℕ) (xs ys : List Row) (p : Placed) → Strand π b n xs p → Strand π b n (xs ++ ys) p
+strand-after π b n xs ys p s =
+    let own : List Row = rowsOf (ownMembers p) in
     record {
       before = s .before;
       behind = s .behind ++ ys;
-      is = ap (λ (z : List Row). z ++ ys) (s .is) ∙ append-assoc (s .before) (ownRows p ++ s .behind) ys ∙ ap (λ (z : List Row). s .before ++ z) (append-assoc (ownRows p) (s .behind) ys);
+      is = ap (λ (z : List Row). z ++ ys) (s .is) ∙ append-assoc (s .before) (own ++ s .behind) ys ∙ ap (λ (z : List Row). s .before ++ z) (append-assoc own (s .behind) ys);
       from = s .from;
       led = s .led;
       site = s .site;
     }
 
-strand-before : (n m : ℕ) (xs ys : List Row) (p : Placed) → n + length xs ≡ m → Strand m ys p → Strand n (xs ++ ys) p
-strand-before n m xs ys p e s =
+strand-before : (π : Role → List ℕ) (b b′ : Option (List ℕ)) (n m : ℕ) (xs ys : List Row) (p : Placed) → lastBytes b xs ≡ b′ → n + length xs ≡ m → Strand π b′ m ys p → Strand π b n (xs ++ ys) p
+strand-before π b b′ n m xs ys p q e s =
     record {
       before = xs ++ s .before;
       behind = s .behind;
-      is = ap (λ (z : List Row). xs ++ z) (s .is) ∙ sym (append-assoc xs (s .before) (ownRows p ++ s .behind));
+      is = ap (λ (z : List Row). xs ++ z) (s .is) ∙ sym (append-assoc xs (s .before) (rowsOf (ownMembers p) ++ s .behind));
       from = omega (arith, length-append xs (s .before), s .from);
-      led = led-before (p .role) xs (s .before) (s .led);
+      led = rw (last-append b xs (s .before), q) (s .led);
       site = s .site;
     }
 
-made-append : {xs ys : List Item} {ps qs : List Placed} {n v cur m w c a m′ w′ c′ b k k′ : ℕ} {stk z z′ : List ℕ} {ph ph′ ph″ : Phase} → Made xs ps n v cur stk ph m w c z a k ph′
-    → Made ys qs m w c z ph′ m′ w′ c′ z′ b k′ ph″ → Made (xs ++ ys) (ps ++ qs) n v cur stk ph m′ w′ c′ z′ (a + b) k′ ph″
+made-append : {π : Role → List ℕ} {xs ys : List Item} {ps qs : List Placed} {n v cur m w c a m′ w′ c′ d k k′ : ℕ} {stk z z′ : List ℕ} {b b′ b″ : Option (List ℕ)} {ph ph′ ph″ : Phase}
+    → Made π xs ps n v cur stk b ph m w c z b′ a k ph′ → Made π ys qs m w c z b′ ph′ m′ w′ c′ z′ b″ d k′ ph″ → Made π (xs ++ ys) (ps ++ qs) n v cur stk b ph m′ w′ c′ z′ b″ (a + d) k′ ph″
 unfolding drawn-append
-made-append {xs} {ys} {ps} {qs} {n} {v} {m = m} {w} {m′ = m′} {w′} x y =
+made-append {π} {xs} {ys} {ps} {qs} {n} {v} {m = m} {w} {m′ = m′} {w′} {b = b} {b′} {b″} x y =
     let us : List Row = x .drawn .rows in
     let vs : List Row = y .drawn .rows in
     record {
       drawn = drawn-append (x .drawn) (y .drawn);
       placing = placing-append n m m′ v w w′ ps qs (x .placing) (y .placing);
-      strands = all-append (Strand n (us ++ vs)) ps qs (all-map {P = Strand n us} {Q = Strand n (us ++ vs)} (λ p h. strand-after n us vs p h) ps (x .strands))
-          (all-map {P = Strand m vs} {Q = Strand n (us ++ vs)} (λ p h. strand-before n m us vs p (x .drawn .many) h) qs (y .strands));
+      strands = all-append (Strand π b n (us ++ vs)) ps qs (all-map {P = Strand π b n us} {Q = Strand π b n (us ++ vs)} (λ p h. strand-after π b n us vs p h) ps (x .strands))
+          (all-map {P = Strand π b′ m vs} {Q = Strand π b n (us ++ vs)} (λ p h. strand-before π b b′ n m us vs p (x .last) (x .drawn .many) h) qs (y .strands));
+      last = last-append b us vs ∙ ap (λ (o : Option (List ℕ)). lastBytes o vs) (x .last) ∙ y .last;
       few = omega (arith, x .few, y .few);
     }
 
 -- what follows is made from where the first ends
-made-then : (xs ys : List Item) (ps qs : List Placed) (n v cur : ℕ) (stk : List ℕ) (ph : Phase) (m w c : ℕ) (z : List ℕ) (a m′ w′ c′ : ℕ) (z′ : List ℕ) (b : ℕ) (T : Turn) (f : ℕ → Phase → Turn)
-    → MadeTo xs ps n v cur stk ph m w c z a T
-    → ((ph′ : Phase) → MadeTo ys qs m w c z ph′ m′ w′ c′ z′ b (f (length z) ph′))
-    → MadeTo (xs ++ ys) (ps ++ qs) n v cur stk ph m′ w′ c′ z′ (a + b) (andTurn T f)
+made-then : (π : Role → List ℕ) (xs ys : List Item) (ps qs : List Placed) (n v cur : ℕ) (stk : List ℕ) (b : Option (List ℕ)) (ph : Phase) (m w c : ℕ) (z : List ℕ) (b′ : Option (List ℕ)) (a m′ w′ c′ : ℕ) (z′ : List ℕ) (b″ : Option (List ℕ)) (d : ℕ) (T : Turn) (f : ℕ → Phase → Turn)
+    → MadeTo π xs ps n v cur stk b ph m w c z b′ a T
+    → ((ph′ : Phase) → MadeTo π ys qs m w c z b′ ph′ m′ w′ c′ z′ b″ d (f (length z) ph′))
+    → MadeTo π (xs ++ ys) (ps ++ qs) n v cur stk b ph m′ w′ c′ z′ b″ (a + d) (andTurn T f)
 unfolding andTurn
-made-then xs ys ps qs n v cur stk ph m w c z a m′ w′ c′ z′ b no f x y = tt
-made-then xs ys ps qs n v cur stk ph m w c z a m′ w′ c′ z′ b (to k ph′) f x y = go (f k ph′) (rw (x .drawn .deep) at (y ph′))
+made-then π xs ys ps qs n v cur stk b ph m w c z b′ a m′ w′ c′ z′ b″ d no f x y = tt
+made-then π xs ys ps qs n v cur stk b ph m w c z b′ a m′ w′ c′ z′ b″ d (to k ph′) f x y = go (f k ph′) (rw (x .drawn .deep) at (y ph′))
   where
-    go : (T : Turn) → MadeTo ys qs m w c z ph′ m′ w′ c′ z′ b T → MadeTo (xs ++ ys) (ps ++ qs) n v cur stk ph m′ w′ c′ z′ (a + b) T
+    go : (T : Turn) → MadeTo π ys qs m w c z b′ ph′ m′ w′ c′ z′ b″ d T → MadeTo π (xs ++ ys) (ps ++ qs) n v cur stk b ph m′ w′ c′ z′ b″ (a + d) T
     go no q = tt
     go (to k′ ph″) q = made-append x q
 
 -- ---- pieces
 
 -- items with no chain
-made-plain : {is : List Item} {n cur m c k : ℕ} {stk z : List ℕ} {ph ph′ : Phase} (v most : ℕ) → m ≤ n + most → Drawn is n cur stk ph m c z k ph′ → Made is [] n v cur stk ph m v c z most k ph′
-made-plain v most h d = record { drawn = d; placing = (omega (arith, d .many), refl); strands = tt; few = h }
+made-plain : {π : Role → List ℕ} {is : List Item} {n cur m c k : ℕ} {stk z : List ℕ} {b b′ : Option (List ℕ)} {ph ph′ : Phase} (v most : ℕ) → m ≤ n + most → (x : Drawn is n cur stk ph m c z k ph′) → lastBytes b (x .rows) ≡ b′
+    → Made π is [] n v cur stk b ph m v c z b′ most k ph′
+made-plain v most h d e = record { drawn = d; placing = (omega (arith, d .many), refl); strands = tt; last = e; few = h }
 
-made-piece : (u : Piece) (n v cur : ℕ) (stk : List ℕ) (ph : Phase)
-    → MadeTo (piece u ∷ []) [] n v cur stk ph (n + atomsOfPiece u) v (pieceAtom u n cur stk) (pieceStack u cur stk) (atomsOfPiece u) (turnPiece u (length stk) ph)
-made-piece u n v cur stk ph = go (turnPiece u (length stk) ph) (piece-drawn u n cur stk ph)
+made-piece : (π : Role → List ℕ) (u : Piece) (n v cur : ℕ) (stk : List ℕ) (b : Option (List ℕ)) (ph : Phase)
+    → MadeTo π (piece u ∷ []) [] n v cur stk b ph (n + atomsOfPiece u) v (pieceAtom u n cur stk) (pieceStack u cur stk) (lastAtom b (u ∷ [])) (atomsOfPiece u) (turnPiece u (length stk) ph)
+made-piece π u n v cur stk b ph = go (turnPiece u (length stk) ph) (piece-drawn u n cur stk b ph)
   where
-    go : (T : Turn) → DrawnTo (piece u ∷ []) n cur stk ph (n + atomsOfPiece u) (pieceAtom u n cur stk) (pieceStack u cur stk) T
-        → MadeTo (piece u ∷ []) [] n v cur stk ph (n + atomsOfPiece u) v (pieceAtom u n cur stk) (pieceStack u cur stk) (atomsOfPiece u) T
+    go : (T : Turn) → DrawnTo (piece u ∷ []) n cur stk b ph (n + atomsOfPiece u) (pieceAtom u n cur stk) (pieceStack u cur stk) (lastAtom b (u ∷ [])) T
+        → MadeTo π (piece u ∷ []) [] n v cur stk b ph (n + atomsOfPiece u) v (pieceAtom u n cur stk) (pieceStack u cur stk) (lastAtom b (u ∷ [])) (atomsOfPiece u) T
     go no x = tt
-    go (to k ph′) x = made-plain v (atomsOfPiece u) (omega arith) x
+    go (to k ph′) x = made-plain v (atomsOfPiece u) (omega arith) (x .0) (x .1)
 
-made-nothing : (n v cur : ℕ) (stk : List ℕ) (ph : Phase) → Made [] [] n v cur stk ph n v cur stk 0 (length stk) ph
-unfolding drawAll
-made-nothing n v cur stk ph =
-    made-plain v 0 (omega arith) (record { rows = []; does = refl; deep = refl; many = omega arith })
+made-nothing : (π : Role → List ℕ) (n v cur : ℕ) (stk : List ℕ) (b : Option (List ℕ)) (ph : Phase) → Made π [] [] n v cur stk b ph n v cur stk b 0 (length stk) ph
+unfolding drawAll lastBytes
+made-nothing π n v cur stk b ph =
+    made-plain v 0 (omega arith) (record { rows = []; does = refl; deep = refl; many = omega arith }) refl
 
 -- the current atom and the open branches after pieces
 unfoldable pub piecesAtom : List Piece → ℕ → ℕ → List ℕ → ℕ
@@ -272,18 +299,27 @@ unfolding pieceAtom pieceStack atomsOfPiece
 piecesStack [] n cur stk = stk
 piecesStack (u ∷ us) n cur stk = piecesStack us (n + atomsOfPiece u) (pieceAtom u n cur stk) (pieceStack u cur stk)
 
-made-pieces : (us : List Piece) (n v cur : ℕ) (stk : List ℕ) (ph : Phase)
-    → MadeTo (map piece us) [] n v cur stk ph (n + atomsOfPieces us) v (piecesAtom us n cur stk) (piecesStack us n cur stk) (atomsOfPieces us) (turnPieces us (length stk) ph)
+last-pieces : (b : Option (List ℕ)) (u : Piece) (us : List Piece) → lastAtom (lastAtom b (u ∷ [])) us ≡ lastAtom b (u ∷ us)
+unfolding lastAtom
+last-pieces b (atom x ls) us = refl
+last-pieces b (mark m) us = refl
+last-pieces b dot us = refl
+last-pieces b lpar us = refl
+last-pieces b rpar us = refl
+
+made-pieces : (π : Role → List ℕ) (us : List Piece) (n v cur : ℕ) (stk : List ℕ) (b : Option (List ℕ)) (ph : Phase)
+    → MadeTo π (map piece us) [] n v cur stk b ph (n + atomsOfPieces us) v (piecesAtom us n cur stk) (piecesStack us n cur stk) (lastAtom b us) (atomsOfPieces us) (turnPieces us (length stk) ph)
 unfolding turnPieces atomsOfPieces piecesAtom piecesStack
-made-pieces [] n v cur stk ph = let z : n + 0 ≡ n = omega arith in rw z (made-nothing n v cur stk ph)
-made-pieces (u ∷ us) n v cur stk ph =
+made-pieces π [] n v cur stk b ph = let z : n + 0 ≡ n = omega arith in rw z (unfold lastAtom in made-nothing π n v cur stk b ph)
+made-pieces π (u ∷ us) n v cur stk b ph =
     let z : n + (atomsOfPiece u + atomsOfPieces us) ≡ n + atomsOfPiece u + atomsOfPieces us = omega arith in
     let c : ℕ = pieceAtom u n cur stk in
     let k : List ℕ = pieceStack u cur stk in
     let m : ℕ = n + atomsOfPiece u in
-    rw z
-    (made-then (piece u ∷ []) (map piece us) [] [] n v cur stk ph m v c k (atomsOfPiece u) (m + atomsOfPieces us) v (piecesAtom us m c k) (piecesStack us m c k) (atomsOfPieces us)
-    (turnPiece u (length stk) ph) (λ k′ ph′. turnPieces us k′ ph′) (made-piece u n v cur stk ph) (λ ph′. made-pieces us m v c k ph′))
+    let b′ : Option (List ℕ) = lastAtom b (u ∷ []) in
+    rw (z, ← last-pieces b u us)
+    (made-then π (piece u ∷ []) (map piece us) [] [] n v cur stk b ph m v c k b′ (atomsOfPiece u) (m + atomsOfPieces us) v (piecesAtom us m c k) (piecesStack us m c k) (lastAtom b′ us) (atomsOfPieces us)
+    (turnPiece u (length stk) ph) (λ k′ ph′. turnPieces us k′ ph′) (made-piece π u n v cur stk b ph) (λ ph′. made-pieces π us m v c k b′ ph′))
 
 -- ---- a chain
 
@@ -317,9 +353,9 @@ abbrev placedAt : ℕ → Role → Option ℕ → ℕ → ℕ → Chain → Plac
 placedAt sn r s n v d = record { sn = sn; role = r; chain = d; first = n; site = s; variable = v }
 
 -- the rows of a chain, after others
-strand-here : (sn : ℕ) (r : Role) (s : Option ℕ) (n v cur k : ℕ) (d : Chain) (xs : List Row) → cur ≡ hangsOn r n → k + length xs ≡ n → Led r xs → s ≡ siteBy r n
-    → Strand k (xs ++ drawnRows r d n cur) (placedAt sn r s n v d)
-strand-here sn r s n v cur k d xs e q l h =
+strand-here : (π : Role → List ℕ) (sn : ℕ) (r : Role) (s : Option ℕ) (n v cur k : ℕ) (d : Chain) (b : Option (List ℕ)) (xs : List Row) → cur ≡ hangsOn r n → k + length xs ≡ n → Led π r (lastBytes b xs) → s ≡ siteBy r n
+    → Strand π b k (xs ++ drawnRows r d n cur) (placedAt sn r s n v d)
+strand-here π sn r s n v cur k d b xs e q l h =
     record {
       before = xs;
       behind = [];
@@ -329,20 +365,26 @@ strand-here sn r s n v cur k d xs e q l h =
       site = h;
     }
 
--- a chain after no O has its own first atom as its site, or none
-chain-from : (r : Role) (n : ℕ) → Led r [] → SiteFrom n n (siteBy r n)
-chain-from role.Slot n l = absurd (omega (arith, ap length (l .is), length-append (l .front) (row (ascii "O") (l .links) ∷ [])))
-chain-from role.Acyl n l = (omega arith, omega arith)
-chain-from role.Base n l = tt
+-- a chain without an O of a slot hangs where its role says, after the atom that its class says, and its site is no earlier atom
+pub record Anchored (π : Role → List ℕ) (r : Role) (n cur : ℕ) (b : Option (List ℕ)) : Type 0 where
+  pub hangs : cur ≡ hangsOn r n
+  pub led : Led π r b
+  pub site : siteOf r n ≡ siteBy r n
+  pub from : SiteFrom n n (siteOf r n)
 
-made-chain : (sn : ℕ) (r : Role) (d : Chain) → Drawable r d → (n v cur : ℕ) (stk : List ℕ) → cur ≡ hangsOn r n → Led r [] → siteOf r n ≡ siteBy r n
-    → Made (template.chain (chainDrawn r d) ∷ []) (placedAt sn r (siteOf r n) n v d ∷ []) n v cur stk after (atomsEnd r d n) (v + variables d) (chainAtom r d n cur) stk 701 (length stk) after
-unfolding chain-drawn
-made-chain sn r d a n v cur stk e l q =
+-- the last atom after a chain
+abbrev chainBytes : Role → Chain → ℕ → ℕ → Option (List ℕ) → Option (List ℕ)
+chainBytes r d n cur b = lastBytes b (drawnRows r d n cur)
+
+made-chain : (π : Role → List ℕ) (sn : ℕ) (r : Role) (d : Chain) → Drawable r d → (n v cur : ℕ) (stk : List ℕ) (b : Option (List ℕ)) → Anchored π r n cur b
+    → Made π (template.chain (chainDrawn r d) ∷ []) (placedAt sn r (siteOf r n) n v d ∷ []) n v cur stk b after (atomsEnd r d n) (v + variables d) (chainAtom r d n cur) stk (chainBytes r d n cur b) 701 (length stk) after
+unfolding chain-drawn lastBytes
+made-chain π sn r d a n v cur stk b x =
     record {
       drawn = chain-drawn r d a n cur stk;
-      placing = (record { drawable = a; from = omega arith; site = subst (SiteFrom n n) (sym q) (chain-from r n l); variable = refl }, (omega arith, refl));
-      strands = (strand-here sn r (siteOf r n) n v cur n d [] e (omega arith) l q, tt);
+      placing = (record { drawable = a; from = omega arith; site = x .from; variable = refl }, (omega arith, refl));
+      strands = (strand-here π sn r (siteOf r n) n v cur n d b [] (x .hangs) (omega arith) (x .led) (x .site), tt);
+      last = refl;
       few = atoms-most r d n a;
     }
 
@@ -357,19 +399,20 @@ slot-site n = ap (λ (i : ℕ). some i) (omega arith)
 slot-from : (n : ℕ) → SiteFrom n (suc n) (siteBy role.Slot (suc n))
 slot-from n = (omega arith, omega arith)
 
-made-slot : (sn : ℕ) (d : Chain) → Drawable role.Slot d → (n v cur : ℕ) (stk : List ℕ) (ph : Phase)
-    → Made (slotOxygen ∷ template.chain (chainDrawn role.Slot d) ∷ []) (placedAt sn role.Slot (siteOf role.Slot n) (suc n) v d ∷ []) n v cur stk ph (atomsEnd role.Slot d (suc n))
-    (v + variables d) (chainAtom role.Slot d (suc n) n) stk 702 (length stk) after
-unfolding drawn-append oxygen-drawn chain-drawn
-made-slot sn d a n v cur stk ph =
+made-slot : (π : Role → List ℕ) → π role.Slot ≡ ascii "O" → (sn : ℕ) (d : Chain) → Drawable role.Slot d → (n v cur : ℕ) (stk : List ℕ) (b : Option (List ℕ)) (ph : Phase)
+    → Made π (slotOxygen ∷ template.chain (chainDrawn role.Slot d) ∷ []) (placedAt sn role.Slot (siteOf role.Slot n) (suc n) v d ∷ []) n v cur stk b ph (atomsEnd role.Slot d (suc n))
+    (v + variables d) (chainAtom role.Slot d (suc n) n) stk (chainBytes role.Slot d (suc n) n (some (ascii "O"))) 702 (length stk) after
+unfolding drawn-append oxygen-drawn chain-drawn lastBytes
+made-slot π o sn d a n v cur stk b ph =
     let z : n ≡ suc n - 1 = omega arith in
     record {
       drawn = drawn-append (oxygen-drawn n cur stk ph) (chain-drawn role.Slot d a (suc n) n stk);
       placing = (record { drawable = a; from = omega arith; site = subst (SiteFrom n (suc n)) (sym (slot-site n)) (slot-from n); variable = refl }, (omega arith, refl));
       strands = (
-        strand-here sn role.Slot (siteOf role.Slot n) (suc n) v n n d (row (ascii "O") (joins ph cur) ∷ []) z (omega arith) (record { front = []; links = joins ph cur; is = refl }) (slot-site n),
+        strand-here π sn role.Slot (siteOf role.Slot n) (suc n) v n n d b (row (ascii "O") (joins ph cur) ∷ []) z (omega arith) (ap (λ (x : List ℕ). some x) (sym o)) (slot-site n),
         tt,
       );
+      last = refl;
       few = omega (arith, atoms-most role.Slot d (suc n) a);
     }
 
@@ -434,57 +477,71 @@ stackTo t ds n cur stk (tail ∷ es) = stackTo t ds (n + tailPart t .size) (at c
 stackTo t ds n cur stk (slot sn ∷ es) = stackTo t ds (atomsAfter role.Slot (suc n) (nonempty sn ds)) (atomAfter role.Slot (suc n) n (nonempty sn ds)) stk es
 stackTo t ds n cur stk (chain sn r ∷ es) = stackTo t ds (atomsAfter r n (nonempty sn ds)) (atomAfter r n cur (nonempty sn ds)) stk es
 
--- a chain without an O is no slot's, and hangs where its role says
-pub record Anchored (r : Role) (n cur : ℕ) : Type 0 where
-  pub hangs : cur ≡ hangsOn r n
-  pub led : Led r []
-  pub site : siteOf r n ≡ siteBy r n
+-- the last atom after some elements
+abbrev pub bytesAfter : Role → ℕ → ℕ → Option (List ℕ) → Option Chain → Option (List ℕ)
+bytesAfter r n cur b none = b
+bytesAfter r n cur b (some d) = chainBytes r d n cur b
 
-unfoldable pub Anchors : List ℕ → List Chain → ℕ → ℕ → List ℕ → List Element → Type 0
-unfolding atomsOfPieces fixedPieces tailPart nonempty piecesAtom piecesStack
-Anchors t ds n cur stk [] = Unit {0}
-Anchors t ds n cur stk (fixed b ∷ es) = Anchors t ds (n + atomsOfPieces (fixedPieces b)) (piecesAtom (fixedPieces b) n cur stk) (piecesStack (fixedPieces b) n cur stk) es
-Anchors t ds n cur stk (tail ∷ es) = Anchors t ds (n + tailPart t .size) (at cur n (tailPart t .last)) stk es
-Anchors t ds n cur stk (slot sn ∷ es) = Anchors t ds (atomsAfter role.Slot (suc n) (nonempty sn ds)) (atomAfter role.Slot (suc n) n (nonempty sn ds)) stk es
-Anchors t ds n cur stk (chain sn r ∷ es) = Anchored r n cur × Anchors t ds (atomsAfter r n (nonempty sn ds)) (atomAfter r n cur (nonempty sn ds)) stk es
+unfoldable pub lastTo : List ℕ → List Chain → ℕ → ℕ → List ℕ → Option (List ℕ) → List Element → Option (List ℕ)
+unfolding atomsOfPieces fixedPieces tailPart nonempty piecesAtom piecesStack lastAtom lastBytes
+lastTo t ds n cur stk b [] = b
+lastTo t ds n cur stk b (fixed x ∷ es) = lastTo t ds (n + atomsOfPieces (fixedPieces x)) (piecesAtom (fixedPieces x) n cur stk) (piecesStack (fixedPieces x) n cur stk) (lastAtom b (fixedPieces x)) es
+lastTo t ds n cur stk b (tail ∷ es) = lastTo t ds (n + tailPart t .size) (at cur n (tailPart t .last)) stk (lastBytes b (tailPart t .rows)) es
+lastTo t ds n cur stk b (slot sn ∷ es) =
+    lastTo t ds (atomsAfter role.Slot (suc n) (nonempty sn ds)) (atomAfter role.Slot (suc n) n (nonempty sn ds)) stk (bytesAfter role.Slot (suc n) n (some (ascii "O")) (nonempty sn ds)) es
+lastTo t ds n cur stk b (chain sn r ∷ es) = lastTo t ds (atomsAfter r n (nonempty sn ds)) (atomAfter r n cur (nonempty sn ds)) stk (bytesAfter r n cur b (nonempty sn ds)) es
+
+unfoldable pub Anchors : (Role → List ℕ) → List ℕ → List Chain → ℕ → ℕ → List ℕ → Option (List ℕ) → List Element → Type 0
+unfolding atomsOfPieces fixedPieces tailPart nonempty piecesAtom piecesStack lastAtom lastBytes
+Anchors π t ds n cur stk b [] = Unit {0}
+Anchors π t ds n cur stk b (fixed x ∷ es) = Anchors π t ds (n + atomsOfPieces (fixedPieces x)) (piecesAtom (fixedPieces x) n cur stk) (piecesStack (fixedPieces x) n cur stk) (lastAtom b (fixedPieces x)) es
+Anchors π t ds n cur stk b (tail ∷ es) = Anchors π t ds (n + tailPart t .size) (at cur n (tailPart t .last)) stk (lastBytes b (tailPart t .rows)) es
+Anchors π t ds n cur stk b (slot sn ∷ es) =
+    Anchors π t ds (atomsAfter role.Slot (suc n) (nonempty sn ds)) (atomAfter role.Slot (suc n) n (nonempty sn ds)) stk (bytesAfter role.Slot (suc n) n (some (ascii "O")) (nonempty sn ds)) es
+Anchors π t ds n cur stk b (chain sn r ∷ es) =
+    Anchored π r n cur b × Anchors π t ds (atomsAfter r n (nonempty sn ds)) (atomAfter r n cur (nonempty sn ds)) stk (bytesAfter r n cur b (nonempty sn ds)) es
 
 -- in the eight templates each does
-pub anchors : (c : Class) (t : List ℕ) (ds : List Chain) → Anchors t ds 0 0 [] (elements c)
+pub anchors : (c : Class) (t : List ℕ) (ds : List Chain) → Anchors (parentOf c) t ds 0 0 [] none (elements c)
 unfolding Anchors elements glycerol
-anchors Fa t ds = (record { hangs = refl; led = tt; site = refl }, tt)
+anchors Fa t ds = (record { hangs = refl; led = refl; site = refl; from = (omega arith, omega arith) }, tt)
 anchors Gl1 t ds = tt
 anchors Gl2 t ds = tt
 anchors Gl3 t ds = tt
 anchors Gp t ds = tt
 anchors Cl t ds = tt
-anchors Sb t ds = (record { hangs = refl; led = tt; site = refl }, tt)
-anchors Sa t ds = (record { hangs = omega arith; led = tt; site = refl }, (record { hangs = refl; led = tt; site = refl }, tt))
+anchors Sb t ds = (record { hangs = refl; led = tt; site = refl; from = tt }, tt)
+anchors Sa t ds = (
+  record { hangs = omega arith; led = refl; site = refl; from = (omega arith, omega arith) },
+  (record { hangs = refl; led = tt; site = refl; from = tt }, tt),
+)
 
-made-more : {is : List Item} {ps : List Placed} {n v cur m w c a k : ℕ} {stk z : List ℕ} {ph ph′ : Phase} (b : ℕ) → a ≤ b → Made is ps n v cur stk ph m w c z a k ph′
-    → Made is ps n v cur stk ph m w c z b k ph′
-made-more b h x = record { drawn = x .drawn; placing = x .placing; strands = x .strands; few = omega (arith, x .few) }
+made-more : {π : Role → List ℕ} {is : List Item} {ps : List Placed} {n v cur m w c a k : ℕ} {stk z : List ℕ} {b b′ : Option (List ℕ)} {ph ph′ : Phase} (d : ℕ) → a ≤ d → Made π is ps n v cur stk b ph m w c z b′ a k ph′
+    → Made π is ps n v cur stk b ph m w c z b′ d k ph′
+made-more d h x = record { drawn = x .drawn; placing = x .placing; strands = x .strands; last = x .last; few = omega (arith, x .few) }
 
-made-tail : (t : List ℕ) → TailFits t → (n v cur : ℕ) (stk : List ℕ) (ph : Phase)
-    → MadeTo (part (tailPart t) ∷ []) [] n v cur stk ph (n + tailPart t .size) v (at cur n (tailPart t .last)) stk 255 (turnTail (length stk) ph)
-unfolding turnTail drawPart
-made-tail t f n v cur stk fresh = tt
-made-tail t f n v cur stk opened = made-plain v 255 (omega (arith, f .few)) (part-drawn (tailPart t) (f .hangs) n cur stk opened refl)
-made-tail t f n v cur stk after = made-plain v 255 (omega (arith, f .few)) (part-drawn (tailPart t) (f .hangs) n cur stk after refl)
-made-tail t f n v cur stk (marked m) = tt
+made-tail : (π : Role → List ℕ) (t : List ℕ) → TailFits t → (n v cur : ℕ) (stk : List ℕ) (b : Option (List ℕ)) (ph : Phase)
+    → MadeTo π (part (tailPart t) ∷ []) [] n v cur stk b ph (n + tailPart t .size) v (at cur n (tailPart t .last)) stk (lastBytes b (tailPart t .rows)) 255 (turnTail (length stk) ph)
+unfolding turnTail drawPart hung part-drawn
+made-tail π t f n v cur stk b fresh = tt
+made-tail π t f n v cur stk b opened = made-plain v 255 (omega (arith, f .few)) (part-drawn (tailPart t) (f .hangs) n cur stk opened refl) (last-hung b cur n (tailPart t .rows))
+made-tail π t f n v cur stk b after = made-plain v 255 (omega (arith, f .few)) (part-drawn (tailPart t) (f .hangs) n cur stk after refl) (last-hung b cur n (tailPart t .rows))
+made-tail π t f n v cur stk b (marked m) = tt
 
-made-slot-or : (sn : ℕ) (o : Option Chain) → ((d : Chain) → o ≡ some d → Drawable role.Slot d) → (n v cur : ℕ) (stk : List ℕ) (ph : Phase)
-    → Made (slotOxygen ∷ chainItem role.Slot o) (place sn role.Slot (siteOf role.Slot n) (suc n) v o) n v cur stk ph (atomsAfter role.Slot (suc n) o) (variablesAfter v o) (atomAfter role.Slot (suc n) n o) stk 702 (length stk) after
-made-slot-or sn none h n v cur stk ph = made-plain v 702 (omega arith) (oxygen-drawn n cur stk ph)
-made-slot-or sn (some d) h n v cur stk ph = made-slot sn d (h d refl) n v cur stk ph
+made-slot-or : (π : Role → List ℕ) → π role.Slot ≡ ascii "O" → (sn : ℕ) (o : Option Chain) → ((d : Chain) → o ≡ some d → Drawable role.Slot d) → (n v cur : ℕ) (stk : List ℕ) (b : Option (List ℕ)) (ph : Phase)
+    → Made π (slotOxygen ∷ chainItem role.Slot o) (place sn role.Slot (siteOf role.Slot n) (suc n) v o) n v cur stk b ph (atomsAfter role.Slot (suc n) o) (variablesAfter v o) (atomAfter role.Slot (suc n) n o) stk
+    (bytesAfter role.Slot (suc n) n (some (ascii "O")) o) 702 (length stk) after
+made-slot-or π e sn none h n v cur stk b ph = made-plain v 702 (omega arith) (oxygen-drawn n cur stk ph) (unfold oxygen-drawn lastBytes in refl)
+made-slot-or π e sn (some d) h n v cur stk b ph = made-slot π e sn d (h d refl) n v cur stk b ph
 
-made-chain-or : (sn : ℕ) (r : Role) (o : Option Chain) → ((d : Chain) → o ≡ some d → Drawable r d) → (n v cur : ℕ) → Anchored r n cur → (stk : List ℕ) (ph : Phase)
-    → MadeTo (chainItem r o) (place sn r (siteOf r n) n v o) n v cur stk ph (atomsAfter r n o) (variablesAfter v o) (atomAfter r n cur o) stk 701 (turnChain (length stk) ph)
+made-chain-or : (π : Role → List ℕ) (sn : ℕ) (r : Role) (o : Option Chain) → ((d : Chain) → o ≡ some d → Drawable r d) → (n v cur : ℕ) (b : Option (List ℕ)) → Anchored π r n cur b → (stk : List ℕ) (ph : Phase)
+    → MadeTo π (chainItem r o) (place sn r (siteOf r n) n v o) n v cur stk b ph (atomsAfter r n o) (variablesAfter v o) (atomAfter r n cur o) stk (bytesAfter r n cur b o) 701 (turnChain (length stk) ph)
 unfolding turnChain
-made-chain-or sn r o h n v cur x stk fresh = tt
-made-chain-or sn r o h n v cur x stk opened = tt
-made-chain-or sn r none h n v cur x stk after = made-more 701 (omega arith) (made-nothing n v cur stk after)
-made-chain-or sn r (some d) h n v cur x stk after = made-chain sn r d (h d refl) n v cur stk (x .hangs) (x .led) (x .site)
-made-chain-or sn r o h n v cur x stk (marked m) = tt
+made-chain-or π sn r o h n v cur b x stk fresh = tt
+made-chain-or π sn r o h n v cur b x stk opened = tt
+made-chain-or π sn r none h n v cur b x stk after = made-more 701 (omega arith) (made-nothing π n v cur stk b after)
+made-chain-or π sn r (some d) h n v cur b x stk after = made-chain π sn r d (h d refl) n v cur stk b x
+made-chain-or π sn r o h n v cur b x stk (marked m) = tt
 
 nonempty-is : (sn : ℕ) (ds : List Chain) (d : Chain) → nonempty sn ds ≡ some d → (chainAt sn ds ≡ some d) × (0 < d .carbon)
 unfolding nonempty
@@ -519,42 +576,47 @@ module _ (t : List ℕ) (ds : List Chain) (ρ : ℕ → Role) (accepts : (sn : �
       let z : (chainAt sn ds ≡ some d) × (0 < d .carbon) = nonempty-is sn ds d q in
       drawable r d (subst (λ (x : Role). Accepts x d) (same-role (ρ sn) r e) (accepts sn d (z .0))) (z .1)
 
-  pub made-all : (es : List Element) → allOf (inRole ρ) es ≡ true → (anyOf isTailed es ≡ true → TailFits t) → (n v cur : ℕ) (stk : List ℕ) (ph : Phase) → Anchors t ds n cur stk es
-      → MadeTo (allItems t ds es) (placedFrom t ds n v es) n v cur stk ph (atomsTo t ds n es) (variablesTo ds v es) (atomTo t ds n cur stk es) (stackTo t ds n cur stk es) (mostAtoms es)
-      (turnAll es (length stk) ph)
-  unfolding allOf anyOf inRole isTailed allItems itemsOf placedFrom atomsTo variablesTo atomTo stackTo Anchors mostAtoms turnAll turnElement
-  made-all [] e h n v cur stk ph g = made-nothing n v cur stk ph
-  made-all (fixed b ∷ es) e h n v cur stk ph g =
-      let us : List Piece = fixedPieces b in
-      let m : ℕ = n + atomsOfPieces us in
-      let c : ℕ = piecesAtom us n cur stk in
-      let z : List ℕ = piecesStack us n cur stk in
-      made-then (map piece us) (allItems t ds es) [] (placedFrom t ds m v es) n v cur stk ph m v c z (atomsOfPieces us) (atomsTo t ds m es) (variablesTo ds v es) (atomTo t ds m c z es)
-      (stackTo t ds m c z es) (mostAtoms es) (turnPieces us (length stk) ph) (λ k′ ph′. turnAll es k′ ph′) (made-pieces us n v cur stk ph) (λ ph′. made-all es e h m v c z ph′ g)
-  made-all (tail ∷ es) e h n v cur stk ph g =
-      let m : ℕ = n + tailPart t .size in
-      let c : ℕ = at cur n (tailPart t .last) in
-      made-then (part (tailPart t) ∷ []) (allItems t ds es) [] (placedFrom t ds m v es) n v cur stk ph m v c stk 255 (atomsTo t ds m es) (variablesTo ds v es) (atomTo t ds m c stk es)
-      (stackTo t ds m c stk es) (mostAtoms es) (turnTail (length stk) ph) (λ k′ ph′. turnAll es k′ ph′) (made-tail t (h refl) n v cur stk ph)
-      (λ ph′. made-all es e (λ q. h refl) m v c stk ph′ g)
-  made-all (slot sn ∷ es) e h n v cur stk ph g =
-      let o : Option Chain = nonempty sn ds in
-      let m : ℕ = atomsAfter role.Slot (suc n) o in
-      let w : ℕ = variablesAfter v o in
-      let c : ℕ = atomAfter role.Slot (suc n) n o in
-      made-then (slotOxygen ∷ chainItem role.Slot o) (allItems t ds es) (place sn role.Slot (siteOf role.Slot n) (suc n) v o) (placedFrom t ds m w es) n v cur stk ph m w c stk 702
-      (atomsTo t ds m es) (variablesTo ds w es) (atomTo t ds m c stk es) (stackTo t ds m c stk es) (mostAtoms es) (to (length stk) after) (λ k′ ph′. turnAll es k′ ph′)
-      (made-slot-or sn o (drawable-at sn role.Slot (and-left (sameRole (ρ sn) role.Slot) (allOf (inRole ρ) es) e)) n v cur stk ph)
-      (λ ph′. made-all es (and-right (sameRole (ρ sn) role.Slot) (allOf (inRole ρ) es) e) h m w c stk ph′ g)
-  made-all (chain sn r ∷ es) e h n v cur stk ph g =
-      let o : Option Chain = nonempty sn ds in
-      let m : ℕ = atomsAfter r n o in
-      let w : ℕ = variablesAfter v o in
-      let c : ℕ = atomAfter r n cur o in
-      made-then (chainItem r o) (allItems t ds es) (place sn r (siteOf r n) n v o) (placedFrom t ds m w es) n v cur stk ph m w c stk 701
-      (atomsTo t ds m es) (variablesTo ds w es) (atomTo t ds m c stk es) (stackTo t ds m c stk es) (mostAtoms es) (turnChain (length stk) ph) (λ k′ ph′. turnAll es k′ ph′)
-      (made-chain-or sn r o (drawable-at sn r (and-left (sameRole (ρ sn) r) (allOf (inRole ρ) es) e)) n v cur (g .0) stk ph)
-      (λ ph′. made-all es (and-right (sameRole (ρ sn) r) (allOf (inRole ρ) es) e) h m w c stk ph′ (g .1))
+  module _ (π : Role → List ℕ) (slots : π role.Slot ≡ ascii "O") where
+    pub made-all : (es : List Element) → allOf (inRole ρ) es ≡ true → (anyOf isTailed es ≡ true → TailFits t) → (n v cur : ℕ) (stk : List ℕ) (b : Option (List ℕ)) (ph : Phase) → Anchors π t ds n cur stk b es
+        → MadeTo π (allItems t ds es) (placedFrom t ds n v es) n v cur stk b ph (atomsTo t ds n es) (variablesTo ds v es) (atomTo t ds n cur stk es) (stackTo t ds n cur stk es) (lastTo t ds n cur stk b es) (mostAtoms es)
+        (turnAll es (length stk) ph)
+    unfolding allOf anyOf inRole isTailed allItems itemsOf placedFrom atomsTo variablesTo atomTo stackTo lastTo Anchors mostAtoms turnAll turnElement
+    made-all [] e h n v cur stk b ph g = made-nothing π n v cur stk b ph
+    made-all (fixed x ∷ es) e h n v cur stk b ph g =
+        let us : List Piece = fixedPieces x in
+        let m : ℕ = n + atomsOfPieces us in
+        let c : ℕ = piecesAtom us n cur stk in
+        let z : List ℕ = piecesStack us n cur stk in
+        let b′ : Option (List ℕ) = lastAtom b us in
+        made-then π (map piece us) (allItems t ds es) [] (placedFrom t ds m v es) n v cur stk b ph m v c z b′ (atomsOfPieces us) (atomsTo t ds m es) (variablesTo ds v es) (atomTo t ds m c z es)
+        (stackTo t ds m c z es) (lastTo t ds m c z b′ es) (mostAtoms es) (turnPieces us (length stk) ph) (λ k′ ph′. turnAll es k′ ph′) (made-pieces π us n v cur stk b ph) (λ ph′. made-all es e h m v c z b′ ph′ g)
+    made-all (tail ∷ es) e h n v cur stk b ph g =
+        let m : ℕ = n + tailPart t .size in
+        let c : ℕ = at cur n (tailPart t .last) in
+        let b′ : Option (List ℕ) = lastBytes b (tailPart t .rows) in
+        made-then π (part (tailPart t) ∷ []) (allItems t ds es) [] (placedFrom t ds m v es) n v cur stk b ph m v c stk b′ 255 (atomsTo t ds m es) (variablesTo ds v es) (atomTo t ds m c stk es)
+        (stackTo t ds m c stk es) (lastTo t ds m c stk b′ es) (mostAtoms es) (turnTail (length stk) ph) (λ k′ ph′. turnAll es k′ ph′) (made-tail π t (h refl) n v cur stk b ph)
+        (λ ph′. made-all es e (λ q. h refl) m v c stk b′ ph′ g)
+    made-all (slot sn ∷ es) e h n v cur stk b ph g =
+        let o : Option Chain = nonempty sn ds in
+        let m : ℕ = atomsAfter role.Slot (suc n) o in
+        let w : ℕ = variablesAfter v o in
+        let c : ℕ = atomAfter role.Slot (suc n) n o in
+        let b′ : Option (List ℕ) = bytesAfter role.Slot (suc n) n (some (ascii "O")) o in
+        made-then π (slotOxygen ∷ chainItem role.Slot o) (allItems t ds es) (place sn role.Slot (siteOf role.Slot n) (suc n) v o) (placedFrom t ds m w es) n v cur stk b ph m w c stk b′ 702
+        (atomsTo t ds m es) (variablesTo ds w es) (atomTo t ds m c stk es) (stackTo t ds m c stk es) (lastTo t ds m c stk b′ es) (mostAtoms es) (to (length stk) after) (λ k′ ph′. turnAll es k′ ph′)
+        (made-slot-or π slots sn o (drawable-at sn role.Slot (and-left (sameRole (ρ sn) role.Slot) (allOf (inRole ρ) es) e)) n v cur stk b ph)
+        (λ ph′. made-all es (and-right (sameRole (ρ sn) role.Slot) (allOf (inRole ρ) es) e) h m w c stk b′ ph′ g)
+    made-all (chain sn r ∷ es) e h n v cur stk b ph g =
+        let o : Option Chain = nonempty sn ds in
+        let m : ℕ = atomsAfter r n o in
+        let w : ℕ = variablesAfter v o in
+        let c : ℕ = atomAfter r n cur o in
+        let b′ : Option (List ℕ) = bytesAfter r n cur b o in
+        made-then π (chainItem r o) (allItems t ds es) (place sn r (siteOf r n) n v o) (placedFrom t ds m w es) n v cur stk b ph m w c stk b′ 701
+        (atomsTo t ds m es) (variablesTo ds w es) (atomTo t ds m c stk es) (stackTo t ds m c stk es) (lastTo t ds m c stk b′ es) (mostAtoms es) (turnChain (length stk) ph) (λ k′ ph′. turnAll es k′ ph′)
+        (made-chain-or π sn r o (drawable-at sn r (and-left (sameRole (ρ sn) r) (allOf (inRole ρ) es) e)) n v cur b (g .0) stk ph)
+        (λ ph′. made-all es (and-right (sameRole (ρ sn) r) (allOf (inRole ρ) es) e) h m w c stk b′ ph′ (g .1))
 
 -- ---- chains one by one
 

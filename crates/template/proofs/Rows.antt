@@ -12,18 +12,19 @@ use Rattle.reading.specs.Ascii.{ascii}
 use Rattle.reading.specs.Row.{link, Row, row}
 use Rattle.reading.specs.Machine.{plainly}
 use Rattle.reading.specs.Part.{Part, place, moveRow, hung}
-use Rattle.reading.specs.Chain.{Ring, Carbon, partsEnd, bridgeEnd, carbonEnd, carbonLast, chainEnd, atomFrom, atomOf, partRows, bridgeRows, ringLinks, carbonRows, chainRows, floatRows, floatEnd}
+use Rattle.reading.specs.Chain.{Ring, Carbon, partsEnd, bridgeEnd, carbonEnd, carbonLast, chainEnd, atomFrom, atomOf, partRows, bridgeRows, ringLinks, carbonMembers, chainMembers, floatMembers, rowsOf, floatEnd}
+use Rattle.reading.specs.Template.{members}
 use Rattle.reading.proofs.PartingLaws.{All}
+use Rattle.reading.proofs.Members.{rows-append, carbon-rows, float-rows}
 use Rattle.reading.proofs.Part.{part-size}
 use Rattle.reading.proofs.Frame.{Hangs}
 use Rattle.chain.specs.declared.Role.{Role}
 use Rattle.chain.specs.Features.{firstDrawn}
-use Rattle.chain.specs.Drawing.{carbons, floats, ringPairs, carbonAtoms, atomsEnd}
+use Rattle.chain.specs.Drawing.{carbons, floats, ringPairs, chainDrawn, carbonAtoms, atomsEnd}
 use Rattle.chain.proofs.Lists.{all-values}
 use Rattle.chain.proofs.Branches.{Branch}
 use Rattle.chain.proofs.Fits.{CarbonFine, carbons-fine, floats-read}
 use Rattle.chain.proofs.Accepted.{Drawable}
-use Rattle.template.specs.Promise.{drawnRows}
 
 -- ---- the bytes of a row among rows
 
@@ -74,11 +75,17 @@ unfolding bridgeRows bridgeEnd
 length-bridge true n self = omega arith
 length-bridge false n self = omega arith
 
-length-floats : (n : ℕ) (ps : List Part) → All Branch ps → n + length (floatRows n ps) ≡ floatEnd n ps
-unfolding floatRows floatEnd
-length-floats n [] h = omega arith
+length-floats : (n : ℕ) (ps : List Part) → All Branch ps → n + length (rowsOf (floatMembers n ps)) ≡ floatEnd n ps
+unfolding floatEnd
+length-floats n [] h = unfold floatMembers rowsOf in omega arith
 length-floats n (p ∷ ps) h =
-    omega (arith, length-append (hung n (suc n) p) (floatRows (suc n + p .size) ps), length-hung n (suc n) p (h .0 .hangs), length-floats (suc n + p .size) ps (h .1))
+    omega (
+      arith,
+      ap length (float-rows n p ps),
+      length-append (hung n (suc n) p) (rowsOf (floatMembers (suc n + p .size) ps)),
+      length-hung n (suc n) p (h .0 .hangs),
+      length-floats (suc n + p .size) ps (h .1),
+    )
 
 module _ (pos : ℕ → ℕ) (rs : List Ring) where
   -- the rows of one carbon with its branches and its bridge
@@ -95,19 +102,22 @@ module _ (pos : ℕ → ℕ) (rs : List Ring) where
         length-bridge (c .bridge) (partsEnd (suc n) (c .parts)) n,
       )
 
-  rows-cons : (k n prev : ℕ) (c : Carbon) (cs : List Carbon)
-      → carbonRows pos rs k n prev (c ∷ cs) ≡ own k n prev c ++ carbonRows pos rs (suc k) (carbonEnd n c) (carbonLast n c) cs
-  unfolding carbonRows own
-  rows-cons k n prev c cs = simp append-assoc
+  -- the rows of the carbons from k on
+  abbrev rowsFrom : ℕ → ℕ → ℕ → List Carbon → List Row
+  rowsFrom k n prev cs = rowsOf (carbonMembers pos rs k n prev cs)
 
-  pub length-carbons : (k n prev : ℕ) (cs : List Carbon) → All CarbonFine cs → n + length (carbonRows pos rs k n prev cs) ≡ chainEnd n cs
+  rows-cons : (k n prev : ℕ) (c : Carbon) (cs : List Carbon) → rowsFrom k n prev (c ∷ cs) ≡ own k n prev c ++ rowsFrom (suc k) (carbonEnd n c) (carbonLast n c) cs
+  unfolding own
+  rows-cons k n prev c cs = carbon-rows pos rs k n prev c cs ∙ simp append-assoc
+
+  pub length-carbons : (k n prev : ℕ) (cs : List Carbon) → All CarbonFine cs → n + length (rowsFrom k n prev cs) ≡ chainEnd n cs
   unfolding chainEnd
-  length-carbons k n prev [] h = unfold carbonRows in omega arith
+  length-carbons k n prev [] h = unfold carbonMembers rowsOf in omega arith
   length-carbons k n prev (c ∷ cs) h =
       omega (
         arith,
         ap length (rows-cons k n prev c cs),
-        length-append (own k n prev c) (carbonRows pos rs (suc k) (carbonEnd n c) (carbonLast n c) cs),
+        length-append (own k n prev c) (rowsFrom (suc k) (carbonEnd n c) (carbonLast n c) cs),
         length-own k n prev c (h .0 .parts),
         length-carbons (suc k) (carbonEnd n c) (carbonLast n c) cs (h .1),
       )
@@ -117,33 +127,55 @@ module _ (pos : ℕ → ℕ) (rs : List Ring) where
   own-carbonic k n prev c rest = let e : n - n ≡ 0 = omega arith in record { from = omega arith; is = rw e }
 
   -- each carbon's row is at its atom
-  carbons-carbonic : (k n prev : ℕ) (cs : List Carbon) (j : ℕ) → All CarbonFine cs → j < length cs → Carbonic n (carbonRows pos rs k n prev cs) (atomFrom n cs j)
+  carbons-carbonic : (k n prev : ℕ) (cs : List Carbon) (j : ℕ) → All CarbonFine cs → j < length cs → Carbonic n (rowsFrom k n prev cs) (atomFrom n cs j)
   unfolding atomFrom
   carbons-carbonic k n prev [] j h g = absurd (omega arith)
   carbons-carbonic k n prev (c ∷ cs) zero h g =
-      rw (rows-cons k n prev c cs) (own-carbonic k n prev c (carbonRows pos rs (suc k) (carbonEnd n c) (carbonLast n c) cs))
+      rw (rows-cons k n prev c cs) (own-carbonic k n prev c (rowsFrom (suc k) (carbonEnd n c) (carbonLast n c) cs))
   carbons-carbonic k n prev (c ∷ cs) (suc j) h g =
       rw (rows-cons k n prev c cs)
-      (carbonic-before n (carbonEnd n c) (own k n prev c) (carbonRows pos rs (suc k) (carbonEnd n c) (carbonLast n c) cs) (atomFrom (carbonEnd n c) cs j) (length-own k n prev c (h .0 .parts))
+      (carbonic-before n (carbonEnd n c) (own k n prev c) (rowsFrom (suc k) (carbonEnd n c) (carbonLast n c) cs) (atomFrom (carbonEnd n c) cs j) (length-own k n prev c (h .0 .parts))
       (carbons-carbonic (suc k) (carbonEnd n c) (carbonLast n c) cs j (h .1) (omega arith)))
 
 -- ---- the rows of a chain
 
+abbrev pub drawnRows : Role → Chain → ℕ → ℕ → List Row
+drawnRows r d n on = rowsOf (members (chainDrawn r d) n on)
+
+module _ (r : Role) (d : Chain) (n on : ℕ) where
+  -- those of its carbons, and those of its floating parts
+  abbrev pub carbonPart : List Row
+  carbonPart = rowsOf (chainMembers (firstDrawn r) (ringPairs (d .rings)) (carbons r d) n on)
+
+  abbrev pub floatPart : List Row
+  floatPart = rowsOf (floatMembers (chainEnd n (carbons r d)) (floats d))
+
+  pub drawn-parts : drawnRows r d n on ≡ carbonPart ++ floatPart
+  unfolding members chainDrawn
+  drawn-parts = rows-append (chainMembers (firstDrawn r) (ringPairs (d .rings)) (carbons r d) n on) (floatMembers (chainEnd n (carbons r d)) (floats d))
+
 module _ (r : Role) (d : Chain) (a : Drawable r d) (n on : ℕ) where
+  pub length-carbon-part : n + length (carbonPart r d n on) ≡ chainEnd n (carbons r d)
+  unfolding chainMembers
+  length-carbon-part = length-carbons (atomOf (firstDrawn r) n (carbons r d)) (ringPairs (d .rings)) (firstDrawn r) n on (carbons r d) (carbons-fine r d (a .sound))
+
   pub length-drawn : n + length (drawnRows r d n on) ≡ atomsEnd r d n
-  unfolding atomsEnd chainRows
+  unfolding atomsEnd
   length-drawn =
       omega (
         arith,
-        length-append (chainRows (firstDrawn r) (ringPairs (d .rings)) (carbons r d) n on) (floatRows (chainEnd n (carbons r d)) (floats d)),
-        length-carbons (atomOf (firstDrawn r) n (carbons r d)) (ringPairs (d .rings)) (firstDrawn r) n on (carbons r d) (carbons-fine r d (a .sound)),
+        ap length (drawn-parts r d n on),
+        length-append (carbonPart r d n on) (floatPart r d n on),
+        length-carbon-part,
         length-floats (chainEnd n (carbons r d)) (floats d) (floats-read d (a .sound) .0),
       )
 
   pub drawn-carbonic : All (Carbonic n (drawnRows r d n on)) (carbonAtoms r d n)
-  unfolding chainRows carbonAtoms atomOf
+  unfolding carbonAtoms atomOf
   drawn-carbonic =
-      all-values (Carbonic n (drawnRows r d n on)) (atomOf (firstDrawn r) n (carbons r d)) (firstDrawn r) (length (carbons r d))
-      (λ i h g.
-      carbonic-after n (chainRows (firstDrawn r) (ringPairs (d .rings)) (carbons r d) n on) (floatRows (chainEnd n (carbons r d)) (floats d)) (atomOf (firstDrawn r) n (carbons r d) i)
-      (carbons-carbonic (atomOf (firstDrawn r) n (carbons r d)) (ringPairs (d .rings)) (firstDrawn r) n on (carbons r d) (i - firstDrawn r) (carbons-fine r d (a .sound)) (omega arith)))
+      rw (drawn-parts r d n on)
+      (all-values (Carbonic n (carbonPart r d n on ++ floatPart r d n on)) (atomOf (firstDrawn r) n (carbons r d)) (firstDrawn r) (length (carbons r d))
+      (λ i h g. carbonic-after n (carbonPart r d n on) (floatPart r d n on) (atomOf (firstDrawn r) n (carbons r d) i) (here i h g)))
+    where
+      here : (i : ℕ) → firstDrawn r ≤ i → i < firstDrawn r + length (carbons r d) → Carbonic n (carbonPart r d n on) (atomOf (firstDrawn r) n (carbons r d) i)
+      here i h g = unfold chainMembers in carbons-carbonic (atomOf (firstDrawn r) n (carbons r d)) (ringPairs (d .rings)) (firstDrawn r) n on (carbons r d) (i - firstDrawn r) (carbons-fine r d (a .sound)) (omega arith)

@@ -24,7 +24,7 @@ use Rattle.chain.specs.Drawing.{carbons}
 use Rattle.chain.proofs.Lists.{or-left, or-right, Rises, rises-from, all-append}
 use Rattle.chain.proofs.Atoms.{chainEnd-le, atomsEnd-le, atomsOf-append}
 use Rattle.template.specs.Template.{Element, fixed, tail, slot, chain}
-use Rattle.template.specs.Request.{nonempty, fixedPieces, tailPart, Placed, atomsOfPiece, atomsOfPieces, siteOf, place, atomsAfter, variablesAfter, placedFrom, insertBySn, bySn, siteNote, snSites}
+use Rattle.template.specs.Drawn.{nonempty, fixedPieces, tailPart, Placed, atomsOfPiece, atomsOfPieces, siteOf, place, atomsAfter, variablesAfter, placedFrom, insertBySn, bySn, siteNote, snSites}
 use Rattle.template.proofs.Templates.{snsOf, isBase, hasBase, headed, Begins, begins}
 
 -- ---- what a template places
@@ -188,6 +188,30 @@ all-sorted P (p ∷ ps) h = all-inserted P p (bySn ps) (h .0) (all-sorted P ps (
 
 abbrev pub snOf : Placed → ℕ
 snOf p = p .sn
+
+-- no chain is lost by it, and there are no more sites than chains
+length-inserted : (p : Placed) (ps : List Placed) → length (insertBySn p ps) ≡ suc (length ps)
+unfolding insertBySn
+length-inserted p [] = refl
+length-inserted p (q ∷ qs) = go (leb (p .sn) (q .sn)) (length-inserted p qs)
+  where
+    go : (b : Bool) → length (insertBySn p qs) ≡ suc (length qs) → length (cond b (p ∷ q ∷ qs) (q ∷ insertBySn p qs)) ≡ suc (suc (length qs))
+    go true h = refl
+    go false h = ap suc h
+
+pub length-sorted : (ps : List Placed) → length (bySn ps) ≡ length ps
+unfolding bySn
+length-sorted [] = refl
+length-sorted (p ∷ ps) = length-inserted p (bySn ps) ∙ ap suc (length-sorted ps)
+
+pub sites-count : (ps : List Placed) → length (snSites ps) ≤ length ps
+unfolding snSites
+sites-count [] = omega arith
+sites-count (p ∷ ps) = go (p .site) (sites-count ps)
+  where
+    go : (s : Option ℕ) → length (snSites ps) ≤ length ps → length (siteNote s (p .sn) ++ snSites ps) ≤ suc (length ps)
+    go none h = omega (arith, h)
+    go (some i) h = omega (arith, h)
 
 inserted-rise : (lo hi : ℕ) (p : Placed) (ps : List Placed) → lo ≤ p .sn → p .sn < hi → All (λ q. q .sn ≢ p .sn) ps → Rises lo hi (map snOf ps) → Rises lo hi (map snOf (insertBySn p ps))
 unfolding insertBySn

@@ -14,31 +14,35 @@ use Rattle.reading.specs.Ascii.{ascii}
 use Rattle.reading.specs.Row.{Link, link, Row, row}
 use Rattle.reading.specs.Machine.{plainly}
 use Rattle.reading.specs.Part.{Part, hung}
-use Rattle.reading.specs.Molecule.{At, at, atomsOf}
-use Rattle.groups.specs.Groups.{entryAt, keto}
-use Rattle.reading.specs.Chain.{Ring, Carbon, partsEnd, carbonEnd, carbonLast, chainEnd, atomFrom, atomOf, partRows, bridgeRows, carbonRows, chainRows, floatRows}
+use Rattle.reading.specs.Molecule.{At, at, atomsOf, notesOf}
+use Rattle.reading.specs.Line.{summed}
+use Rattle.groups.specs.Groups.{entries, keto}
+use Rattle.reading.specs.Chain.{Ring, Carbon, partsEnd, carbonEnd, carbonLast, chainEnd, atomFrom, atomOf, partRows, bridgeRows, Kind, own, other, Member, others, carbonMembers, chainMembers, floatMembers, rowsOf, places}
+use Rattle.reading.specs.Template.{members}
+use Rattle.reading.proofs.Members.{rows-length, float-rows, places-others}
+use Rattle.reading.proofs.Part.{none≢some}
 use Rattle.reading.proofs.PartingLaws.{All, all-map}
 use Rattle.chain.specs.declared.Role.{Role}
 use Rattle.chain.specs.declared.Role.the-variants as role
-use Rattle.chain.specs.Lists.{valuesFrom}
+use Rattle.chain.specs.Lists.{valuesFrom, Each}
 use Rattle.chain.specs.Features.{firstDrawn, isAcyl, groupsOn, floating, literalEnd, flexibleCount, drawnCount, siteSkip}
 use Rattle.chain.specs.Bonds.{bondAt, markOf}
-use Rattle.chain.specs.Drawing.{branchPart, branches, carbonAt, literal, flexible, carbons, ringPairs, floats, carbonAtoms, siteAtoms, siteLists, sites, flexibleAtom, markList, marks}
+use Rattle.chain.specs.Drawing.{carbonAt, literal, flexible, carbons, ringPairs, floats, chainDrawn, carbonAtoms, siteAtoms, siteLists, sites, flexibleAtom, markList, marks, variables, sums}
+use Rattle.chain.proofs.Lists.{all-each}
 use Rattle.chain.proofs.Accepted.{Drawable, literal-on}
 use Rattle.chain.proofs.Bonds.{bond-zero}
 use Rattle.chain.proofs.Branches.{Branch, branch-whole}
 use Rattle.chain.proofs.Atoms.{flexible-atom, marked-atoms, marks-notes, sums-notes}
 use Rattle.chain.proofs.Fits.{InTable, groups-table, floating-table, CarbonFine, carbons-fine, floats-read, length-literal, length-carbons as chain-length}
-use Rattle.template.specs.Request.{Placed, headCarbons, indicesOf, siteNote, snSites, allSites}
-use Rattle.template.specs.Promise.{Each, hangsOn, drawnRows, ownRows, Kind, own, star, other, carbonKinds, floatKinds, ownKinds, isOwn, isStar, places, Stretch, siteBy, sitesBy, rowAt, noSites, starLists, Stars, repeated, Marked, Whole, Grouped}
-use Rattle.template.proofs.Rows.{Carbonic, carbonic-before, carbonic-after, drawn-carbonic, length-hung, length-bridge, length-carbons}
-use Rattle.template.proofs.Placing.{Led, Strand}
+use Rattle.template.specs.Drawn.{Placed, siteNote, snSites, allMarks, allSites}
+use Rattle.template.specs.Written.{headCarbons, indicesOf}
+use Rattle.template.specs.Chains.{hangsOn, markBefore, ownMembers, isOwn, isStar, ownCarbons, ownStars, Stretch, siteBy, sitesBy, noSites, starLists, Stars, repeated, numbered, ownMarks, carbonMarks, Group, Grouped}
+use Rattle.template.specs.Atoms.{rowAt}
+use Rattle.template.proofs.Rows.{rowBytes, Carbonic, carbonic-before, carbonic-after, length-hung, length-parts, length-bridge, drawnRows, carbonPart, floatPart, drawn-parts, length-carbon-part, drawn-carbonic}
+use Rattle.template.proofs.Templates.{isBase}
+use Rattle.template.proofs.Placing.{lastBytes, Led, Strand}
 
 -- ---- lists
-
-pub all-each : {A : Type 0} (P : A → Type 0) (l : List A) → All P l → Each P l
-all-each P [] h = tt
-all-each P (x ∷ l) h = (h .0, all-each P l (h .1))
 
 drop-past : {A : Type 0} (xs ys : List A) → drop (length xs) (xs ++ ys) ≡ ys
 drop-past [] ys = refl
@@ -58,143 +62,97 @@ row-next : (n : ℕ) (xs : List Row) (y : Row) (ys : List Row) → length xs ≡
 unfolding rowAt
 row-next n xs y ys e = let z : n ≡ length xs + 0 = omega arith in rw z (row-past 0 xs (y ∷ ys))
 
--- ---- the kinds of a chain's rows
+-- ---- the places of carbons and stars among a chain's members
 
--- no row of a kind among others
-places-other : {A : Type 0} (is : Kind → Bool) → is other ≡ false → (n : ℕ) (xs : List A) (ks : List Kind) → places is n (map (λ x. other) xs ++ ks) ≡ places is (n + length xs) ks
-unfolding places
-places-other is e n [] ks = ap (λ (z : ℕ). places is z ks) (omega arith)
-places-other is e n (x ∷ xs) ks = rw e (places-other is e (suc n) xs ks ∙ ap (λ (z : ℕ). places is z ks) (omega arith))
-
--- wherever parts are drawn, they have their atoms
-parts-end : (m self n : ℕ) (ps : List Part) → All Branch ps → m + length (partRows self n ps) ≡ partsEnd m ps
-unfolding partRows partsEnd
-parts-end m self n [] h = omega arith
-parts-end m self n (p ∷ ps) h =
-    omega (arith, length-append (hung self n p) (partRows self (n + p .size) ps), length-hung self n p (h .0 .hangs), parts-end (m + p .size) self (n + p .size) ps (h .1))
-
--- after a carbon come its parts and its bridge
-places-cons : (is : Kind → Bool) → is other ≡ false → (n : ℕ) (c : Carbon) (cs : List Carbon) (ks : List Kind) → All Branch (c .parts)
-    → places is n (carbonKinds (c ∷ cs) ++ ks) ≡ cond (is own) (n ∷ places is (carbonEnd n c) (carbonKinds cs ++ ks)) (places is (carbonEnd n c) (carbonKinds cs ++ ks))
-unfolding carbonKinds places carbonEnd
-places-cons is e n c cs ks h =
+-- a carbon, what branches off it and its bridge, and then the carbons after it
+places-cons : (is : Kind → Bool) → is other ≡ false → (pos : ℕ → ℕ) (rs : List Ring) (k n prev : ℕ) (c : Carbon) (cs : List Carbon) (ys : List Member) → All Branch (c .parts)
+    → (more : List ℕ) → places is (carbonEnd n c) (carbonMembers pos rs (suc k) (carbonEnd n c) (carbonLast n c) cs ++ ys) ≡ more
+    → places is n (carbonMembers pos rs k n prev (c ∷ cs) ++ ys) ≡ cond (is own) (n ∷ more) more
+unfolding carbonMembers places carbonEnd
+places-cons is e pos rs k n prev c cs ys h more q =
     ap (λ (z : List ℕ). cond (is own) (n ∷ z) z)
-    (ap (places is (suc n)) (append-assoc (map (λ x. other) xs) (map (λ x. other) ys ++ carbonKinds cs) ks ∙ ap (λ (z : List Kind). map (λ x. other) xs ++ z) (append-assoc (map (λ x. other) ys) (carbonKinds cs) ks))
-    ∙ places-other is e (suc n) xs (map (λ x. other) ys ++ (carbonKinds cs ++ ks))
-    ∙ places-other is e (suc n + length xs) ys (carbonKinds cs ++ ks)
-    ∙ ap (λ (z : ℕ). places is z (carbonKinds cs ++ ks)) (ap (λ (z : ℕ). z + length ys) (parts-end (suc n) 0 0 (c .parts) h) ∙ length-bridge (c .bridge) (partsEnd (suc n) (c .parts)) 0))
+    (ap (places is (suc n)) (append-assoc (others xs) (others bs ++ ms) ys ∙ ap (λ (z : List Member). others xs ++ z) (append-assoc (others bs) ms ys))
+    ∙ places-others is e (suc n) xs (others bs ++ (ms ++ ys))
+    ∙ places-others is e (suc n + length xs) bs (ms ++ ys)
+    ∙ ap (λ (z : ℕ). places is z (ms ++ ys)) (ap (λ (z : ℕ). z + length bs) (length-parts n (suc n) (c .parts) h) ∙ length-bridge (c .bridge) (partsEnd (suc n) (c .parts)) n)
+    ∙ q)
   where
     xs : List Row
-    xs = partRows 0 0 (c .parts)
+    xs = partRows n (suc n) (c .parts)
 
-    ys : List Row
-    ys = bridgeRows (c .bridge) 0
+    bs : List Row
+    bs = bridgeRows (c .bridge) n
 
--- the rows of floating parts: no carbons, and a `*` for each part
-float-own : (n : ℕ) (qs : List Part) → places isOwn n (floatKinds qs) ≡ []
-unfolding floatKinds places
-float-own n [] = refl
-float-own n (q ∷ qs) = places-other isOwn refl (suc n) (hung 0 0 q) (floatKinds qs) ∙ float-own (suc n + length (hung 0 0 q)) qs
+    ms : List Member
+    ms = carbonMembers pos rs (suc k) (carbonEnd n c) (carbonLast n c) cs
 
-float-stars : (js : List ℕ) (n : ℕ) (qs : List Part) → All Branch qs → siteLists js n qs ≡ map (λ i. at i js) (places isStar n (floatKinds qs))
-unfolding floatKinds places siteLists
+-- among floating parts are no carbons, and a `*` for each part
+float-own : (n m : ℕ) (qs : List Part) → places isOwn n (floatMembers m qs) ≡ []
+unfolding floatMembers places
+float-own n m [] = refl
+float-own n m (q ∷ qs) = places-others isOwn refl (suc n) (hung m (suc m) q) (floatMembers (suc m + q .size) qs) ∙ float-own (suc n + length (hung m (suc m) q)) (suc m + q .size) qs
+
+float-stars : (js : List ℕ) (n : ℕ) (qs : List Part) → All Branch qs → siteLists js n qs ≡ map (λ i. at i js) (places isStar n (floatMembers n qs))
+unfolding floatMembers places siteLists
 float-stars js n [] h = refl
 float-stars js n (q ∷ qs) h =
     ap (λ (z : List (At (List ℕ))). at n js ∷ z)
     (float-stars js (suc n + q .size) qs (h .1)
-    ∙ ap (map (λ i. at i js)) (ap (λ (z : ℕ). places isStar (suc n + z) (floatKinds qs)) (sym (length-hung 0 0 q (h .0 .hangs))) ∙ sym (places-other isStar refl (suc n) (hung 0 0 q) (floatKinds qs))))
+    ∙ ap (map (λ i. at i js)) (ap (λ (z : ℕ). places isStar (suc n + z) (floatMembers (suc n + q .size) qs)) (sym (length-hung n (suc n) q (h .0 .hangs))) ∙ sym (places-others isStar refl (suc n) (hung n (suc n) q) (floatMembers (suc n + q .size) qs))))
 
--- the atoms of carbons, one after the other, are the rows that are carbons
-own-values : (g : ℕ → ℕ) (f n : ℕ) (cs : List Carbon) (qs : List Part) → All CarbonFine cs → ((j : ℕ) → g (f + j) ≡ atomFrom n cs j)
-    → valuesFrom g f (length cs) ≡ places isOwn n (carbonKinds cs ++ floatKinds qs)
+-- the atoms of carbons, one after the other, are the members that are carbons
+own-values : (g : ℕ → ℕ) (f : ℕ) (pos : ℕ → ℕ) (rs : List Ring) (k n prev m : ℕ) (cs : List Carbon) (qs : List Part) → All CarbonFine cs → ((j : ℕ) → g (f + j) ≡ atomFrom n cs j)
+    → places isOwn n (carbonMembers pos rs k n prev cs ++ floatMembers m qs) ≡ valuesFrom g f (length cs)
 unfolding valuesFrom atomFrom
-own-values g f n [] qs h e = unfold carbonKinds in sym (float-own n qs)
-own-values g f n (c ∷ cs) qs h e =
+own-values g f pos rs k n prev m [] qs h e = unfold carbonMembers in float-own n m qs
+own-values g f pos rs k n prev m (c ∷ cs) qs h e =
     let z : f + 0 ≡ f = omega arith in
     let first : g f ≡ n = rw z at (e 0) in
-    rw (places-cons isOwn refl n c cs (floatKinds qs) (h .0 .parts), first)
-    (ap (λ (z : List ℕ). n ∷ z) (own-values g (suc f) (carbonEnd n c) cs qs (h .1) (λ j. ap g (omega arith) ∙ e (suc j))))
+    rw first
+    (places-cons isOwn refl pos rs k n prev c cs (floatMembers m qs) (h .0 .parts) (valuesFrom g (suc f) (length cs))
+    (own-values g (suc f) pos rs (suc k) (carbonEnd n c) (carbonLast n c) m cs qs (h .1) (λ j. ap g (omega arith) ∙ e (suc j))))
 
 -- the floating parts come after the carbons
-star-places : (n : ℕ) (cs : List Carbon) (ks : List Kind) → All CarbonFine cs → places isStar n (carbonKinds cs ++ ks) ≡ places isStar (chainEnd n cs) ks
+star-places : (pos : ℕ → ℕ) (rs : List Ring) (k n prev : ℕ) (cs : List Carbon) (ys : List Member) → All CarbonFine cs
+    → places isStar n (carbonMembers pos rs k n prev cs ++ ys) ≡ places isStar (chainEnd n cs) ys
 unfolding chainEnd
-star-places n [] ks h = unfold carbonKinds in refl
-star-places n (c ∷ cs) ks h = places-cons isStar refl n c cs ks (h .0 .parts) ∙ star-places (carbonEnd n c) cs ks (h .1)
+star-places pos rs k n prev [] ys h = unfold carbonMembers in refl
+star-places pos rs k n prev (c ∷ cs) ys h =
+    places-cons isStar refl pos rs k n prev c cs ys (h .0 .parts) (places isStar (chainEnd (carbonEnd n c) cs) ys) (star-places pos rs (suc k) (carbonEnd n c) (carbonLast n c) cs ys (h .1))
 
--- there is a kind for each row
-carbon-kinds : (pos : ℕ → ℕ) (rs : List Ring) (k n prev : ℕ) (cs : List Carbon) → All CarbonFine cs → length (carbonKinds cs) ≡ length (carbonRows pos rs k n prev cs)
-unfolding carbonKinds carbonRows
-carbon-kinds pos rs k n prev [] h = refl
-carbon-kinds pos rs k n prev (c ∷ cs) h =
-    let xs : List Row = partRows 0 0 (c .parts) in
-    let ys : List Row = bridgeRows (c .bridge) 0 in
-    let more : List Row = carbonRows pos rs (suc k) (carbonEnd n c) (carbonLast n c) cs in
-    omega (
-      arith,
-      length-append (map (λ x. other) xs) (map (λ x. other) ys ++ carbonKinds cs),
-      length-append (map (λ x. other) ys) (carbonKinds cs),
-      length-map xs (λ x. other),
-      length-map ys (λ x. other),
-      length-append (partRows n (suc n) (c .parts)) (bridgeRows (c .bridge) n ++ more),
-      length-append (bridgeRows (c .bridge) n) more,
-      parts-end 0 0 0 (c .parts) (h .0 .parts),
-      parts-end 0 n (suc n) (c .parts) (h .0 .parts),
-      length-bridge (c .bridge) 0 0,
-      length-bridge (c .bridge) 0 n,
-      carbon-kinds pos rs (suc k) (carbonEnd n c) (carbonLast n c) cs (h .1),
-    )
+module _ (p : Placed) (a : Drawable (p .role) (p .chain)) where
+  abbrev ownEnd : ℕ
+  ownEnd = chainEnd (p .first) (carbons (p .role) (p .chain))
 
-float-kinds : (n : ℕ) (qs : List Part) → All Branch qs → length (floatKinds qs) ≡ length (floatRows n qs)
-unfolding floatKinds floatRows
-float-kinds n [] h = refl
-float-kinds n (q ∷ qs) h =
-    omega (
-      arith,
-      length-append (map (λ x. other) (hung 0 0 q)) (floatKinds qs),
-      length-map (hung 0 0 q) (λ x. other),
-      length-append (hung n (suc n) q) (floatRows (suc n + q .size) qs),
-      length-hung 0 0 q (h .0 .hangs),
-      length-hung n (suc n) q (h .0 .hangs),
-      float-kinds (suc n + q .size) qs (h .1),
-    )
+  pub atoms-own : carbonAtoms (p .role) (p .chain) (p .first) ≡ ownCarbons p
+  unfolding carbonAtoms atomOf members chainMembers chainDrawn
+  atoms-own =
+      let f : ℕ = firstDrawn (p .role) in
+      let cs : List Carbon = carbons (p .role) (p .chain) in
+      sym (own-values (atomOf f (p .first) cs) f (atomOf f (p .first) cs) (ringPairs (p .chain .rings)) f (p .first) (hangsOn (p .role) (p .first)) ownEnd cs (floats (p .chain)) (carbons-fine (p .role) (p .chain) (a .sound)) (λ j. ap (atomFrom (p .first) cs) (omega arith)))
 
-pub atoms-own : (p : Placed) → Drawable (p .role) (p .chain) → carbonAtoms (p .role) (p .chain) (p .first) ≡ places isOwn (p .first) (ownKinds p)
-unfolding carbonAtoms atomOf
-atoms-own p a =
-    let f : ℕ = firstDrawn (p .role) in
-    let cs : List Carbon = carbons (p .role) (p .chain) in
-    own-values (atomOf f (p .first) cs) f (p .first) cs (floats (p .chain)) (carbons-fine (p .role) (p .chain) (a .sound)) (λ j. ap (atomFrom (p .first) cs) (omega arith))
+  pub indices-own : indicesOf p ≡ headCarbons (p .role) ++ ownCarbons p
+  unfolding indicesOf
+  indices-own = ap (λ (z : List ℕ). headCarbons (p .role) ++ z) atoms-own
+
+  own-stars : ownStars p ≡ places isStar ownEnd (floatMembers ownEnd (floats (p .chain)))
+  unfolding members chainMembers chainDrawn
+  own-stars =
+      let f : ℕ = firstDrawn (p .role) in
+      let cs : List Carbon = carbons (p .role) (p .chain) in
+      star-places (atomOf f (p .first) cs) (ringPairs (p .chain .rings)) f (p .first) (hangsOn (p .role) (p .first)) cs (floatMembers ownEnd (floats (p .chain))) (carbons-fine (p .role) (p .chain) (a .sound))
 
 -- ---- the rows of a chain
 
-pub in-rows : (n : ℕ) (rs : List Row) (p : Placed) → Drawable (p .role) (p .chain) → Strand n rs p → All (Carbonic n rs) (carbonAtoms (p .role) (p .chain) (p .first))
+pub in-rows : {π : Role → List ℕ} {b : Option (List ℕ)} (n : ℕ) (rs : List Row) (p : Placed) → Drawable (p .role) (p .chain) → Strand π b n rs p → All (Carbonic n rs) (carbonAtoms (p .role) (p .chain) (p .first))
 in-rows n rs p a s =
+    let own : List Row = rowsOf (ownMembers p) in
     rw (s .is)
-    (all-map {P = Carbonic (p .first) (ownRows p)} {Q = Carbonic n (s .before ++ (ownRows p ++ s .behind))}
-    (λ i c. carbonic-before n (p .first) (s .before) (ownRows p ++ s .behind) i (s .from) (carbonic-after (p .first) (ownRows p) (s .behind) i c))
+    (all-map {P = Carbonic (p .first) own} {Q = Carbonic n (s .before ++ (own ++ s .behind))}
+    (λ i c. carbonic-before n (p .first) (s .before) (own ++ s .behind) i (s .from) (carbonic-after (p .first) own (s .behind) i c))
     (carbonAtoms (p .role) (p .chain) (p .first)) (drawn-carbonic (p .role) (p .chain) a (p .first) (hangsOn (p .role) (p .first))))
 
-module _ (rs : List Row) (p : Placed) (a : Drawable (p .role) (p .chain)) (s : Strand 0 rs p) where
-  starts : length (s .before) ≡ p .first
-  starts = omega (arith, s .from)
-
-  pub stretch : Stretch rs p
-  unfolding indicesOf chainRows
-  stretch =
-      record {
-        rows = ap (take (length (ownRows p))) (ap (drop (p .first)) (s .is) ∙ ap (λ (z : ℕ). drop z (s .before ++ (ownRows p ++ s .behind))) (sym starts) ∙ drop-past (s .before) (ownRows p ++ s .behind))
-            ∙ take-front (ownRows p) (s .behind);
-        kinds = omega (
-          arith,
-          length-append (carbonKinds (carbons (p .role) (p .chain))) (floatKinds (floats (p .chain))),
-          length-append (chainRows (firstDrawn (p .role)) (ringPairs (p .chain .rings)) (carbons (p .role) (p .chain)) (p .first) (hangsOn (p .role) (p .first))) (floatRows (chainEnd (p .first) (carbons (p .role) (p .chain))) (floats (p .chain))),
-          carbon-kinds (atomOf (firstDrawn (p .role)) (p .first) (carbons (p .role) (p .chain))) (ringPairs (p .chain .rings)) (firstDrawn (p .role)) (p .first) (hangsOn (p .role) (p .first)) (carbons (p .role) (p .chain)) (carbons-fine (p .role) (p .chain) (a .sound)),
-          float-kinds (chainEnd (p .first) (carbons (p .role) (p .chain))) (floats (p .chain)) (floats-read (p .chain) (a .sound) .0),
-        );
-        indices = ap (λ (z : List ℕ). headCarbons (p .role) ++ z) (atoms-own p a);
-      }
-
--- ---- the site
+-- ---- the atom that a chain hangs on
 
 abbrev pub bytesIn : Option Row → Option (List ℕ)
 bytesIn none = none
@@ -206,17 +164,18 @@ firstLink none = none
 firstLink (some (row b [])) = none
 firstLink (some (row b (k ∷ ks))) = some k
 
--- an O, and after it a C that is joined to it
-pub record RowsJoined (rs : List Row) (n : ℕ) : Type 0 where
-  pub after : 1 ≤ n
-  pub oxygen : bytesIn (rowAt (n - 1) rs) ≡ some (ascii "O")
+-- row k, and after it row n, a C that is joined to it
+pub record RowsJoined (rs : List Row) (parent : List ℕ) (k n mark : ℕ) : Type 0 where
+  pub before : k < n
+  pub parent-is : bytesIn (rowAt k rs) ≡ some parent
   pub carbon : bytesIn (rowAt n rs) ≡ some (ascii "C")
-  pub plain : firstLink (rowAt n rs) ≡ some (link (n - 1) 0)
+  pub bonded : firstLink (rowAt n rs) ≡ some (link k mark)
 
-abbrev pub RowsJoinedIn : Role → List Row → ℕ → Type 0
-RowsJoinedIn role.Slot rs n = RowsJoined rs n
-RowsJoinedIn role.Acyl rs n = Unit {0}
-RowsJoinedIn role.Base rs n = Unit {0}
+bytes-row : (i : ℕ) (rs : List Row) (b : List ℕ) → rowBytes i rs ≡ some b → bytesIn (rowAt i rs) ≡ some b
+unfolding rowAt rowBytes
+bytes-row i [] b h = absurd (none≢some h)
+bytes-row zero (row a ks ∷ rs) b h = h
+bytes-row (suc i) (row a ks ∷ rs) b h = bytes-row i rs b h
 
 values-some : {A : Type 0} (f : ℕ → A) (k n : ℕ) → 1 ≤ n → valuesFrom f k n ≡ f k ∷ valuesFrom f (suc k) (n - 1)
 unfolding valuesFrom
@@ -237,47 +196,93 @@ carbons-begin r d a =
     record { others = valuesFrom (carbonAt r d) (suc f) (m - 1) ++ fs; is = ap (λ (z : List Carbon). z ++ fs) (values-some (carbonAt r d) f m (omega (arith, literal-on r d a .0))) }
 
 -- its first row is joined to the atom that it hangs on
-first-joined : (f : ℕ) (rs : List Ring) (c : Carbon) (cs : List Carbon) (n on : ℕ) (xs : List Row)
-    → (firstLink (rowAt 0 (chainRows f rs (c ∷ cs) n on ++ xs)) ≡ some (link on (plainly (c .before)))) × (bytesIn (rowAt 0 (chainRows f rs (c ∷ cs) n on ++ xs)) ≡ some (ascii "C"))
-unfolding chainRows carbonRows rowAt
-first-joined f rs c cs n on xs = (refl, refl)
+first-row : (f : ℕ) (rs : List Ring) (c : Carbon) (cs : List Carbon) (n on : ℕ) (ys : List Row)
+    → (firstLink (rowAt 0 (rowsOf (chainMembers f rs (c ∷ cs) n on) ++ ys)) ≡ some (link on (plainly (c .before)))) × (bytesIn (rowAt 0 (rowsOf (chainMembers f rs (c ∷ cs) n on) ++ ys)) ≡ some (ascii "C"))
+unfolding chainMembers carbonMembers rowsOf rowAt
+first-row f rs c cs n on ys = (refl, refl)
 
-slot-plain : (d : Chain) → Drawable role.Slot d → plainly (carbonAt role.Slot d 1 .before) ≡ 0
+drawn-first : (r : Role) (d : Chain) → Drawable r d → (n on : ℕ) (ys : List Row)
+    → (firstLink (rowAt 0 (drawnRows r d n on ++ ys)) ≡ some (link on (plainly (carbonAt r d (firstDrawn r) .before)))) × (bytesIn (rowAt 0 (drawnRows r d n on ++ ys)) ≡ some (ascii "C"))
+drawn-first r d a n on ys =
+    let b : Begins r d = carbons-begin r d a in
+    let here : drawnRows r d n on ++ ys ≡ rowsOf (chainMembers (firstDrawn r) (ringPairs (d .rings)) (carbonAt r d (firstDrawn r) ∷ b .others) n on) ++ (floatPart r d n on ++ ys) =
+    ap (λ (z : List Row). z ++ ys) (drawn-parts r d n on) ∙ append-assoc (carbonPart r d n on) (floatPart r d n on) ys
+    ∙ ap (λ (z : List Carbon). rowsOf (chainMembers (firstDrawn r) (ringPairs (d .rings)) z n on) ++ (floatPart r d n on ++ ys)) (b .is)
+    in
+    rw here (first-row (firstDrawn r) (ringPairs (d .rings)) (carbonAt r d (firstDrawn r)) (b .others) n on (floatPart r d n on ++ ys))
+
+-- the mark before the first carbon
+first-mark : (r : Role) (d : Chain) → Drawable r d → plainly (carbonAt r d (firstDrawn r) .before) ≡ markBefore r d
 unfolding carbonAt plainly markOf
-slot-plain d a = rw (bond-zero role.Slot d a) refl
+first-mark role.Slot d a = rw (bond-zero role.Slot d a) refl
+first-mark role.Acyl d a = rw (bond-zero role.Acyl d a) refl
+first-mark role.Base d a = refl
 
--- a chain in a slot, of which the O is the last row before it
-slot-joined : (rs : List Row) (n : ℕ) (d : Chain) → Drawable role.Slot d → (before behind : List Row) → rs ≡ before ++ (drawnRows role.Slot d n (n - 1) ++ behind) → length before ≡ n
-    → Led role.Slot before → RowsJoined rs n
-slot-joined rs n d a before behind e h l =
-    let b : Begins role.Slot d = carbons-begin role.Slot d a in
-    let fs : List Row = floatRows (chainEnd n (carbons role.Slot d)) (floats d) in
-    let front : length (l .front) + 1 ≡ n = omega (arith, length-append (l .front) (row (ascii "O") (l .links) ∷ []), ap length (l .is)) in
-    let own : List Row = drawnRows role.Slot d n (n - 1) ++ behind in
-    let rest : List Row = chainRows 1 (ringPairs (d .rings)) (carbonAt role.Slot d 1 ∷ b .others) n (n - 1) ++ (fs ++ behind) in
-    let here : rowAt n rs ≡ rowAt 0 rest =
-    ap (rowAt n) e ∙ ap (λ (z : ℕ). rowAt z (before ++ own)) (omega (arith, h)) ∙ row-past 0 before own
-    ∙ ap (rowAt 0) (append-assoc (chainRows 1 (ringPairs (d .rings)) (carbons role.Slot d) n (n - 1)) fs behind)
-    ∙ ap (λ (z : List Carbon). rowAt 0 (chainRows 1 (ringPairs (d .rings)) z n (n - 1) ++ (fs ++ behind))) (b .is)
-    in
-    let first : (firstLink (rowAt 0 rest) ≡ some (link (n - 1) (plainly (carbonAt role.Slot d 1 .before)))) × (bytesIn (rowAt 0 rest) ≡ some (ascii "C")) =
-    first-joined 1 (ringPairs (d .rings)) (carbonAt role.Slot d 1) (b .others) n (n - 1) (fs ++ behind)
-    in
-    record {
-      after = omega (arith, front);
-      oxygen = ap bytesIn (ap (rowAt (n - 1)) (e ∙ ap (λ (z : List Row). z ++ own) (l .is) ∙ append-assoc (l .front) (row (ascii "O") (l .links) ∷ []) own)
-          ∙ row-next (n - 1) (l .front) (row (ascii "O") (l .links)) own (omega (arith, front)));
-      carbon = ap bytesIn here ∙ first .1;
-      plain = ap firstLink here ∙ first .0 ∙ ap (λ (z : ℕ). some (link (n - 1) z)) (slot-plain d a);
-    }
+-- the last of some rows
+last-row : (b : Option (List ℕ)) (xs ys : List Row) (x : List ℕ) → lastBytes b xs ≡ some x → 1 ≤ length xs → bytesIn (rowAt (length xs - 1) (xs ++ ys)) ≡ some x
+unfolding lastBytes rowAt
+last-row b [] ys x e h = absurd (omega arith)
+last-row b (row a ks ∷ []) ys x e h = e
+last-row b (row a ks ∷ (row a′ ks′ ∷ xs)) ys x e h =
+    let z : length (row a ks ∷ row a′ ks′ ∷ xs) - 1 ≡ suc (length (row a′ ks′ ∷ xs) - 1) = omega arith in
+    rw z (last-row (some a) (row a′ ks′ ∷ xs) ys x e (omega arith))
 
-pub rows-joined : (rs : List Row) (p : Placed) → Drawable (p .role) (p .chain) → Strand 0 rs p → RowsJoinedIn (p .role) rs (p .first)
-rows-joined rs p a s = go (p .role) a (s .is) (s .led)
-  where
-    go : (r : Role) → Drawable r (p .chain) → rs ≡ s .before ++ (drawnRows r (p .chain) (p .first) (hangsOn r (p .first)) ++ s .behind) → Led r (s .before) → RowsJoinedIn r rs (p .first)
-    go role.Slot b e l = slot-joined rs (p .first) (p .chain) b (s .before) (s .behind) e (starts rs p a s) l
-    go role.Acyl b e l = tt
-    go role.Base b e l = tt
+last-some : (xs : List Row) (x : List ℕ) → lastBytes none xs ≡ some x → 1 ≤ length xs
+unfolding lastBytes
+last-some [] x e = absurd (none≢some e)
+last-some (r ∷ xs) x e = omega arith
+
+module _ {π : Role → List ℕ} (rs : List Row) (p : Placed) (a : Drawable (p .role) (p .chain)) (s : Strand π none 0 rs p) where
+  starts : length (s .before) ≡ p .first
+  starts = omega (arith, s .from)
+
+  pub stretch : Stretch rs p
+  stretch =
+      let own : List Row = rowsOf (ownMembers p) in
+      record {
+        rows = ap (λ (z : ℕ). take z (drop (p .first) rs)) (sym (rows-length (ownMembers p)))
+            ∙ ap (take (length own)) (ap (drop (p .first)) (s .is) ∙ ap (λ (z : ℕ). drop z (s .before ++ (own ++ s .behind))) (sym starts) ∙ drop-past (s .before) (own ++ s .behind))
+            ∙ take-front own (s .behind);
+        indices = indices-own p a;
+      }
+
+  -- the chain's first row among all
+  first-there : rowAt (p .first) rs ≡ rowAt 0 (rowsOf (ownMembers p) ++ s .behind)
+  first-there =
+      ap (rowAt (p .first)) (s .is) ∙ ap (λ (z : ℕ). rowAt z (s .before ++ (rowsOf (ownMembers p) ++ s .behind))) (omega (arith, starts))
+      ∙ row-past 0 (s .before) (rowsOf (ownMembers p) ++ s .behind)
+
+  -- joined to any lower atom that is known
+  joined-to : (parent : List ℕ) → hangsOn (p .role) (p .first) < p .first → bytesIn (rowAt (hangsOn (p .role) (p .first)) rs) ≡ some parent
+      → RowsJoined rs parent (hangsOn (p .role) (p .first)) (p .first) (markBefore (p .role) (p .chain))
+  joined-to parent h e =
+      let k : ℕ = hangsOn (p .role) (p .first) in
+      record {
+        before = h;
+        parent-is = e;
+        carbon = ap bytesIn first-there ∙ drawn-first (p .role) (p .chain) a (p .first) k (s .behind) .1;
+        bonded = ap firstLink first-there ∙ drawn-first (p .role) (p .chain) a (p .first) k (s .behind) .0 ∙ ap (λ (z : ℕ). some (link k z)) (first-mark (p .role) (p .chain) a);
+      }
+
+  -- to the last atom before it
+  joined-last : (x : List ℕ) → lastBytes none (s .before) ≡ some x → hangsOn (p .role) (p .first) ≡ p .first - 1 → RowsJoined rs x (hangsOn (p .role) (p .first)) (p .first) (markBefore (p .role) (p .chain))
+  joined-last x e h =
+      let some-before : 1 ≤ length (s .before) = last-some (s .before) x e in
+      let z : hangsOn (p .role) (p .first) ≡ length (s .before) - 1 = omega (arith, starts) in
+      joined-to x (omega (arith, starts)) (ap bytesIn (ap (rowAt (hangsOn (p .role) (p .first))) (s .is) ∙ ap (λ (i : ℕ). rowAt i (s .before ++ (rowsOf (ownMembers p) ++ s .behind))) z) ∙ last-row none (s .before) (rowsOf (ownMembers p) ++ s .behind) x e some-before)
+
+  -- a base is joined to atom 0, the others to the last before them
+  pub rows-joined : (isBase (p .role) ≡ true → (π role.Base ≡ ascii "C") × ((2 ≤ p .first) × Carbonic 0 rs 0)) → RowsJoined rs (π (p .role)) (hangsOn (p .role) (p .first)) (p .first) (markBefore (p .role) (p .chain))
+  rows-joined base = go (p .role) refl (s .led) base
+    where
+      go : (r : Role) → p .role ≡ r → Led π r (lastBytes none (s .before)) → (isBase r ≡ true → (π role.Base ≡ ascii "C") × ((2 ≤ p .first) × Carbonic 0 rs 0))
+          → RowsJoined rs (π (p .role)) (hangsOn (p .role) (p .first)) (p .first) (markBefore (p .role) (p .chain))
+      go role.Slot e l h = joined-last (π (p .role)) (l ∙ ap (λ (r : Role). some (π r)) (sym e)) (ap (λ (r : Role). hangsOn r (p .first)) e)
+      go role.Acyl e l h = joined-last (π (p .role)) (l ∙ ap (λ (r : Role). some (π r)) (sym e)) (ap (λ (r : Role). hangsOn r (p .first)) e)
+      go role.Base e l h =
+          let zero-on : hangsOn (p .role) (p .first) ≡ 0 = ap (λ (r : Role). hangsOn r (p .first)) e in
+          joined-to (π (p .role)) (omega (arith, h refl .1 .0))
+          (ap (λ (i : ℕ). bytesIn (rowAt i rs)) zero-on ∙ bytes-row 0 rs (ascii "C") (h refl .1 .1 .is) ∙ ap (λ (x : List ℕ). some x) (sym (h refl .0) ∙ ap π (sym e)))
 
 -- the sites are where the roles say
 pub sites-by : (ps : List Placed) → All (λ p. p .site ≡ siteBy (p .role) (p .first)) ps → snSites ps ≡ sitesBy ps
@@ -288,35 +293,33 @@ sites-by (p ∷ ps) h = ap (λ (z : Option ℕ). siteNote z (p .sn) ++ snSites p
 -- ---- the floating parts
 
 -- each begins with its `*`
-floats-starred : (rs : List Row) (m : ℕ) (qs : List Part) → All Branch qs → (xs ys : List Row) → rs ≡ xs ++ (floatRows m qs ++ ys) → length xs ≡ m
-    → Each (λ i. rowAt i rs ≡ some (row (ascii "*") [])) (places isStar m (floatKinds qs))
-unfolding floatKinds places floatRows
+floats-starred : (rs : List Row) (m : ℕ) (qs : List Part) → All Branch qs → (xs ys : List Row) → rs ≡ xs ++ (rowsOf (floatMembers m qs) ++ ys) → length xs ≡ m
+    → Each (λ i. rowAt i rs ≡ some (row (ascii "*") [])) (places isStar m (floatMembers m qs))
+unfolding floatMembers places
 floats-starred rs m [] h xs ys e l = tt
 floats-starred rs m (q ∷ qs) h xs ys e l =
     let first : List Row = row (ascii "*") [] ∷ hung m (suc m) q in
-    let more : List Row = floatRows (suc m + q .size) qs in
-    let z : rs ≡ xs ++ (first ++ (more ++ ys)) = e ∙ ap (λ (u : List Row). xs ++ u) (append-assoc first more ys) in
-    let rest : Each (λ i. rowAt i rs ≡ some (row (ascii "*") [])) (places isStar (suc m + q .size) (floatKinds qs)) =
+    let more : List Row = rowsOf (floatMembers (suc m + q .size) qs) in
+    let z : rs ≡ xs ++ (first ++ (more ++ ys)) = e ∙ ap (λ (u : List Row). xs ++ (u ++ ys)) (float-rows m q qs) ∙ ap (λ (u : List Row). xs ++ u) (append-assoc first more ys) in
+    let rest : Each (λ i. rowAt i rs ≡ some (row (ascii "*") [])) (places isStar (suc m + q .size) (floatMembers (suc m + q .size) qs)) =
     floats-starred rs (suc m + q .size) qs (h .1) (xs ++ first) ys (z ∙ sym (append-assoc xs first (more ++ ys))) (omega (arith, length-append xs first, length-hung m (suc m) q (h .0 .hangs)))
     in (
       ap (rowAt m) z ∙ row-next m xs (row (ascii "*") []) (hung m (suc m) q ++ (more ++ ys)) l,
-      rw (places-other isStar refl (suc m) (hung 0 0 q) (floatKinds qs), length-hung 0 0 q (h .0 .hangs)) rest,
+      rw (places-others isStar refl (suc m) (hung m (suc m) q) (floatMembers (suc m + q .size) qs), length-hung m (suc m) q (h .0 .hangs)) rest,
     )
 
-pub stars-stand : (rs : List Row) (p : Placed) → Drawable (p .role) (p .chain) → Strand 0 rs p → Stars rs p
-unfolding chainRows
+pub stars-stand : {π : Role → List ℕ} (rs : List Row) (p : Placed) → Drawable (p .role) (p .chain) → Strand π none 0 rs p → Stars rs p
 stars-stand rs p a s =
-    let cs : List Carbon = carbons (p .role) (p .chain) in
     let n : ℕ = p .first in
-    let m : ℕ = chainEnd n cs in
-    let chain : List Row = chainRows (firstDrawn (p .role)) (ringPairs (p .chain .rings)) cs n (hangsOn (p .role) n) in
-    let fs : List Row = floatRows m (floats (p .chain)) in
-    let e : rs ≡ (s .before ++ chain) ++ (fs ++ s .behind) = s .is ∙ ap (λ (z : List Row). s .before ++ z) (append-assoc chain fs (s .behind)) ∙ sym (append-assoc (s .before) chain (fs ++ s .behind)) in
-    let l : length (s .before ++ chain) ≡ m =
-    omega (arith, length-append (s .before) chain, starts rs p a s, length-carbons (atomOf (firstDrawn (p .role)) n cs) (ringPairs (p .chain .rings)) (firstDrawn (p .role)) n (hangsOn (p .role) n) cs (carbons-fine (p .role) (p .chain) (a .sound)))
+    let on : ℕ = hangsOn (p .role) n in
+    let m : ℕ = ownEnd p a in
+    let carbons : List Row = carbonPart (p .role) (p .chain) n on in
+    let fs : List Row = floatPart (p .role) (p .chain) n on in
+    let e : rs ≡ (s .before ++ carbons) ++ (fs ++ s .behind) =
+    s .is ∙ ap (λ (z : List Row). s .before ++ (z ++ s .behind)) (drawn-parts (p .role) (p .chain) n on) ∙ ap (λ (z : List Row). s .before ++ z) (append-assoc carbons fs (s .behind)) ∙ sym (append-assoc (s .before) carbons (fs ++ s .behind))
     in
-    rw (star-places n cs (floatKinds (floats (p .chain))) (carbons-fine (p .role) (p .chain) (a .sound)))
-    (floats-starred rs m (floats (p .chain)) (floats-read (p .chain) (a .sound) .0) (s .before ++ chain) (s .behind) e l)
+    let l : length (s .before ++ carbons) ≡ m = omega (arith, length-append (s .before) carbons, starts rs p a s, length-carbon-part (p .role) (p .chain) a n on) in
+    rw (own-stars p a) (floats-starred rs m (floats (p .chain)) (floats-read (p .chain) (a .sound) .0) (s .before ++ carbons) (s .behind) e l)
 
 -- all indices but those that are no sites
 sites-rest : (r : Role) (d : Chain) (is : List ℕ) → drop (siteSkip r d) is ≡ drop (noSites r d) (headCarbons r ++ is)
@@ -330,12 +333,11 @@ pub lists-starred : (ps : List Placed) → All (λ p. Drawable (p .role) (p .cha
 unfolding allSites starLists sites siteAtoms indicesOf
 lists-starred [] h = refl
 lists-starred (p ∷ ps) h =
-    let cs : List Carbon = carbons (p .role) (p .chain) in
     let is : List ℕ = carbonAtoms (p .role) (p .chain) (p .first) in
     rw (
-      float-stars (drop (siteSkip (p .role) (p .chain)) is) (chainEnd (p .first) cs) (floats (p .chain)) (floats-read (p .chain) (h .0 .sound) .0),
+      float-stars (drop (siteSkip (p .role) (p .chain)) is) (ownEnd p (h .0)) (floats (p .chain)) (floats-read (p .chain) (h .0 .sound) .0),
       sites-rest (p .role) (p .chain) is,
-      star-places (p .first) cs (floatKinds (floats (p .chain))) (carbons-fine (p .role) (p .chain) (h .0 .sound)),
+      own-stars p (h .0),
       lists-starred ps (h .1),
     ) refl
 
@@ -403,16 +405,38 @@ marks-repeated r d n v = go (d .unlocated) (flexibleCount d) refl refl
         let z : flexibleCount d ≡ 2 * suc u + 2 = rw (ne-eqb (d .unlocated) 0 (λ x. omega arith), e) refl in
         rw (tail (2 * suc u + 2) z) (marked-atoms p v u ∙ sym (repeated-values p (suc u)))
 
-pub marks-stand : (p : Placed) → Drawable (p .role) (p .chain) → Marked p
-marks-stand p a =
-    record {
-      carbons = marks-repeated (p .role) (p .chain) (p .first) (p .variable) ∙ ap (λ (z : List ℕ). repeated (drop (length (literal (p .role) (p .chain))) z)) (atoms-own p a);
-      summed = sums-notes (p .role) (p .chain) (p .first) (p .variable) ∙ sym (marks-notes (p .role) (p .chain) (p .first) (p .variable));
-    }
+-- marks with variables that follow one another
+marks-numbered : (v a k : ℕ) (xs : List (At ℕ)) → notesOf xs ≡ valuesFrom (λ i. v + i) a k → xs ≡ numbered (v + a) (atomsOf xs)
+unfolding notesOf atomsOf valuesFrom numbered
+marks-numbered v a k [] e = refl
+marks-numbered v a zero (at i w ∷ xs) e = cc
+marks-numbered v a (suc k) (at i w ∷ xs) e =
+    let q : w ≡ v + a = cc in
+    let r : notesOf xs ≡ valuesFrom (λ i. v + i) (suc a) k = cc in
+    let z : v + suc a ≡ suc (v + a) = omega arith in
+    ap (λ (x : ℕ). at i x ∷ xs) q ∙ ap (λ (x : List (At ℕ)). at i (v + a) ∷ x) (rw z at (marks-numbered v (suc a) k xs r))
+
+-- the marks of a chain are on its own carbons
+pub marks-own : (p : Placed) → Drawable (p .role) (p .chain) → marks (p .role) (p .chain) (p .first) (p .variable) ≡ ownMarks p
+marks-own p a =
+    let v : ℕ = p .variable in
+    let z : v + 0 ≡ v = omega arith in
+    (rw z at (marks-numbered v 0 (variables (p .chain)) (marks (p .role) (p .chain) (p .first) v) (marks-notes (p .role) (p .chain) (p .first) v)))
+    ∙ ap (numbered v) (marks-repeated (p .role) (p .chain) (p .first) v ∙ ap (λ (z : List ℕ). repeated (drop (length (literal (p .role) (p .chain))) z)) (atoms-own p a))
+
+pub all-marks-own : (ps : List Placed) → All (λ p. Drawable (p .role) (p .chain)) ps → allMarks ps ≡ carbonMarks ps
+unfolding allMarks carbonMarks
+all-marks-own [] h = refl
+all-marks-own (p ∷ ps) h = rw (marks-own p (h .0), all-marks-own ps (h .1)) refl
+
+-- its sum has their variables
+pub sum-own : (p : Placed) → Drawable (p .role) (p .chain) → summed (sums (p .role) (p .chain) (p .variable)) ≡ notesOf (ownMarks p)
+sum-own p a = sums-notes (p .role) (p .chain) (p .first) (p .variable) ∙ sym (marks-notes (p .role) (p .chain) (p .first) (p .variable)) ∙ ap notesOf (marks-own p a)
 
 -- ---- the groups
 
 pub groups-whole : (p : Placed) → Drawable (p .role) (p .chain) → Grouped p
+unfolding entries
 groups-whole p a =
     record {
       located = of (groupsOn (p .role) (p .chain)) (groups-table (p .role) (p .chain) (a .sound) .0);
@@ -420,8 +444,8 @@ groups-whole p a =
       carbonyl = whole keto (omega arith);
     }
   where
-    whole : (i : ℕ) → i < 17 → Whole (entryAt i .branch) (branchPart i)
-    whole i h = record { reads = branch-whole i h .0; shown = branch-whole i h .1 }
+    whole : (i : ℕ) → i < 17 → Group i
+    whole i h = record { row = h; branch = record { reads = branch-whole i h .0; shown = branch-whole i h .1 } }
 
-    of : (gs : List Mod) → All InTable gs → Each (λ (g : Mod). Whole (entryAt (g .row) .branch) (branchPart (g .row))) gs
-    of gs h = all-each (λ (g : Mod). Whole (entryAt (g .row) .branch) (branchPart (g .row))) gs (all-map {P = InTable} (λ g q. whole (g .row) q) gs h)
+    of : (gs : List Mod) → All InTable gs → Each (λ (g : Mod). Group (g .row)) gs
+    of gs h = all-each (λ (g : Mod). Group (g .row)) gs (all-map {P = InTable} (λ g q. whole (g .row) q) gs h)

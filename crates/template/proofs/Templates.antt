@@ -23,7 +23,7 @@ use Rattle.chain.proofs.Branches.{unlabelled}
 use Rattle.template.specs.declared.Class.{Class}
 use Rattle.template.specs.declared.Class.the-variants.{Fa, Gl1, Gl2, Gl3, Gp, Cl, Sb, Sa}
 use Rattle.template.specs.Template.{Element, fixed, tail, slot, chain, elements, most, roleOf, hasTail}
-use Rattle.template.specs.Request.{fixedPieces, atomsOfPieces}
+use Rattle.template.specs.Drawn.{fixedPieces, atomsOfPieces}
 
 -- ---- a template's own pieces are a run
 

@@ -28,7 +28,7 @@ use Rattle.chain.proofs.Accepted.{Drawable}
 use Rattle.chain.proofs.Branches.{unlabelled}
 use Rattle.chain.proofs.Fits.{chain-fits, chain-well}
 use Rattle.template.specs.Template.{Element, fixed, tail, slot, chain}
-use Rattle.template.specs.Request.{chainAt, nonempty, orNothing, fixedPieces, tailPart, chainItem, slotOxygen, itemsOf, allItems}
+use Rattle.template.specs.Drawn.{chainAt, nonempty, orNothing, fixedPieces, tailPart, chainItem, slotOxygen, itemsOf, allItems}
 use Rattle.template.proofs.Templates.{isBare, inRole, isTailed, sameRole, snsOf, Fitting}
 use Rattle.template.proofs.Placing.{Accepts, TailFits, drawable-at}
 use Rattle.template.proofs.Whole.{Stands}
@@ -142,7 +142,7 @@ module _ (t : List ℕ) (ds : List Chain) (ρ : ℕ → Role) (accepts : (sn : �
       (all-read es b (and-right (sameRole (ρ sn) r) (allOf (inRole ρ) es) e) h)
 
   -- THE TEXT: with labels from 10 on it reads as the rows of the drawing
-  pub text-reads : (most : ℕ) (tailed : Bool) (es : List Element) → Fitting most ρ tailed es → (tailed ≡ true → TailFits t) → (s : Stands t ds es)
+  pub text-reads : (most : ℕ) (tailed : Bool) (es : List Element) → Fitting most ρ tailed es → (tailed ≡ true → TailFits t) → {π : Role → List ℕ} (s : Stands π t ds es)
       → readText (show (templatePieces 10 (allItems t ds es))) ≡ some (s .rows)
   text-reads most tailed es f h s =
       let q : Reads (allItems t ds es) (length (snsOf es)) = all-read es (f .bare) (f .roles) (λ e. h (sym (f .tails) ∙ e)) in

@@ -23,31 +23,34 @@ use Rattle.reading.proofs.BlockLaws.{LabelFits}
 use Rattle.reading.proofs.LineLaws.{WellFormed, line-reads-back}
 use Rattle.chain.specs.declared.Role.{Role}
 use Rattle.chain.specs.declared.Role.the-variants as role
-use Rattle.chain.specs.Lists.{anyOf, allOf}
+use Rattle.chain.specs.Lists.{anyOf, allOf, Each}
 use Rattle.chain.specs.Features.{firstDrawn}
 use Rattle.chain.specs.Drawing as draw
 use Rattle.chain.specs.Drawing.{carbons, carbonAtoms}
 use Rattle.chain.specs.Counts.{total, copies, Meets}
-use Rattle.chain.proofs.Lists.{Rises, rises-within, rises-distinct, rises-rising, rises-none, all-both}
+use Rattle.chain.proofs.Lists.{all-each, each-all, Rises, rises-within, rises-distinct, rises-rising, rises-none, all-both}
 use Rattle.chain.proofs.Accepted.{Drawable, first-one, drawn-most, carbon-most}
 use Rattle.chain.proofs.Atoms.{carbon-atoms-rise, carbon-atoms-count, atomsEnd-le}
 use Rattle.chain.proofs.Counts.{SumStands, Chosen, written-add-up}
 use Rattle.template.specs.declared.Class.{Class}
 use Rattle.template.specs.declared.Class.the-variants.{Fa, Gl1, Gl2, Gl3, Gp, Cl, Sb, Sa}
 use Rattle.template.specs.Template.{Element, glycerol, elements, fewest, most as mostTokens, roleOf, hasTail}
-use Rattle.template.specs.Request.{Placed, fixedPieces, placedFrom, placed, allMarks, allSites, allSums, bySn, headCarbons, indicesOf, snSites, labels, orNoRows, rowsDrawn, moleculeDrawn, textOf, lineOf}
-use Rattle.template.specs.Promise.{Each, bytesAt, variableAt, labelAt, Listed, Choice, AddsUp, siteBy, sitesBy, JoinedIn, Stretch, starLists, Stars, marksIn, siteListsIn, Marked, OwnText, Grouped, Promise}
+use Rattle.template.specs.Drawn.{Placed, fixedPieces, placedFrom, placed, allMarks, allSites, allSums, bySn, snSites, labels, orNoRows, rowsDrawn, moleculeDrawn}
+use Rattle.template.specs.Written.{headCarbons, indicesOf, textOf, lineOf}
+use Rattle.template.specs.Atoms.{bytesAt, variableAt, labelAt, marksIn, siteListsIn, Among}
+use Rattle.template.specs.Chains.{Listed, AddsUp, siteBy, sitesBy, Joined, parentOf, HeadedBy, Stretch, starLists, Stars, carbonMarks, Summed, Grouped}
+use Rattle.template.specs.Promise.{Choice, OwnText, Promise}
 use Rattle.template.proofs.Templates.{snsOf, isBase, hasBase, headed, Fitting, fitting}
 use Rattle.template.proofs.Rows.{Carbonic}
 use Rattle.template.proofs.Placing.{Strand, variablesTo, AcceptsFrom, accepts-at, anchors}
-use Rattle.template.proofs.Strands.{all-each, in-rows, stretch, sites-by, stars-stand, lists-starred, marks-stand, groups-whole}
+use Rattle.template.proofs.Strands.{in-rows, stretch, rows-joined, sites-by, stars-stand, lists-starred, all-marks-own, sum-own, groups-whole}
 use Rattle.template.proofs.Whole.{Stands, stands}
 use Rattle.template.proofs.Text.{text-reads}
 use Rattle.template.proofs.Notes.{endOf, placing-within, placing-drawable, all-marks-rise, all-variables-rise, all-summed, all-sums-stand, variables-most, all-sites-rise, all-sites-within, all-sites-flat, all-sites-some, sn-sites-rise, own-marks, look-outside, marks-after, total-agrees, all-chosen, own-sums}
 use Rattle.template.proofs.Sorted.{sns-placed, headed-first, base-placed, length-placed, placed-apart, all-sorted, snOf, sorted-rise, site-notes-rise, sorted-sites-apart, sorted-sites-all}
 use Rattle.template.proofs.Tail.{TailReads, tail-fits, tail-whole}
 use Rattle.template.proofs.Listing.{chains-listed}
-use Rattle.template.proofs.Molecules.{bytes-at, variable-at, label-at, marks-in, lists-in, joined-in, sums-in, set-all, all-set}
+use Rattle.template.proofs.Molecules.{bytes-at, variable-at, label-at, marks-in, lists-in, joined-in, headed-in, sums-in, set-all, all-set, sums-among}
 
 -- ---- what is accepted
 
@@ -57,10 +60,6 @@ pub record Accepted (c : Class) (t : List ℕ) (ds : List Chain) : Type 0 where
   pub many : length ds ≤ mostTokens c
   pub chains : AcceptsFrom (roleOf c) 1 ds
   pub tail : hasTail c ≡ true → TailReads t
-
-each-all : {A : Type 0} (P : A → Type 0) (l : List A) → Each P l → All P l
-each-all P [] h = tt
-each-all P (x ∷ l) h = (h .0, each-all P l (h .1))
 
 -- ---- a base's C1 and C2 before its other carbons
 
@@ -91,7 +90,7 @@ heads-total count role.Base is h = omega (arith, h refl)
 
 -- ---- any template that passes the tests
 
-module _ (t : List ℕ) (ds : List Chain) (most : ℕ) (ρ : ℕ → Role) (tailed : Bool) (es : List Element) (f : Fitting most ρ tailed es) (s : Stands t ds es) where
+module _ (t : List ℕ) (ds : List Chain) (most : ℕ) (ρ : ℕ → Role) (tailed : Bool) (es : List Element) (f : Fitting most ρ tailed es) (π : Role → List ℕ) (s : Stands π t ds es) where
   abbrev ps : List Placed
   ps = placedFrom t ds 0 0 es
 
@@ -206,7 +205,7 @@ module _ (t : List ℕ) (ds : List Chain) (most : ℕ) (ρ : ℕ → Role) (tail
     drawable : Drawable (p .role) (p .chain)
     ends : endOf p ≤ n
     inside : All (Carbonic 0 (s .rows)) (carbonAtoms (p .role) (p .chain) (p .first))
-    strand : Strand 0 (s .rows) p
+    strand : Strand π none 0 (s .rows) p
     head : isBase (p .role) ≡ true → headed es ≡ true
     late : headed es ≡ true → 2 ≤ p .first
     marks : (i : ℕ) → p .first ≤ i → i < endOf p → look i (allMarks ps) ≡ look i (draw.marks (p .role) (p .chain) (p .first) (p .variable))
@@ -218,7 +217,7 @@ module _ (t : List ℕ) (ds : List Chain) (most : ℕ) (ρ : ℕ → Role) (tail
       w : ℕ
       w = variablesTo ds 0 es
 
-      go : (qs : List Placed) → All (λ p. Drawable (p .role) (p .chain)) qs → All (λ p. (0 ≤ p .first) × (endOf p ≤ n)) qs → All (Strand 0 (s .rows)) qs
+      go : (qs : List Placed) → All (λ p. Drawable (p .role) (p .chain)) qs → All (λ p. (0 ≤ p .first) × (endOf p ≤ n)) qs → All (Strand π none 0 (s .rows)) qs
           → All (λ p. isBase (p .role) ≡ true → headed es ≡ true) qs → All (λ p. headed es ≡ true → 2 ≤ p .first) qs
           → All (λ p. (i : ℕ) → p .first ≤ i → i < endOf p → look i (allMarks ps) ≡ look i (draw.marks (p .role) (p .chain) (p .first) (p .variable))) qs → All Known qs
       go [] a b c d l e = tt
@@ -330,12 +329,24 @@ module _ (t : List ℕ) (ds : List Chain) (most : ℕ) (ρ : ℕ → Role) (tail
       go true = refl
       go false = unfold look in refl
 
-  variables-apart : distinct (notesOf (allMarks ps)) ≡ true
-  variables-apart = let w : ℕ = variablesTo ds 0 es in rises-distinct 0 w (notesOf (allMarks ps)) (all-variables-rise 0 n 0 w ps (s .placing))
-
   module _ (swap : Bool) where
-    marks-are : marksIn (drawnMolecule swap) ≡ allMarks ps
-    marks-are = marks-in (s .rows) (labels swap all-labels) (allMarks ps) (allSites ps) (allSums ps) (all-marks-rise 0 n 0 (variablesTo ds 0 es) ps (s .placing))
+    marks-all : marksIn (drawnMolecule swap) ≡ allMarks ps
+    marks-all = marks-in (s .rows) (labels swap all-labels) (allMarks ps) (allSites ps) (allSums ps) (all-marks-rise 0 n 0 (variablesTo ds 0 es) ps (s .placing))
+
+    marks-are : marksIn (drawnMolecule swap) ≡ carbonMarks ps
+    marks-are = marks-all ∙ all-marks-own ps (placing-drawable 0 n 0 (variablesTo ds 0 es) ps (s .placing))
+
+    variables-apart : distinct (notesOf (marksIn (drawnMolecule swap))) ≡ true
+    variables-apart =
+        let w : ℕ = variablesTo ds 0 es in
+        rw marks-all (rises-distinct 0 w (notesOf (allMarks ps)) (all-variables-rise 0 n 0 w ps (s .placing)))
+
+    sums-are : Each (Summed (drawnMolecule swap)) ps
+    sums-are =
+        all-each (Summed (drawnMolecule swap)) ps
+        (all-map {P = λ (p : Placed). Known p × Each (λ x. Among x (setOf sumKey (allSums ps))) (draw.sums (p .role) (p .chain) (p .variable))}
+        (λ p h. record { stands = rw (sums-in (s .rows) (labels swap all-labels) (allMarks ps) (allSites ps) (allSums ps)) (h .1); variables = sum-own p (h .0 .drawable) }) ps
+        (all-both Known (λ p. Each (λ x. Among x (setOf sumKey (allSums ps))) (draw.sums (p .role) (p .chain) (p .variable))) ps known (sums-among (allSums ps) ps (λ x h. h))))
 
     lists-are : siteListsIn (drawnMolecule swap) ≡ starLists ps
     lists-are =
@@ -348,9 +359,9 @@ module _ (t : List ℕ) (ds : List Chain) (most : ℕ) (ρ : ℕ → Role) (tail
 -- ---- an accepted request
 
 -- its template is drawn
-pub drawn-request : (c : Class) (t : List ℕ) (ds : List Chain) → Accepted c t ds → Stands t ds (elements c)
+pub drawn-request : (c : Class) (t : List ℕ) (ds : List Chain) → Accepted c t ds → Stands (parentOf c) t ds (elements c)
 drawn-request c t ds a =
-    stands t ds (mostTokens c) (roleOf c) (hasTail c) (elements c) (fitting c) (accepts-at (roleOf c) ds (a .chains)) (λ e. tail-fits t (a .tail e)) (anchors c t ds)
+    stands (parentOf c) refl t ds (mostTokens c) (roleOf c) (hasTail c) (elements c) (fitting c) (accepts-at (roleOf c) ds (a .chains)) (λ e. tail-fits t (a .tail e)) (anchors c t ds)
 
 -- the texts of the eight templates
 own-texts : (c : Class) → Each OwnText (elements c)
@@ -373,21 +384,22 @@ promise c swap t ds a =
       reads =
           line-reads-back (textOf c t ds) (s .rows) (labels swap (snSites (bySn ps))) (allMarks ps) (allSites ps) (allSums ps)
           (text-reads t ds (roleOf c) (accepts-at (roleOf c) ds (a .chains)) (mostTokens c) (hasTail c) es f (λ e. tail-fits t (a .tail e)) s)
-          (well-formed t ds (mostTokens c) (roleOf c) (hasTail c) es f s swap)
+          (well-formed t ds (mostTokens c) (roleOf c) (hasTail c) es f (parentOf c) s swap)
           ∙ ap (λ (m : Molecule). some m) (sym same);
-      chains = chains-listed t ds (mostTokens c) es (f .places) (a .many) (placed-apart t ds 0 0 es (f .apart)) 5 (sns-rise t ds (mostTokens c) (roleOf c) (hasTail c) es f s);
-      indices = rw same (all-listed t ds (mostTokens c) (roleOf c) (hasTail c) es f s swap);
-      choice = rw same (chosen t ds (mostTokens c) (roleOf c) (hasTail c) es f s swap);
-      carbons = rw same (all-add-up t ds (mostTokens c) (roleOf c) (hasTail c) es f s swap);
+      chains = chains-listed t ds (mostTokens c) es (f .places) (a .many) (placed-apart t ds 0 0 es (f .apart)) 5 (sns-rise t ds (mostTokens c) (roleOf c) (hasTail c) es f (parentOf c) s);
+      indices = rw same (all-listed t ds (mostTokens c) (roleOf c) (hasTail c) es f (parentOf c) s swap);
+      choice = rw same (chosen t ds (mostTokens c) (roleOf c) (hasTail c) es f (parentOf c) s swap);
+      carbons = rw same (all-add-up t ds (mostTokens c) (roleOf c) (hasTail c) es f (parentOf c) s swap);
       rows = rw same-rows (each (Stretch (s .rows)) (λ p k. stretch (s .rows) p (k .drawable) (k .strand)));
-      sites = all-sites-by t ds (mostTokens c) (roleOf c) (hasTail c) es f s;
-      joined = rw same (each (JoinedIn drawn) (λ p k. joined-in (s .rows) (labels swap (snSites (bySn ps))) (allMarks ps) (allSites ps) (allSums ps) p (k .drawable) (k .strand)));
-      labelled = rw (same, ← all-sites-by t ds (mostTokens c) (roleOf c) (hasTail c) es f s) (labels-are t ds (mostTokens c) (roleOf c) (hasTail c) es f s swap);
-      floats = rw same (lists-are t ds (mostTokens c) (roleOf c) (hasTail c) es f s swap);
+      sites = all-sites-by t ds (mostTokens c) (roleOf c) (hasTail c) es f (parentOf c) s;
+      joined = rw same (each (Joined c drawn) (λ p k. joined-in (s .rows) (labels swap (snSites (bySn ps))) (allMarks ps) (allSites ps) (allSums ps) c p (rows-joined (s .rows) p (k .drawable) (k .strand) (λ e. (refl, (k .late (k .head e), s .heads (k .head e) .0))))));
+      heads = rw same (each (λ p. HeadedBy (p .role) drawn p) (λ p k. headed-in (s .rows) (labels swap (snSites (bySn ps))) (allMarks ps) (allSites ps) (allSums ps) p (k .drawable) (λ e. s .neck (k .head e))));
+      labelled = rw (same, ← all-sites-by t ds (mostTokens c) (roleOf c) (hasTail c) es f (parentOf c) s) (labels-are t ds (mostTokens c) (roleOf c) (hasTail c) es f (parentOf c) s swap);
+      floats = rw same (lists-are t ds (mostTokens c) (roleOf c) (hasTail c) es f (parentOf c) s swap);
       stars = rw same-rows (each (Stars (s .rows)) (λ p k. stars-stand (s .rows) p (k .drawable) (k .strand)));
-      marks = rw same (marks-are t ds (mostTokens c) (roleOf c) (hasTail c) es f s swap);
-      marked = each Marked (λ p k. marks-stand p (k .drawable));
-      variables = variables-apart t ds (mostTokens c) (roleOf c) (hasTail c) es f s;
+      marks = rw same (marks-are t ds (mostTokens c) (roleOf c) (hasTail c) es f (parentOf c) s swap);
+      summed = rw same (sums-are t ds (mostTokens c) (roleOf c) (hasTail c) es f (parentOf c) s swap);
+      variables = rw same (variables-apart t ds (mostTokens c) (roleOf c) (hasTail c) es f (parentOf c) s swap);
       drawn = rw same-rows (s .is);
       texts = own-texts c;
       tail = λ e. tail-whole t (a .tail e);
@@ -400,14 +412,14 @@ promise c swap t ds a =
     f : Fitting (mostTokens c) (roleOf c) (hasTail c) (elements c)
     f = fitting c
 
-    s : Stands t ds (elements c)
+    s : Stands (parentOf c) t ds (elements c)
     s = drawn-request c t ds a
 
     ps : List Placed
     ps = placedFrom t ds 0 0 (elements c)
 
-    each : (P : Placed → Type 0) → ((p : Placed) → Known t ds (mostTokens c) (roleOf c) (hasTail c) (elements c) (fitting c) s p → P p) → Each P ps
-    each = of-each t ds (mostTokens c) (roleOf c) (hasTail c) es f s
+    each : (P : Placed → Type 0) → ((p : Placed) → Known t ds (mostTokens c) (roleOf c) (hasTail c) (elements c) (fitting c) (parentOf c) s p → P p) → Each P ps
+    each = of-each t ds (mostTokens c) (roleOf c) (hasTail c) es f (parentOf c) s
 
     drawn : Molecule
     drawn = moleculeOf (s .rows) (labels swap (snSites (bySn ps))) (allMarks ps) (allSites ps) (allSums ps)
@@ -440,9 +452,9 @@ indices-few p a = omega (arith, indices-most p a, carbon-most (p .role) (p .chai
 pub indices-small : (c : Class) (t : List ℕ) (ds : List Chain) → Accepted c t ds → All (λ p. All (λ i. i < 4000) (indicesOf p)) (placed c t ds)
 unfolding placed indicesOf
 indices-small c t ds a =
-    all-map {P = Known t ds (mostTokens c) (roleOf c) (hasTail c) (elements c) (fitting c) (drawn-request c t ds a)} (λ p k. small p k) (placedFrom t ds 0 0 (elements c)) (known t ds (mostTokens c) (roleOf c) (hasTail c) (elements c) (fitting c) (drawn-request c t ds a))
+    all-map {P = Known t ds (mostTokens c) (roleOf c) (hasTail c) (elements c) (fitting c) (parentOf c) (drawn-request c t ds a)} (λ p k. small p k) (placedFrom t ds 0 0 (elements c)) (known t ds (mostTokens c) (roleOf c) (hasTail c) (elements c) (fitting c) (parentOf c) (drawn-request c t ds a))
   where
-    small : (p : Placed) → Known t ds (mostTokens c) (roleOf c) (hasTail c) (elements c) (fitting c) (drawn-request c t ds a) p → All (λ i. i < 4000) (headCarbons (p .role) ++ carbonAtoms (p .role) (p .chain) (p .first))
+    small : (p : Placed) → Known t ds (mostTokens c) (roleOf c) (hasTail c) (elements c) (fitting c) (parentOf c) (drawn-request c t ds a) p → All (λ i. i < 4000) (headCarbons (p .role) ++ carbonAtoms (p .role) (p .chain) (p .first))
     small p k =
         let m : ℕ = chainEnd (p .first) (carbons (p .role) (p .chain)) in
         let is : List ℕ = carbonAtoms (p .role) (p .chain) (p .first) in

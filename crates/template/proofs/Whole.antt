@@ -4,24 +4,27 @@ use Prim.Native.Nat.{ℕ, zero, suc, _≤_}
 use native.Mathlib.Omega.{arith}
 use mathlib.Core.Path.{_≡_, refl, sym, ap, _∙_}
 use mathlib.Core.Bool.{Bool, true, false≢true}
-use mathlib.Core.Option.{some}
+use mathlib.Core.Option.{none, some}
 use mathlib.Core.List.{List, [], _∷_, _++_, map}
 use lib.ListN.{length}
 use borrow.Author.Tests.{leb-true}
 use Rattle.record.specs.Chain.{Chain}
 use Rattle.reading.specs.Ascii.{ascii}
-use Rattle.reading.specs.Row.{Link, link, Row, row}
+use Rattle.reading.specs.Row.{link, Row, row}
 use Rattle.reading.specs.Piece.{Piece}
 use Rattle.reading.specs.Machine.{fresh, opened, after, marked, State, st, Out, fail, ok, labels, joins, placed, step, prepend, andThen, whole}
 use Rattle.reading.specs.Template.{Item, piece, draw, drawAll, drawn}
 use Rattle.reading.proofs.Reading.{fail≢ok}
 use Rattle.reading.proofs.PartingLaws.{All}
 use Rattle.chain.specs.declared.Role.{Role}
+use Rattle.chain.specs.declared.Role.the-variants.{Slot}
 use Rattle.template.specs.Template.{Element, fixed, tail, slot, chain}
-use Rattle.template.specs.Request.{chainAt, fixedPieces, itemsOf, allItems, placedFrom}
+use Rattle.template.specs.Drawn.{chainAt, fixedPieces, itemsOf, allItems, placedFrom}
 use Rattle.template.proofs.Templates.{Turn, no, to, turnAll, ends, Begins, begins, headed, mostAtoms, Fitting}
+use Rattle.template.specs.Atoms.{rowAt}
 use Rattle.template.proofs.Rows.{rowBytes, Carbonic}
-use Rattle.template.proofs.Placing.{Accepts, TailFits, Placing, Strand, Anchors, Made, MadeTo, made-all, atomsTo, variablesTo, atomTo, stackTo}
+use Rattle.template.proofs.Strands.{firstLink}
+use Rattle.template.proofs.Placing.{Accepts, TailFits, Placing, Strand, Anchors, Made, MadeTo, made-all, atomsTo, variablesTo, atomTo, stackTo, lastTo}
 
 -- ---- the first two atoms
 
@@ -29,10 +32,11 @@ use Rattle.template.proofs.Placing.{Accepts, TailFits, Placing, Strand,
 record TwoCarbons (rs : List Row) : Type 0 where
   zeroth : rowBytes 0 rs ≡ some (ascii "C")
   first : rowBytes 1 rs ≡ some (ascii "C")
+  joined : firstLink (rowAt 1 rs) ≡ some (link 0 0)
 
-two-rows : (k k′ : List Link) (r : List Row) → TwoCarbons (row (ascii "C") k ∷ row (ascii "C") k′ ∷ r)
-unfolding rowBytes
-two-rows k k′ r = record { zeroth = refl; first = refl }
+two-rows : (r : List Row) → TwoCarbons (row (ascii "C") [] ∷ row (ascii "C") (link 0 0 ∷ []) ∷ r)
+unfolding rowBytes rowAt
+two-rows r = record { zeroth = refl; first = refl; joined = refl }
 
 two-carbons : (is : List Item) (us : List Piece) (rs : List Row) (s : State) → Begins us → drawAll (map piece us ++ is) (st 0 0 [] [] fresh) ≡ ok rs s → TwoCarbons rs
 unfolding drawAll draw step placed labels joins andThen prepend
@@ -43,7 +47,7 @@ two-carbons is us rs s h e =
     go fail q = absurd (fail≢ok q)
     go (ok r s′) q =
         let z : row (ascii "C") [] ∷ row (ascii "C") (link 0 0 ∷ []) ∷ r ≡ rs = cc in
-        rw z at (two-rows [] (link 0 0 ∷ []) r)
+        rw z at (two-rows r)
 
 headed-carbons : (t : List ℕ) (ds : List Chain) (es : List Element) (rs : List Row) (s : State) → headed es ≡ true → drawAll (allItems t ds es) (st 0 0 [] [] fresh) ≡ ok rs s → TwoCarbons rs
 unfolding headed allItems itemsOf
@@ -56,26 +60,27 @@ headed-carbons t ds (chain sn r ∷ es) rs s h e = absurd (false≢true h)
 -- ---- the whole
 
 -- the rows of a template; its chains stand among them from atom 0 and variable 0 on
-pub record Stands (t : List ℕ) (ds : List Chain) (es : List Element) : Type 0 where
+pub record Stands (π : Role → List ℕ) (t : List ℕ) (ds : List Chain) (es : List Element) : Type 0 where
   pub rows : List Row
   pub is : drawn (allItems t ds es) ≡ some rows
   pub placing : Placing 0 (length rows) 0 (variablesTo ds 0 es) (placedFrom t ds 0 0 es)
-  pub strands : All (Strand 0 rows) (placedFrom t ds 0 0 es)
+  pub strands : All (Strand π none 0 rows) (placedFrom t ds 0 0 es)
   pub few : length rows ≤ 4000
   pub heads : headed es ≡ true → Carbonic 0 rows 0 × Carbonic 0 rows 1
+  pub neck : headed es ≡ true → firstLink (rowAt 1 rows) ≡ some (link 0 0)
 
 whole-is : (rs : List Row) (n cur : ℕ) (stk : List ℕ) → length stk ≡ 0 → whole (ok rs (st n cur stk [] after)) ≡ some rs
 unfolding whole
 whole-is rs n cur [] h = refl
 whole-is rs n cur (p ∷ stk) h = absurd (omega arith)
 
-pub stands : (t : List ℕ) (ds : List Chain) (most : ℕ) (ρ : ℕ → Role) (tailed : Bool) (es : List Element) → Fitting most ρ tailed es
-    → ((sn : ℕ) (d : Chain) → chainAt sn ds ≡ some d → Accepts (ρ sn) d) → (tailed ≡ true → TailFits t) → Anchors t ds 0 0 [] es → Stands t ds es
+pub stands : (π : Role → List ℕ) → π Slot ≡ ascii "O" → (t : List ℕ) (ds : List Chain) (most : ℕ) (ρ : ℕ → Role) (tailed : Bool) (es : List Element) → Fitting most ρ tailed es
+    → ((sn : ℕ) (d : Chain) → chainAt sn ds ≡ some d → Accepts (ρ sn) d) → (tailed ≡ true → TailFits t) → Anchors π t ds 0 0 [] none es → Stands π t ds es
 unfolding ends drawn
-stands t ds most ρ tailed es f accepts h g =
-    go (turnAll es 0 fresh) (f .runs) (made-all t ds ρ accepts es (f .roles) (λ q. h (sym (f .tails) ∙ q)) 0 0 0 [] fresh g)
+stands π slots t ds most ρ tailed es f accepts h g =
+    go (turnAll es 0 fresh) (f .runs) (made-all t ds ρ accepts π slots es (f .roles) (λ q. h (sym (f .tails) ∙ q)) 0 0 0 [] none fresh g)
   where
-    made : Made (allItems t ds es) (placedFrom t ds 0 0 es) 0 0 0 [] fresh (atomsTo t ds 0 es) (variablesTo ds 0 es) (atomTo t ds 0 0 [] es) (stackTo t ds 0 0 [] es) (mostAtoms es) 0 after → Stands t ds es
+    made : Made π (allItems t ds es) (placedFrom t ds 0 0 es) 0 0 0 [] none fresh (atomsTo t ds 0 es) (variablesTo ds 0 es) (atomTo t ds 0 0 [] es) (stackTo t ds 0 0 [] es) (lastTo t ds 0 0 [] none es) (mostAtoms es) 0 after → Stands π t ds es
     made m =
         let n : length (m .drawn .rows) ≡ atomsTo t ds 0 es = omega (arith, m .drawn .many) in
         record {
@@ -85,12 +90,13 @@ stands t ds most ρ tailed es f accepts h g =
           strands = m .strands;
           few = omega (arith, m .few, leb-true (mostAtoms es) 4000 (f .small));
           heads = λ q. carbonic (headed-carbons t ds es (m .drawn .rows) _ q (m .drawn .does));
+          neck = λ q. headed-carbons t ds es (m .drawn .rows) _ q (m .drawn .does) .joined;
         }
       where
         carbonic : {rs : List Row} → TwoCarbons rs → Carbonic 0 rs 0 × Carbonic 0 rs 1
         carbonic c = (record { from = omega arith; is = c .zeroth }, record { from = omega arith; is = c .first })
 
-    go : (T : Turn) → ends T ≡ true → MadeTo (allItems t ds es) (placedFrom t ds 0 0 es) 0 0 0 [] fresh (atomsTo t ds 0 es) (variablesTo ds 0 es) (atomTo t ds 0 0 [] es) (stackTo t ds 0 0 [] es) (mostAtoms es) T → Stands t ds es
+    go : (T : Turn) → ends T ≡ true → MadeTo π (allItems t ds es) (placedFrom t ds 0 0 es) 0 0 0 [] none fresh (atomsTo t ds 0 es) (variablesTo ds 0 es) (atomTo t ds 0 0 [] es) (stackTo t ds 0 0 [] es) (lastTo t ds 0 0 [] none es) (mostAtoms es) T → Stands π t ds es
     go no e m = absurd (false≢true e)
     go (to zero fresh) e m = absurd (false≢true e)
     go (to zero opened) e m = absurd (false≢true e)

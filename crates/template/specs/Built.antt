@@ -8,7 +8,7 @@ use Rattle.reading.specs.Part.{Part}
 use Rattle.chain.specs.declared.Role.{Role}
 use Rattle.chain.specs.declared.Role.the-variants as role
 use Rattle.template.specs.Template.{Element, fixed, tail, slot, chain}
-use Rattle.template.specs.Request.{Placed, place, siteOf, nonempty, fixedPieces, tailPart, atomsOfPieces, atomsAfter, variablesAfter}
+use Rattle.template.specs.Drawn.{Placed, place, siteOf, nonempty, fixedPieces, tailPart, atomsOfPieces, atomsAfter, variablesAfter}
 
 -- the chain of an element, where it has one
 unfoldable pub chainIn : List Chain → Element → Option Chain

@@ -1,4 +1,7 @@
 pub mod Template
-pub mod Request
+pub mod Drawn
+pub mod Written
 pub mod Built
+pub mod Atoms
+pub mod Chains
 pub mod Promise

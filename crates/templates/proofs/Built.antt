@@ -16,8 +16,8 @@ use Rattle.chain.specs.declared.Role.the-variants.{Slot}
 use Rattle.chain.specs.Drawing.{carbons}
 use Rattle.chain.proofs.Atoms.{chainEnd-le, atomsEnd-le}
 use Rattle.template.specs.Template.{Element, fixed, tail, slot, chain}
-use Rattle.template.specs.Request as request
-use Rattle.template.specs.Request.{nonempty, fixedPieces, tailPart, atomsOfPieces, atomsAfter, variablesAfter, itemsOf, allItems, placedFrom}
+use Rattle.template.specs.Drawn as request
+use Rattle.template.specs.Drawn.{nonempty, fixedPieces, tailPart, atomsOfPieces, atomsAfter, variablesAfter, itemsOf, allItems, placedFrom}
 use Rattle.template.specs.Built.{chainIn, labelsAfter, elementAtoms, elementVariables, elementLabels, elementPlaced, atomsFrom, variablesFrom, labelsFrom}
 use Rattle.template.proofs.BuiltLaws.{placed-snoc, atoms-snoc, variables-snoc, labels-snoc, text-snoc}
 use Rattle.builder.specs.declared.Variables.{Variables}

@@ -16,7 +16,7 @@ use Rattle.chain.proofs.Accepted.{Drawable}
 use Rattle.template.specs.declared.Class.{Class}
 use Rattle.template.specs.declared.Class.the-variants.{Fa, Gl1, Gl2, Gl3, Gp, Cl, Sb, Sa}
 use Rattle.template.specs.Template.{fixed, tail, elements, glycerol, roleOf, hasTail}
-use Rattle.template.specs.Request.{chainAt, unlessEmpty, nonempty, fixedPieces, tailPart, atomsOfPieces}
+use Rattle.template.specs.Drawn.{chainAt, unlessEmpty, nonempty, fixedPieces, tailPart, atomsOfPieces}
 use Rattle.template.proofs.Templates.{snsOf}
 use Rattle.template.proofs.Placing.{Accepts, AcceptsFrom, accepts-at}
 use Rattle.templates.specs.Templates.{allSlots, FitsAll}

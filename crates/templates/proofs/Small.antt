@@ -16,7 +16,7 @@ use Rattle.chain.specs.Drawing.{variables}
 use Rattle.chain.proofs.Accepted.{Drawable, unlocated-most}
 use Rattle.chain.proofs.Few.{atoms-most}
 use Rattle.template.specs.Template.{Element, fixed, tail, slot, chain}
-use Rattle.template.specs.Request.{nonempty, fixedPieces, tailPart, atomsOfPieces, atomsAfter, variablesAfter, placedFrom}
+use Rattle.template.specs.Drawn.{nonempty, fixedPieces, tailPart, atomsOfPieces, atomsAfter, variablesAfter, placedFrom}
 use Rattle.template.specs.Built.{chainIn, labelsAfter, elementAtoms, elementVariables, elementLabels, atomsFrom, variablesFrom, labelsFrom}
 use Rattle.template.proofs.Templates.{snsOf}
 use Rattle.template.proofs.Sorted.{length-placed}

@@ -10,7 +10,7 @@ use Rattle.chain.specs.declared.Role.the-variants.{Acyl, Base}
 use Rattle.drawable.specs.Chains.{Chains}
 use Rattle.template.specs.declared.Class.the-variants.{Fa, Gp, Cl, Sb, Sa}
 use Rattle.template.specs.Template.{elements, glycerol, roleOf}
-use Rattle.template.specs.Request.{fixedPieces, atomsOfPieces}
+use Rattle.template.specs.Drawn.{fixedPieces, atomsOfPieces}
 use Rattle.placed.specs.Fragment.{Stood}
 use Rattle.builder.specs.declared.Builder.{Builder}
 use Rattle.builder.specs.Build.{rooms, Fresh, FixedPushed, SlotPushed, BarePushed}

@@ -10,8 +10,8 @@ use Rattle.chain.specs.declared.Role.{Role}
 use Rattle.chain.specs.declared.Role.the-variants.{Slot}
 use Rattle.drawable.specs.Chains.{Chains}
 use Rattle.template.specs.Template.{Element}
-use Rattle.template.specs.Request as request
-use Rattle.template.specs.Request.{allItems, placedFrom, tailPart}
+use Rattle.template.specs.Drawn as request
+use Rattle.template.specs.Drawn.{allItems, placedFrom, tailPart}
 use Rattle.template.specs.Built.{atomsFrom, variablesFrom, labelsFrom}
 use Rattle.placed.specs.Fragment.{Stood, noted, indexList, rowsOf, gathered}
 use Rattle.builder.specs.declared.Builder.{Builder}

@@ -1,3 +1,4 @@
+use Rattle.scan.specs.Ascii.{ascii}
 use Rattle.scan.specs.Part.{sameBytes}
 use Rattle.groups.specs.Groups.{substituentOf, lookupFrom, entries}
 use Rattle.groups.proofs.Laws.{hydroxy-found}
@@ -17,6 +18,7 @@ same-requires : tie.Need-same-requires
 same-requires c κs = search needs
 
 returns : tie.Need-returns
+unfolding ascii
 returns c = search hydroxy-found
 
 returns-2 : tie.Need-returns-2

@@ -1,7 +1,7 @@
--- What a template with its chains draws and writes: the molecule, without any text; the line; the lists. All of it for a class, a swap flag,
--- a tail and the chains of the tokens. 01, Templates and the builder; The line and its reading. Assumes nothing.
-use Prim.Native.Nat.{ℕ, zero, suc, _+_, _-_}
-use mathlib.Core.Bool.{Bool, true, false, cond, _&&_}
+-- What is drawn of a request: a class, a swap flag, a tail and the chains of the tokens make a molecule, without any text. 01, Templates and the
+-- builder; Drawing a chain: "Atoms of the drawn molecule (the molecule of the names) are numbered from 0 as the template stands". Assumes nothing.
+use Prim.Native.Nat.{ℕ, zero, suc, _+_}
+use mathlib.Core.Bool.{Bool, cond, _&&_}
 use mathlib.Core.Option.{Option, none, some}
 use mathlib.Core.List.{List, [], _∷_, _++_, map}
 use lib.ListN.{length}
@@ -9,12 +9,11 @@ use lib.Dec.{eqb, ltb, leb}
 use Rattle.record.specs.Chain.{Chain}
 use Rattle.reading.specs.Ascii.{ascii}
 use Rattle.reading.specs.Row.{Row}
-use Rattle.reading.specs.Piece.{Piece, atom, mark, dot, lpar, rpar, show}
+use Rattle.reading.specs.Piece.{Piece, atom, mark, dot, lpar, rpar}
 use Rattle.reading.specs.Lexer.{piecesOf}
 use Rattle.reading.specs.Part.{Part, partOf}
-use Rattle.reading.specs.Template.{Item, piece, part, chain as drawnChain, templatePieces, drawn}
+use Rattle.reading.specs.Template.{Item, piece, part, chain as drawnChain, drawn}
 use Rattle.reading.specs.Molecule.{At, at, Sum, Molecule, moleculeOf}
-use Rattle.reading.specs.Show.{showLine}
 use Rattle.chain.specs.declared.Role.{Role}
 use Rattle.chain.specs.declared.Role.the-variants as role
 use Rattle.chain.specs.Drawing as draw
@@ -37,7 +36,7 @@ unfoldable pub nonempty : ℕ → List Chain → Option Chain
 unfolding chainAt
 nonempty sn ds = unlessEmpty (chainAt sn ds)
 
--- ---- the template's items
+-- ---- the template's items. Where bytes are no part or no run there would be nothing to draw: that this never happens is promised (Promise.antt).
 
 abbrev pub orNothing : Option (List Piece) → List Piece
 orNothing none = []
@@ -47,7 +46,7 @@ unfoldable pub fixedPieces : List ℕ → List Piece
 unfolding piecesOf
 fixedPieces t = orNothing (piecesOf t)
 
--- the tail, as the reading rules read it
+-- the tail, as the reading rules read it; that they read it whole is promised (Chains.antt, `Whole`)
 unfoldable pub tailPart : List ℕ → Part
 unfolding partOf
 tailPart t = draw.orNone (partOf t)
@@ -157,16 +156,6 @@ unfolding insertBySn
 bySn [] = []
 bySn (p ∷ ps) = insertBySn p (bySn ps)
 
--- "The base's C1 and C2 are atoms 1 and 0, where its indices start"
-abbrev pub headCarbons : Role → List ℕ
-headCarbons role.Slot = []
-headCarbons role.Acyl = []
-headCarbons role.Base = 1 ∷ 0 ∷ []
-
--- the indices of a chain, C1 first
-unfoldable pub indicesOf : Placed → List ℕ
-indicesOf p = headCarbons (p .role) ++ draw.carbonAtoms (p .role) (p .chain) (p .first)
-
 -- the sn sites, each with its sn: at an atom, an sn
 abbrev pub siteNote : Option ℕ → ℕ → List (At ℕ)
 siteNote none sn = []
@@ -180,7 +169,7 @@ snSites (p ∷ ps) = siteNote (p .site) (p .sn) ++ snSites ps
 unfoldable pub labels : Bool → List (At ℕ) → List (At ℕ)
 labels swap ls = cond (swap && ltb 1 (length ls)) ls []
 
--- ---- the molecule, the line, the lists
+-- ---- the molecule
 
 abbrev pub orNoRows : Option (List Row) → List Row
 orNoRows none = []
@@ -196,23 +185,3 @@ unfoldable pub moleculeDrawn : Class → Bool → List ℕ → List Chain → Mo
 unfolding rowsDrawn moleculeOf labels snSites bySn placed allMarks allSites allSums
 moleculeDrawn c swap t ds =
     moleculeOf (rowsDrawn c t ds) (labels swap (snSites (bySn (placed c t ds)))) (allMarks (placed c t ds)) (allSites (placed c t ds)) (allSums (placed c t ds))
-
--- the text, with labels from `%10` on
-unfoldable pub textOf : Class → List ℕ → List Chain → List ℕ
-unfolding show templatePieces allItems elements
-textOf c t ds = show (templatePieces 10 (allItems t ds (elements c)))
-
-unfoldable pub lineOf : Class → Bool → List ℕ → List Chain → List ℕ
-unfolding showLine textOf labels snSites bySn placed allMarks allSites allSums
-lineOf c swap t ds =
-    showLine (textOf c t ds) (labels swap (snSites (bySn (placed c t ds)))) (allMarks (placed c t ds)) (allSites (placed c t ds)) (allSums (placed c t ds))
-
--- the index lists end to end
-unfoldable pub allIndices : List Placed → List ℕ
-unfolding indicesOf
-allIndices [] = []
-allIndices (p ∷ ps) = indicesOf p ++ allIndices ps
-
-unfoldable pub indexOf : Class → List ℕ → List Chain → List ℕ
-unfolding allIndices bySn placed
-indexOf c t ds = allIndices (bySn (placed c t ds))
