@@ -90,7 +90,15 @@ pub record AtomsAre (r : Role) (d : Chain) (n : ChainAtoms) : Type 0 where
   pub floats : n .floats ≡ chainEnd 0 (draw.carbons r d)
   pub end : n .end ≡ atomsEnd r d 0
 
--- every chain that x draws is numbered, and the indices of its drawn carbons are written
+-- x is what is drawn of some chain that can be read, of at most 256 carbons
+pub record DrawsFew (x : Drawn) : Type 0 where
+  pub role : Role
+  pub chain : Chain
+  pub draws : Draws role chain x
+  pub readable : Readable chain
+  pub few : drawnCount role chain ≤ 256
+
+-- every such chain is numbered, and the indices of its drawn carbons are written
 pub record AtomsOf (first : ℕ) (x : Drawn) (xs : List ℕ) (at : ℕ) (ys : List ℕ) (n : ChainAtoms) : Type 0 where
   pub are : (r : Role) (d : Chain) → Draws r d x → Readable d → drawnCount r d ≤ 256 → AtomsAre r d n
   pub written : (r : Role) (d : Chain) → Draws r d x → Readable d → drawnCount r d ≤ 256 → Written xs at (indices first (carbonAtoms r d 0)) ys (n .at)

@@ -14,7 +14,7 @@ ghost use Rattle.drawable.specs.Drawn.{groupsIn, floatsPart, drawnOf, groupsDra
 ghost use Rattle.carbons.specs.Tokens.{tokens, TokensOf};
 ghost use Rattle.ramps.specs.Index.{ups};
 ghost use Rattle.loads.specs.Counts.{Counts};
-ghost use Rattle.atoms.specs.Atoms.{carbonSize, bareSize, bridgedAt, tailCount, Loaded, Roomy, IdleFour, LiteralNumbers, TailNumbers, AtomsOf};
+ghost use Rattle.atoms.specs.Atoms.{carbonSize, bareSize, bridgedAt, tailCount, Loaded, Roomy, IdleFour, LiteralNumbers, TailNumbers, DrawsFew, AtomsOf};
 
 // The O of a bridge.
 fn bridge_atoms(bond: u8) -> u16
@@ -282,6 +282,7 @@ pub fn number_chain<'a>(
     bonds: &'a [u8],
     busy: &'a [u8],
 ) -> ChainAtoms
+    requires { ⌜ DrawsFew (drawnOf x (now part)) ⌝ }
     requires { ⌜ TokensOf (drawnOf x (now part)) (tokens from last (now bonds) (now busy)) ⌝ }
     ensures { λ r. ⌜ AtomsOf first (drawnOf x (now (part .entry))) (now (index .entry)) at (now (index .exit)) r ⌝ }
 {

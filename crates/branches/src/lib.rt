@@ -5,7 +5,7 @@ use groups::KETO;
 use groups::METHYL;
 ghost use mathlib.Core.List.{[], _∷_};
 ghost use Rattle.emit.specs.Text.{Written};
-ghost use Rattle.drawable.specs.Drawn.{groupsIn, drawnOf};
+ghost use Rattle.drawable.specs.Drawn.{groupsIn, drawnOf, DrawsSome};
 ghost use Rattle.branches.specs.Text.{branchText, groupText, sitting, groupsText, floatText, floatsText, carbonylText, rowsIn, RowsPut};
 
 // The branch of a group, from its row of the table.
@@ -104,6 +104,7 @@ fn write_rows(rows: &mut [u8], at: usize, groups: &[u64], count: usize) -> usize
 
 // The rows of the groups without a position. Most chains have none: then their room is not looked for.
 pub fn put_rows(rows: &mut [u8], at: usize, x: Shape, part: &[u64]) -> usize
+    requires { ⌜ DrawsSome (drawnOf x (now part)) ⌝ }
     ensures { λ r. ⌜ RowsPut (drawnOf x (now (part .entry))) (now (rows .entry)) at (now (rows .exit)) r ⌝ }
 {
     if x.float_count == 0 {

@@ -4,7 +4,7 @@ use Prim.Native.Nat.{ℕ, suc, _+_, _≤_, _<_, _^_}
 use native.Mathlib.Omega.{arith}
 use mathlib.Core.Path.{_≡_, refl, sym, ap, _∙_}
 use mathlib.Core.Option.{Option, none, some}
-use mathlib.Core.List.{List, [], _∷_, _++_, append-nil, map}
+use mathlib.Core.List.{List, [], _∷_, _++_, append-nil}
 use lib.ListN.{length, set, length-append}
 use lib.Seq.{take-all, set-out}
 use borrow.Author.Tests.{eq-eqb, ne-eqb}
@@ -27,11 +27,9 @@ use Rattle.shapes.specs.Sn.{ShapeAt}
 use Rattle.shapes.proofs.Sn.{chain-there}
 use Rattle.branches.specs.Text.{rowsIn}
 use Rattle.atoms.proofs.NumberLaws.{atoms-end-shift}
-use Rattle.template.specs.Template.{slot, chain as bare}
 use Rattle.template.specs.Drawn as request
-use Rattle.template.specs.Drawn.{nonempty, siteOf, place, atomsAfter, variablesAfter, chainItem, slotOxygen, itemsOf}
+use Rattle.template.specs.Drawn.{siteOf, atomsAfter, chainItem, slotOxygen}
 use Rattle.template.specs.Written.{indicesOf}
-use Rattle.template.specs.Built.{chainIn, labelsAfter, elementAtoms, elementVariables, elementLabels, elementPlaced}
 use Rattle.builder.specs.declared.Atoms.{Atoms}
 use Rattle.builder.specs.declared.Variables.{Variables}
 use Rattle.builder.specs.declared.Labels.{Labels}
@@ -44,8 +42,8 @@ use Rattle.placed.proofs.Notes.{length-chains}
 use Rattle.strand.specs.declared.Strand.{Strand}
 use Rattle.totals.specs.declared.Figures.{Figures}
 use Rattle.totals.specs.Totals.{FiguresOf}
-use Rattle.strand.specs.Strand.{indexesOf, StrandOf}
-use Rattle.builder.specs.Build.{Rooms, rooms, laidIn, plus, inLabels, variablesFor, placedIn, Counts, Fits, FixedPushed, placedOf, Settled, FitsChain, PushingChain, FragmentPushed, StandsAt, ChainPushed, FitsElement, Pushed, SlotPushed, BarePushed}
+use Rattle.strand.specs.Strand.{indexesOf, Carried, StrandOf}
+use Rattle.builder.specs.Build.{Rooms, rooms, laidIn, plus, inLabels, variablesFor, placedIn, Counts, FixedPushed, placedOf, Settled, FitsChain, PushingAll, PushingChain, FragmentPushed, StandsSome, ChainPushed, InSlot, Bare, SlotFits, BareFits, SlotPushed, BarePushed}
 
 -- ---- counts
 
@@ -92,7 +90,7 @@ module _ {x : Drawn} {sn s m : ℕ} {r : Role} {xs ys : Rooms} {b q : Builder} {
       pushed d k n v l ps es a c fit =
           let here : request.Placed = record { sn = sn; role = r; chain = d; first = n; site = k; variable = v } in
           let same : m ≡ l = omega (arith, em, c .labels, fit .labels) in
-          let z = w .laid d a (omega (arith, em)) in
+          let z = w .laid d a in
           let e = g .are r d (a .draws) in
           let counted : y .count ≡ length (indicesOf (record { sn = sn; role = r; chain = d; first = n; site = k; variable = v }))
           = z .numbers .counted ∙ (rw (c .atoms) (index-count (record { sn = sn; role = r; chain = d; first = n; site = k; variable = v }))) in
@@ -140,7 +138,18 @@ module _ (m : ℕ) (hs ls : List ℕ) (x : Shape) (sn : ℕ) (r : Role) (s : ℕ
       pushed none k n v l ps es a c f = absurd (h a)
       pushed (some d) k n v l ps es a c f = w .pushed d k n v l ps es a c f
 
+  -- where it has some, it is some chain
+  pub chain-carried : {p : List ℕ} → p ≡ partOf sn ls → (x .carbon ≡ 0 → ⊥) → StandsSome r (chainsKept m hs ls) sn → Carried r (drawnOf x p)
+  chain-carried {p} e h w = go (w .chain) (w .stands (drawnOf x p) (chain-there m hs sn x ls at e))
+    where
+      go : (o : Option Chain) → Stands r o (drawnOf x p) → Carried r (drawnOf x p)
+      go none a = absurd (h a)
+      go (some d) a = record { chain = d; carries = a }
+
 -- ---- a slot
+
+pub slot-some : {x : Chains} {sn : ℕ} {ns : List ℕ} {b : Builder} → SlotFits x sn ns b → StandsSome Slot x sn
+slot-some w = record { chain = w .chain; stands = w .fitting .stands }
 
 pub placed-kept : (ns : List ℕ) (p b : Builder) → p .count ≡ b .count → placedIn p ns ≡ placedIn b ns
 unfolding placedIn
@@ -152,18 +161,17 @@ after-le r (some d) m = omega (arith, atoms-end-shift r d m)
 
 pub slot-pushed : {x : Chains} {sn s : ℕ} {xs ys zs is js rs ss ns ms : List ℕ} {b p q : Builder} → length xs < 2 ^ 64 → FixedPushed (ascii "O") 1 xs b ys p
     → s ≡ b .atoms .0 → ChainPushed x sn Slot s (rooms ys is rs ns) p (rooms zs js ss ms) q → SlotPushed x sn (rooms xs is rs ns) b (rooms zs js ss ms) q
-unfolding elementAtoms elementVariables elementLabels elementPlaced chainIn itemsOf slotOxygen templatePieces itemPieces nextLabel show showPiece showLabels ascii
+unfolding slotOxygen templatePieces itemPieces nextLabel show showPiece showLabels ascii
 slot-pushed {x} {sn} {s} {xs} {ys} {zs} {is} {js} {rs} {ss} {ns} {ms} {b} {p} {q} g w es u =
     record { sizes = record { text = u .sizes .text ∙ written-length (w .text); index = u .sizes .index; rows = u .sizes .rows }; pushed = pushed }
   where
-    pushed : (t : List ℕ) (ds : List Chain) → StandsAt Slot (nonempty sn ds) x sn → (n v l : ℕ) (ps : List Placed) → Counts b ns n v l ps
-        → FitsElement t ds (slot sn) n v l ps → Pushed t ds (slot sn) n v l ps (rooms xs is rs ns) b (rooms zs js ss ms) q
-    pushed t ds k n v l ps c f =
-        let up : s ≡ n = es ∙ c .atoms in
-        let one : p .atoms .0 ≡ suc n = omega (arith, w .atoms, c .atoms, f .atoms, after-le Slot (nonempty sn ds) (suc n)) in
-        let here : Counts p ns (suc n) v l ps =
-        record { atoms = one; variables = ap (λ (a : Variables). a .0) (w .variables) ∙ c .variables; labels = ap (λ (a : Labels). a .0) (w .labels) ∙ c .labels; placed = placed-kept ns p b (w .count) ∙ c .placed } in
-        let z = u .pushed (nonempty sn ds) (some n) (suc n) v l ps up k here f in
+    pushed : (o : Option Chain) → InSlot x sn ns b o
+        → PushingAll (slotOxygen ∷ chainItem Slot o) sn Slot (some (b .atoms .0)) o (suc (b .atoms .0)) (b .variables .0) (b .labels .0) (placedIn b ns) (rooms xs is rs ns) b (rooms zs js ss ms) q
+    pushed o f =
+        let one : p .atoms .0 ≡ suc (b .atoms .0) = omega (arith, w .atoms, f .fits .atoms, after-le Slot o (suc (b .atoms .0))) in
+        let here : Counts p ns (suc (b .atoms .0)) (b .variables .0) (b .labels .0) (placedIn b ns) =
+        record { atoms = one; variables = ap (λ (a : Variables). a .0) (w .variables); labels = ap (λ (a : Labels). a .0) (w .labels); placed = placed-kept ns p b (w .count) } in
+        let z = u .pushed o (some (b .atoms .0)) (suc (b .atoms .0)) (b .variables .0) (b .labels .0) (placedIn b ns) es (f .stands) here (f .fits) in
         record {
           text = written-append g (w .text) (z .text);
           index = rw (← w .used .is) (z .index);
@@ -178,10 +186,16 @@ site-first Slot n = refl
 site-first Acyl n = refl
 site-first Base n = refl
 
+pub bare-some : {x : Chains} {sn : ℕ} {r : Role} {ns : List ℕ} {b : Builder} → BareFits x sn r ns b → StandsSome r x sn
+bare-some w = record { chain = w .chain; stands = w .fitting .stands }
+
 pub bare-pushed : {x : Chains} {sn s : ℕ} {r : Role} {xs ys : Rooms} {b q : Builder} → s ≡ b .atoms .0 → ChainPushed x sn r s xs b ys q → BarePushed x sn r xs b ys q
-unfolding elementAtoms elementVariables elementLabels elementPlaced chainIn itemsOf
 bare-pushed {x} {sn} {s} {r} {xs} {ys} {b} {q} es u = record { sizes = u .sizes; pushed = pushed }
   where
-    pushed : (t : List ℕ) (ds : List Chain) → StandsAt r (nonempty sn ds) x sn → (n v l : ℕ) (ps : List Placed) → Counts b (xs .notes) n v l ps
-        → FitsElement t ds (bare sn r) n v l ps → Pushed t ds (bare sn r) n v l ps xs b ys q
-    pushed t ds k n v l ps c f = u .pushed (nonempty sn ds) (siteOf r n) n v l ps (es ∙ (c .atoms ∙ sym (site-first r n))) k c f
+    here : Counts b (xs .notes) (b .atoms .0) (b .variables .0) (b .labels .0) (placedIn b (xs .notes))
+    here = record { atoms = refl; variables = refl; labels = refl; placed = refl }
+
+    pushed : (o : Option Chain) → Bare x sn r (xs .notes) b o
+        → PushingAll (chainItem r o) sn r (siteOf r (b .atoms .0)) o (b .atoms .0) (b .variables .0) (b .labels .0) (placedIn b (xs .notes)) xs b ys q
+    pushed o f =
+        u .pushed o (siteOf r (b .atoms .0)) (b .atoms .0) (b .variables .0) (b .labels .0) (placedIn b (xs .notes)) (es ∙ sym (site-first r (b .atoms .0))) (f .stands) here (f .fits)

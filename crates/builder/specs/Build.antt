@@ -15,10 +15,9 @@ use Rattle.chain.specs.declared.Role.the-variants.{Slot}
 use Rattle.drawable.specs.Drawn.{Drawn}
 use Rattle.drawable.specs.Chains.{Chains}
 use Rattle.shapes.specs.Sn.{ChainAt}
-use Rattle.template.specs.Template.{Element, slot, chain}
 use Rattle.template.specs.Drawn as request
-use Rattle.template.specs.Drawn.{nonempty, place, atomsAfter, variablesAfter, chainItem, itemsOf}
-use Rattle.template.specs.Built.{labelsAfter, elementAtoms, elementVariables, elementLabels, elementPlaced}
+use Rattle.template.specs.Drawn.{siteOf, place, atomsAfter, variablesAfter, slotOxygen, chainItem}
+use Rattle.template.specs.Built.{labelsAfter}
 use Rattle.placed.specs.declared.Placed.{Placed}
 use Rattle.placed.specs.Notes.{chainsIn}
 use Rattle.placed.specs.Fragment.{Carries, Stands, siteOr, noted, indexList, rowsOf, gathered}
@@ -137,9 +136,13 @@ pub record Settled (p : Placed) (x : Strand) (f : Figures) (ns : List ℕ) (b : 
 abbrev pub FitsChain : ℕ → Role → Option ℕ → Option Chain → ℕ → ℕ → ℕ → List Placed → Type 0
 FitsChain sn r k o n v l ps = Fits (atomsAfter r n o) (variablesAfter v o) (labelsAfter l o) (ps ++ map noted (place sn r k n v o))
 
+-- items are written, and such a chain is the one that is pushed with them
+abbrev pub PushingAll : List Item → ℕ → Role → Option ℕ → Option Chain → ℕ → ℕ → ℕ → List Placed → Rooms → Builder → Rooms → Builder → Type 0
+PushingAll is sn r k o n v l ps xs b ys q =
+    Pushing is l (place sn r k n v o) xs b ys q (atomsAfter r n o) (variablesAfter v o) (labelsAfter l o) (ps ++ map noted (place sn r k n v o))
+
 abbrev pub PushingChain : ℕ → Role → Option ℕ → Option Chain → ℕ → ℕ → ℕ → List Placed → Rooms → Builder → Rooms → Builder → Type 0
-PushingChain sn r k o n v l ps xs b ys q =
-    Pushing (chainItem r o) l (place sn r k n v o) xs b ys q (atomsAfter r n o) (variablesAfter v o) (labelsAfter l o) (ps ++ map noted (place sn r k n v o))
+PushingChain sn r k o n v l ps xs b ys q = PushingAll (chainItem r o) sn r k o n v l ps xs b ys q
 
 -- a chain that has carbons
 pub record FragmentPushed (x : Drawn) (sn : ℕ) (r : Role) (s : ℕ) (xs : Rooms) (b : Builder) (ys : Rooms) (q : Builder) : Type 0 where
@@ -151,28 +154,48 @@ pub record FragmentPushed (x : Drawn) (sn : ℕ) (r : Role) (s : ℕ) (xs : Room
 abbrev pub StandsAt : Role → Option Chain → Chains → ℕ → Type 0
 StandsAt r o x sn = (f : Drawn) → ChainAt x sn f → Stands r o f
 
+-- it is some chain, or none
+pub record StandsSome (r : Role) (x : Chains) (sn : ℕ) : Type 0 where
+  pub chain : Option Chain
+  pub stands : StandsAt r chain x sn
+
 -- the chain of an sn of the request, or none
 pub record ChainPushed (x : Chains) (sn : ℕ) (r : Role) (s : ℕ) (xs : Rooms) (b : Builder) (ys : Rooms) (q : Builder) : Type 0 where
   pub sizes : Sizes xs ys
   pub pushed : (o : Option Chain) (k : Option ℕ) (n v l : ℕ) (ps : List Placed) → s ≡ siteOr n k → StandsAt r o x sn → Counts b (xs .notes) n v l ps
       → FitsChain sn r k o n v l ps → PushingChain sn r k o n v l ps xs b ys q
 
--- ---- an element of a template
+-- ---- a slot, and a chain that stands without an O
 
-abbrev pub FitsElement : List ℕ → List Chain → Element → ℕ → ℕ → ℕ → List Placed → Type 0
-FitsElement t ds e n v l ps =
-    Fits (elementAtoms t ds n e) (elementVariables ds v e) (elementLabels ds l e) (ps ++ map noted (elementPlaced ds n v e))
+-- the chain o of an sn, or none, stands there as r; with n atoms before its first carbon and the site k, what it adds to the builder can be kept
+pub record Fitting (x : Chains) (sn : ℕ) (r : Role) (k : Option ℕ) (n : ℕ) (ns : List ℕ) (b : Builder) (o : Option Chain) : Type 0 where
+  pub stands : StandsAt r o x sn
+  pub fits : FitsChain sn r k o n (b .variables .0) (b .labels .0) (placedIn b ns)
 
-abbrev pub Pushed : List ℕ → List Chain → Element → ℕ → ℕ → ℕ → List Placed → Rooms → Builder → Rooms → Builder → Type 0
-Pushed t ds e n v l ps xs b ys q =
-    Pushing (itemsOf t ds e) l (elementPlaced ds n v e) xs b ys q (elementAtoms t ds n e) (elementVariables ds v e) (elementLabels ds l e) (ps ++ map noted (elementPlaced ds n v e))
+-- in a slot, whose O is its site
+abbrev pub InSlot : Chains → ℕ → List ℕ → Builder → Option Chain → Type 0
+InSlot x sn ns b o = Fitting x sn Slot (some (b .atoms .0)) (suc (b .atoms .0)) ns b o
 
+-- without an O
+abbrev pub Bare : Chains → ℕ → Role → List ℕ → Builder → Option Chain → Type 0
+Bare x sn r ns b o = Fitting x sn r (siteOf r (b .atoms .0)) (b .atoms .0) ns b o
+
+-- the request has such a chain for a slot, or none
+pub record SlotFits (x : Chains) (sn : ℕ) (ns : List ℕ) (b : Builder) : Type 0 where
+  pub chain : Option Chain
+  pub fitting : InSlot x sn ns b chain
+
+pub record BareFits (x : Chains) (sn : ℕ) (r : Role) (ns : List ℕ) (b : Builder) : Type 0 where
+  pub chain : Option Chain
+  pub fitting : Bare x sn r ns b chain
+
+-- the O of a slot and every chain that stands there
 pub record SlotPushed (x : Chains) (sn : ℕ) (xs : Rooms) (b : Builder) (ys : Rooms) (q : Builder) : Type 0 where
   pub sizes : Sizes xs ys
-  pub pushed : (t : List ℕ) (ds : List Chain) → StandsAt Slot (nonempty sn ds) x sn → (n v l : ℕ) (ps : List Placed) → Counts b (xs .notes) n v l ps
-      → FitsElement t ds (slot sn) n v l ps → Pushed t ds (slot sn) n v l ps xs b ys q
+  pub pushed : (o : Option Chain) → InSlot x sn (xs .notes) b o
+      → PushingAll (slotOxygen ∷ chainItem Slot o) sn Slot (some (b .atoms .0)) o (suc (b .atoms .0)) (b .variables .0) (b .labels .0) (placedIn b (xs .notes)) xs b ys q
 
 pub record BarePushed (x : Chains) (sn : ℕ) (r : Role) (xs : Rooms) (b : Builder) (ys : Rooms) (q : Builder) : Type 0 where
   pub sizes : Sizes xs ys
-  pub pushed : (t : List ℕ) (ds : List Chain) → StandsAt r (nonempty sn ds) x sn → (n v l : ℕ) (ps : List Placed) → Counts b (xs .notes) n v l ps
-      → FitsElement t ds (chain sn r) n v l ps → Pushed t ds (chain sn r) n v l ps xs b ys q
+  pub pushed : (o : Option Chain) → Bare x sn r (xs .notes) b o
+      → PushingAll (chainItem r o) sn r (siteOf r (b .atoms .0)) o (b .atoms .0) (b .variables .0) (b .labels .0) (placedIn b (xs .notes)) xs b ys q

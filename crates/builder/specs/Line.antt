@@ -25,20 +25,14 @@ pub record Few (s : Sites) : Type 0 where
   pub count : s .count ≤ 4
   pub digits : Digits (sitesIn s)
 
--- n of them can be written: all, if they are such
-pub record Writable (s : Sites) (n : ℕ) : Type 0 where
-  pub few : n ≤ 4
-  pub digits : Digits (take n (s .items))
-  pub all : Few s → n ≡ s .count
-
 -- what follows the text of these chains, whose indices and rows stand end to end
 unfoldable pub notesAfter : Bool → List Site → List Placed → List ℕ → List ℕ → List ℕ
 unfolding notesText labels labelsOf marksIn siteListsIn sumsIn
 notesAfter swap ss ps numbers rows = notesText (labels swap (labelsOf ss)) (marksIn ps) (siteListsIn ps numbers rows) (sumsIn ps)
 
--- it is written at the builder's place, where the sites are such, and all else stands as it stood
+-- it is written at the builder's place, and all else stands as it stood
 pub record Finished (swap : Bool) (s : Sites) (numbers rows notes : List ℕ) (xs : List ℕ) (b : Builder) (ys : List ℕ) (q : Builder) : Type 0 where
   pub size : length ys ≡ length xs
-  pub text : Few s → Written xs (b .at) (notesAfter swap (sitesIn s) (placedIn b notes) numbers rows) ys (q .at)
+  pub text : Written xs (b .at) (notesAfter swap (sitesIn s) (placedIn b notes) numbers rows) ys (q .at)
   pub used : q .used ≡ b .used
   pub count : q .count ≡ b .count

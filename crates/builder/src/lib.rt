@@ -16,8 +16,9 @@ use totals::Figures;
 ghost use mathlib.Core.Path.{_≡_};
 ghost use Rattle.drawable.specs.Drawn.{drawnOf};
 ghost use Rattle.shapes.specs.Shapes.{chainsKept};
-ghost use Rattle.builder.specs.Build.{rooms, plus, inLabels, variablesFor, Fresh, FixedPushed, FragmentPushed, placedOf, Settled, ChainPushed, SlotPushed, BarePushed};
-ghost use Rattle.builder.specs.Line.{Writable, Finished};
+ghost use Rattle.strand.specs.Strand.{Carried};
+ghost use Rattle.builder.specs.Build.{rooms, plus, inLabels, variablesFor, Fresh, FixedPushed, FragmentPushed, placedOf, Settled, StandsSome, ChainPushed, SlotFits, SlotPushed, BareFits, BarePushed};
+ghost use Rattle.builder.specs.Line.{Few, Finished};
 
 // The first ring label of a line is `%10`.
 pub const FIRST_LABEL: u32 = 10;
@@ -94,23 +95,6 @@ fn in_labels(label: u32) -> u8
         return label as u8;
     }
     247
-}
-
-// How many of some sites can be written: four at most, each with an sn of one digit.
-fn writable(sites: Sites) -> usize
-    ensures { λ r. ⌜ Writable sites r ⌝ }
-{
-    let n = placed::in_places(sites.count);
-    let items = sites.items;
-    let mut i = 0;
-    while i < n {
-        let site = items[i];
-        if 9 < site.sn {
-            return i;
-        }
-        i += 1;
-    }
-    n
 }
 
 impl Builder {
@@ -205,6 +189,7 @@ impl Builder {
         role: Role,
         site: u32,
     ) -> Builder
+        requires { ⌜ Carried role (drawnOf x (now part)) ⌝ }
         ensures { λ r. ⌜ FragmentPushed (drawnOf x (now (part .entry))) sn role site (rooms (now (out .entry)) (now (index .entry)) (now (rows .entry)) (now (notes .entry))) self (rooms (now (out .exit)) (now (index .exit)) (now (rows .exit)) (now (notes .exit))) r ⌝ }
     {
         let a = self.atoms;
@@ -243,6 +228,7 @@ impl Builder {
         role: Role,
         site: u32,
     ) -> Builder
+        requires { ⌜ StandsSome role (chainsKept count (now shapes) (now lists)) sn ⌝ }
         ensures { λ r. ⌜ ChainPushed (chainsKept count (now (shapes .entry)) (now (lists .entry))) sn role site (rooms (now (out .entry)) (now (index .entry)) (now (rows .entry)) (now (notes .entry))) self (rooms (now (out .exit)) (now (index .exit)) (now (rows .exit)) (now (notes .exit))) r ⌝ }
     {
         let x = shape_at(count, shapes, sn);
@@ -275,6 +261,7 @@ impl Builder {
         lists: &[u64],
         sn: u8,
     ) -> Builder
+        requires { ⌜ SlotFits (chainsKept count (now shapes) (now lists)) sn (now notes) self ⌝ }
         ensures { λ r. ⌜ SlotPushed (chainsKept count (now (shapes .entry)) (now (lists .entry))) sn (rooms (now (out .entry)) (now (index .entry)) (now (rows .entry)) (now (notes .entry))) self (rooms (now (out .exit)) (now (index .exit)) (now (rows .exit)) (now (notes .exit))) r ⌝ }
     {
         let a = self.atoms;
@@ -307,6 +294,7 @@ impl Builder {
         sn: u8,
         role: Role,
     ) -> Builder
+        requires { ⌜ BareFits (chainsKept count (now shapes) (now lists)) sn role (now notes) self ⌝ }
         ensures { λ r. ⌜ BarePushed (chainsKept count (now (shapes .entry)) (now (lists .entry))) sn role (rooms (now (out .entry)) (now (index .entry)) (now (rows .entry)) (now (notes .entry))) self (rooms (now (out .exit)) (now (index .exit)) (now (rows .exit)) (now (notes .exit))) r ⌝ }
     {
         let a = self.atoms;
@@ -324,16 +312,16 @@ impl Builder {
         rows: &[u8],
         notes: &[u32; NOTE_ROOM],
     ) -> Builder
+        requires { ⌜ Few sites ⌝ }
         ensures { λ r. ⌜ Finished swap sites (now (index .entry)) (now (rows .entry)) (now (notes .entry)) (now (out .entry)) self (now (out .exit)) r ⌝ }
     {
         let items = sites.items;
-        let sited = writable(sites);
         let at = blocks::put_notes(
             out,
             self.at,
             swap,
             items,
-            sited,
+            sites.count,
             index,
             rows,
             notes,

@@ -9,7 +9,7 @@ ghost use mathlib.Core.List.{[]};
 ghost use Prim.Native.Nat.{ℕ, _+_, _≤_, _<_, min, max};
 ghost use lib.ListN.{length, getD, set, replicate};
 ghost use Rattle.chain.specs.Bonds.{openMark, closeMark, markBond, closeByte, markFrom, bridged, double};
-ghost use Rattle.drawable.specs.Drawn.{bondsIn, groupsIn, ringsIn, drawnOf, bondsDrawn, ringsDrawn};
+ghost use Rattle.drawable.specs.Drawn.{bondsIn, groupsIn, ringsIn, drawnOf, bondsDrawn, ringsDrawn, DrawsSome};
 ghost use Rattle.carbons.specs.ByCarbon.{geometryByte, geometryOf, doubleAt, bridgeAt, ringOn, carbonylOn, risesFrom, RowAtoms, SetWhere, Added, Geometries, Marks, Noughts, DoublesPut, PlainBonds, BondsBy, Busy};
 ghost use Rattle.carbons.specs.Tokens.{tokens, TokensOf};
 
@@ -433,6 +433,8 @@ pub struct Span {
 
 // What is known of each carbon, into two arrays of noughts that go to the last one: the bond after it, and its atoms if it carries anything.
 pub fn chain_tokens(x: Shape, part: &[u64], bonds: &mut [u8], busy: &mut [u8]) -> Span
+    requires { ⌜ DrawsSome (drawnOf x (now part)) ⌝ }
+    requires { ⌜ x .carbon ≤ 255 ⌝ }
     requires { ⌜ Noughts (now bonds) × (min (x .carbon) 255 < length (now bonds)) ⌝ }
     requires { ⌜ Noughts (now busy) × (min (x .carbon) 255 < length (now busy)) ⌝ }
     ensures { λ r. ⌜ TokensOf (drawnOf x (now (part .entry))) (tokens (r .first) (r .last) (now (bonds .exit)) (now (busy .exit))) ⌝ }

@@ -9,7 +9,7 @@ ghost use Prim.Native.Nat.{_+_};
 ghost use lib.ListN.{drop};
 ghost use Rattle.chain.specs.Lists.{anyOf, anyTwo};
 ghost use Rattle.chain.specs.Refusals.{sameBond, epoxideOn, smallRing, sameRing, clashes};
-ghost use Rattle.drawable.specs.Drawn.{bondsIn, ringsIn, drawnOf, Says};
+ghost use Rattle.drawable.specs.Drawn.{bondsIn, ringsIn, drawnOf, Says, DrawsSome};
 ghost use Rattle.clash.specs.Places.{bondAt};
 
 // Whether a double bond stands at p.
@@ -157,6 +157,7 @@ fn repeated_ring(rings: &[u64], count: usize) -> bool
 
 // 33: whether two features clash.
 pub fn clash(x: Shape, part: &[u64]) -> bool
+    requires { ⌜ DrawsSome (drawnOf x (now part)) ⌝ }
     ensures { λ r. ⌜ Says (drawnOf x (now (part .entry))) r clashes ⌝ }
 {
     let bonds = drawable::bonds_part(part);

@@ -1,25 +1,27 @@
--- A class code as it was read. Assumes nothing.
+-- The eight class codes. 01, Accepted, or refused by whom: "20 class unknown (added)". Assumes nothing.
 use Prim.Native.Nat.{ℕ}
 use mathlib.Core.Bool.{cond}
-use mathlib.Core.Option.{Option, none, some}
 use mathlib.Core.List.{List}
 use Rattle.scan.specs.Part.{sameBytes}
 use Rattle.reading.specs.Ascii.{ascii}
-use Rattle.template.specs.declared.Class.{Class}
-use Rattle.template.specs.declared.Class.the-variants.{Gp, Cl, Sb, Sa}
+use Rattle.template.specs.declared.Class.the-variants.{Fa, Gl1, Gl2, Gl3, Gp, Cl, Sb, Sa}
 use Rattle.class.specs.declared.Code.{Code}
 use Rattle.class.specs.declared.Code.the-variants.{Known, Unknown}
 
--- what a code says: a class, or none
-abbrev pub read : Code → Option Class
-read (Known c) = some c
-read Unknown = none
-
 -- the class with a code of a phospholipid or a sphingolipid: the later half of `classOf`
-unfoldable pub laterClass : List ℕ → Option Class
+unfoldable pub laterClass : List ℕ → Code
 unfolding sameBytes ascii
 laterClass s =
-    cond (sameBytes s (ascii "GP")) (some Gp)
-    (cond (sameBytes s (ascii "CL")) (some Cl)
-    (cond (sameBytes s (ascii "SB")) (some Sb)
-    (cond (sameBytes s (ascii "SA")) (some Sa) none)))
+    cond (sameBytes s (ascii "GP")) (Known Gp)
+    (cond (sameBytes s (ascii "CL")) (Known Cl)
+    (cond (sameBytes s (ascii "SB")) (Known Sb)
+    (cond (sameBytes s (ascii "SA")) (Known Sa) Unknown)))
+
+-- the class with a code; any other bytes are `Unknown`, which is 20 (`judgeClass` of the judge)
+unfoldable pub classOf : List ℕ → Code
+unfolding sameBytes ascii
+classOf s =
+    cond (sameBytes s (ascii "FA")) (Known Fa)
+    (cond (sameBytes s (ascii "GL1")) (Known Gl1)
+    (cond (sameBytes s (ascii "GL2")) (Known Gl2)
+    (cond (sameBytes s (ascii "GL3")) (Known Gl3) (laterClass s))))

@@ -2,14 +2,13 @@
 // What each class is, is said by the templates: crates/template/specs/Template.antt.
 use template::Class;
 ghost use mathlib.Core.Path.{_≡_};
-ghost use Rattle.template.specs.Template.{classOf};
-ghost use Rattle.class.specs.Class.{read, laterClass};
+ghost use Rattle.class.specs.Class.{laterClass, classOf};
 pub use role::role_of;
 pub use row::fewest;
 pub use row::has_tail;
 pub use row::most;
 
-// A class code as it was read.
+// What a class code says: one of the eight classes, or none of them.
 pub enum Code {
     Known(Class),
     Unknown,
@@ -17,7 +16,7 @@ pub enum Code {
 
 // The class with a code.
 pub fn class_of(s: &[u8]) -> Code
-    ensures { λ r. ⌜ read r ≡ classOf (now (s .entry)) ⌝ }
+    ensures { λ r. ⌜ r ≡ classOf (now (s .entry)) ⌝ }
 {
     if scan::same(s, b"FA") {
         return Code::Known(Class::Fa);
@@ -36,7 +35,7 @@ pub fn class_of(s: &[u8]) -> Code
 
 // The class with a code of a phospholipid or a sphingolipid.
 fn later_class(s: &[u8]) -> Code
-    ensures { λ r. ⌜ read r ≡ laterClass (now (s .entry)) ⌝ }
+    ensures { λ r. ⌜ r ≡ laterClass (now (s .entry)) ⌝ }
 {
     if scan::same(s, b"GP") {
         return Code::Known(Class::Gp);

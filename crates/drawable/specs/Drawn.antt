@@ -105,6 +105,12 @@ pub record Draws (r : Role) (d : Chain) (x : Drawn) : Type 0 where
   pub floats : floatsDrawn x ≡ floating d
   pub rings : ringsDrawn x ≡ d .rings
 
+-- x is what is drawn of some chain
+pub record DrawsSome (x : Drawn) : Type 0 where
+  pub role : Role
+  pub chain : Chain
+  pub draws : Draws role chain x
+
 -- a is what f says of every chain that x draws
 pub record Says {A : Type 0} (x : Drawn) (a : A) (f : Role → Chain → A) : Type 0 where
   pub is : (r : Role) (d : Chain) → Draws r d x → a ≡ f r d

@@ -22,17 +22,25 @@ use Rattle.chain.proofs.Lists.{all-each}
 use Rattle.listing.specs.Lists.{listsAt, ListsHeld}
 use Rattle.indices.specs.Index.{indicesAt}
 use Rattle.lines.specs.declared.Line.{Line}
-use Rattle.lines.specs.Line.{Roomy, LineIs, LineBuilt}
+use Rattle.lines.specs.Line.{Writes, Writable, LineIs, LineBuilt}
 use Rattle.longest.specs.Covered.{Slight}
 use Rattle.longest.proofs.Stood.{slight-placed}
 use Rattle.answer.specs.declared.Answer.{Answer}
 use Rattle.answer.specs.Answer.{refusal}
-use Rattle.room.specs.Ready.{Ready, ShortIs}
+use Rattle.room.specs.Ready.{Ready, Readied, ShortIs}
 use Rattle.room.proofs.Index.{index-length, index-alone}
 use Rattle.room.proofs.Laws.{index-room}
 use Rattle.drawing.specs.Built.{Built}
 use Rattle.drawing.specs.Draw.{ChainsDrawn, IndexRoom}
 use Rattle.drawing.proofs.Answered.{short-answer, answered, indices-written}
+
+-- the indices have room of their own, and then all can be written
+module _ {c : Class} {t : List ℕ} {k : ℕ} {x : Chains} {vs ns rs os : List ℕ} (n : IndexRoom c t k x (length ns)) (m : length rs ≡ 64) where
+  some-writes : (ds : List Chain) → Ready c t k x ds → Writes c t k x (rooms vs ns rs os) ds
+  some-writes ds w = record { own = w .own; told = w .told; room = record { index = n .room ds w; rows = omega (arith, m, w .rows, w .tokens) } }
+
+  pub some-writable : Readied c t k x → Writable c t k x (rooms vs ns rs os)
+  some-writable w = record { chains = w .chains; writes = some-writes (w .chains) (w .ready) }
 
 module _ {c : Class} {swap : Bool} {t : List ℕ} {k : ℕ} {x : Chains} where
   pub short-drawn : {xs is : List ℕ} {b : Bool} {a : Answer} → ShortIs c swap t k x (length xs) (length is) b → b ≡ true → a ≡ refusal 41 0 → ChainsDrawn c swap t k x xs is xs is a
@@ -41,11 +49,17 @@ module _ {c : Class} {swap : Bool} {t : List ℕ} {k : ℕ} {x : Chains} where
   pub long-slices : {n m : ℕ} {b : Bool} → ShortIs c swap t k x n m b → b ≡ false → ShortIs c swap t k x n m false
   long-slices h e = rw e at h
 
-  module _ {vs zs ns js rs ss os ps : List ℕ} {r : Line} where
-    line-is : LineBuilt c swap t k x (rooms vs ns rs os) (rooms zs js ss ps) r → (ds : List Chain) → Ready c t k x ds → Roomy (placed c t ds) (rooms vs ns rs os)
-        → LineIs c swap t ds (rooms vs ns rs os) (rooms zs js ss ps) r
-    line-is h ds w m = h .line ds (w .tail) (w .stood) (w .fits) (w .told) m
+  -- those of one chain are built in their slice, which is long enough
+  module _ {vs ns rs os : List ℕ} (e : x .count ≡ 1) (m : length rs ≡ 16) (f : ShortIs c swap t k x (length vs) (length ns) false) where
+    one-writes : (ds : List Chain) → Ready c t k x ds → Writes c t k x (rooms vs ns rs os) ds
+    one-writes ds w =
+        let long : length (indexOf c t ds) ≤ length ns = index-room c swap t ds (length vs) (length ns) (sym (f .is ds w)) in
+        record { own = w .own; told = w .told; room = record { index = omega (arith, long, index-length c t ds); rows = omega (arith, e, m, w .rows) } }
 
+    pub one-writable : Readied c t k x → Writable c t k x (rooms vs ns rs os)
+    one-writable w = record { chains = w .chains; writes = one-writes (w .chains) (w .ready) }
+
+  module _ {vs zs ns js rs ss os ps : List ℕ} {r : Line} where
     built : LineBuilt c swap t k x (rooms vs ns rs os) (rooms zs js ss ps) r → (ds : List Chain) → LineIs c swap t ds (rooms vs ns rs os) (rooms zs js ss ps) r
         → Built c swap t ds vs zs (r .at) (r .count) (chainsIn ps) (r .order) (r .sites) js (r .used)
     built h ds i = record { text = i .text; places = i .chains; order = h .order; sites = h .sites; index = i .index }
@@ -58,7 +72,7 @@ module _ {c : Class} {swap : Bool} {t : List ℕ} {k : ℕ} {x : Chains} where
     drawn-some ls h n m u f g p =
         record {
           drawn = λ ds w.
-              let b = built h ds (line-is h ds w (record { index = n .room ds w; rows = omega (arith, m, w .rows, w .tokens) })) in
+              let b = built h ds (h .line ds (some-writes n m ds w)) in
               answered b ls u (sym (f .is ds w)) g (indices-written b p) (b .text .elements);
         }
 
@@ -69,8 +83,7 @@ module _ {c : Class} {swap : Bool} {t : List ℕ} {k : ℕ} {x : Chains} where
     drawn-one ls e h m u f g =
         record {
           drawn = λ ds w.
-              let long : length (indexOf c t ds) ≤ length ns = index-room c swap t ds (length vs) (length ns) (sym (f .is ds w)) in
-              let i = line-is h ds w (record { index = omega (arith, long, index-length c t ds); rows = omega (arith, e, m, w .rows) }) in
+              let i = h .line ds (one-writes e m f ds w) in
               let same : indexOf c t ds ≡ gathered indicesOf (placed c t ds) = index-alone c t ds (omega (arith, e, w .few)) in
               answered (built h ds i) ls u (sym (f .is ds w)) g (rw same (i .indices .elements)) (i .text .elements);
         }
@@ -82,4 +95,4 @@ long-room = record { room = λ ds w. omega (arith, w .index, w .tokens) }
 -- room for four chains of which none is long
 pub slight-room : {c : Class} {t : List ℕ} {k count : ℕ} {ns : List ℕ} (l : List ℕ) → Slight 30 count ns → IndexRoom c t k (chainsKept count ns l) 128
 slight-room {c} {t} {k} {count} {ns} l h =
-    record { room = λ ds w. omega (arith, w .lists 30 (all-each (λ p. p .chain .carbon ≤ 30) (placed c t ds) (slight-placed 30 c t ds count ns l (w .stood) h)), w .tokens) }
+    record { room = λ ds w. omega (arith, w .lists 30 (all-each (λ p. p .chain .carbon ≤ 30) (placed c t ds) (slight-placed 30 c t ds count ns l (w .own .stood) h)), w .tokens) }

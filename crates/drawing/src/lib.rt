@@ -13,7 +13,7 @@ ghost use mathlib.Core.Bool.{false};
 ghost use lib.ListN.{length};
 ghost use Rattle.shapes.specs.Shapes.{chainsKept};
 ghost use Rattle.longest.specs.Covered.{Slight};
-ghost use Rattle.room.specs.Ready.{ShortIs};
+ghost use Rattle.room.specs.Ready.{Readied, ShortIs};
 ghost use Rattle.drawing.specs.Draw.{ChainsDrawn, IndexRoom};
 
 // A slice is shorter than needed.
@@ -38,6 +38,7 @@ fn draw_one(
     shapes: &[u64; SHAPE_ROOM],
     lists: &[u64],
 ) -> Answer
+    requires { ⌜ Readied class (now tail) «tail_atoms» (chainsKept count (now shapes) (now lists)) ⌝ }
     requires { ⌜ count ≡ 1 ⌝ }
     requires { ⌜ ShortIs class swap (now tail) «tail_atoms» (chainsKept count (now shapes) (now lists)) (length (now line)) (length (now index)) false ⌝ }
     ensures { λ r. ⌜ ChainsDrawn class swap (now (tail .entry)) «tail_atoms» (chainsKept count (now (shapes .entry)) (now (lists .entry))) (now (line .entry)) (now (index .entry)) (now (line .exit)) (now (index .exit)) r ⌝ }
@@ -83,6 +84,7 @@ fn draw_some(
     tail_atoms: u16,
     lists: &[u64],
 ) -> Answer
+    requires { ⌜ Readied class (now tail) «tail_atoms» (chainsKept count (now shapes) (now lists)) ⌝ }
     requires { ⌜ IndexRoom class (now tail) «tail_atoms» (chainsKept count (now shapes) (now lists)) (length (now numbers)) ⌝ }
     requires { ⌜ ShortIs class swap (now tail) «tail_atoms» (chainsKept count (now shapes) (now lists)) (length (now line)) (length (now index)) false ⌝ }
     ensures { λ r. ⌜ ChainsDrawn class swap (now (tail .entry)) «tail_atoms» (chainsKept count (now (shapes .entry)) (now (lists .entry))) (now (line .entry)) (now (index .entry)) (now (line .exit)) (now (index .exit)) r ⌝ }
@@ -127,6 +129,7 @@ fn draw_slight(
     shapes: &[u64; SHAPE_ROOM],
     lists: &[u64],
 ) -> Answer
+    requires { ⌜ Readied class (now tail) «tail_atoms» (chainsKept count (now shapes) (now lists)) ⌝ }
     requires { ⌜ Slight 30 count (now shapes) ⌝ }
     requires { ⌜ ShortIs class swap (now tail) «tail_atoms» (chainsKept count (now shapes) (now lists)) (length (now line)) (length (now index)) false ⌝ }
     ensures { λ r. ⌜ ChainsDrawn class swap (now (tail .entry)) «tail_atoms» (chainsKept count (now (shapes .entry)) (now (lists .entry))) (now (line .entry)) (now (index .entry)) (now (line .exit)) (now (index .exit)) r ⌝ }
@@ -158,6 +161,7 @@ fn draw_long(
     shapes: &[u64; SHAPE_ROOM],
     lists: &[u64],
 ) -> Answer
+    requires { ⌜ Readied class (now tail) «tail_atoms» (chainsKept count (now shapes) (now lists)) ⌝ }
     requires { ⌜ ShortIs class swap (now tail) «tail_atoms» (chainsKept count (now shapes) (now lists)) (length (now line)) (length (now index)) false ⌝ }
     ensures { λ r. ⌜ ChainsDrawn class swap (now (tail .entry)) «tail_atoms» (chainsKept count (now (shapes .entry)) (now (lists .entry))) (now (line .entry)) (now (index .entry)) (now (line .exit)) (now (index .exit)) r ⌝ }
 {
@@ -176,7 +180,7 @@ fn draw_long(
     )
 }
 
-// A request that was judged, drawn. Nothing is written where a slice is too short.
+// A request that was judged, drawn: the arrays hold what was made of its tokens. Nothing is written where a slice is too short.
 pub fn draw_chains(
     line: &mut [u8],
     index: &mut [u16],
@@ -188,6 +192,7 @@ pub fn draw_chains(
     shapes: &[u64; SHAPE_ROOM],
     lists: &[u64],
 ) -> Answer
+    requires { ⌜ Readied class (now tail) «tail_atoms» (chainsKept count (now shapes) (now lists)) ⌝ }
     ensures { λ r. ⌜ ChainsDrawn class swap (now (tail .entry)) «tail_atoms» (chainsKept count (now (shapes .entry)) (now (lists .entry))) (now (line .entry)) (now (index .entry)) (now (line .exit)) (now (index .exit)) r ⌝ }
 {
     let short = room::is_short(

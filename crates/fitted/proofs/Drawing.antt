@@ -24,10 +24,10 @@ use Rattle.chain.specs.Features.{alkenylBond, doubles, located, unlocated, oxyg
 use Rattle.groups.specs.Groups.{hydroxy}
 use Rattle.codes.specs.Codes.{bondCode, bondIn, groupCode, groupIn, ringIn}
 use Rattle.codes.proofs.Laws.{bond-back, group-back}
-use Rattle.drawable.specs.Drawn.{bondsIn, groupsIn, ringsIn, noGroup, Length, groupAt, chainOf}
+use Rattle.drawable.specs.Drawn.{Drawn, DrawsSome, bondsIn, groupsIn, ringsIn, noGroup, Length, groupAt, chainOf}
 use Rattle.drawable.proofs.Through.{only-skip, only-keep, only-all}
 use Rattle.drawable.proofs.Lists.{length-only, take-front}
-use Rattle.fitted.specs.Fitted.{alkenyl, Parts, More}
+use Rattle.fitted.specs.Fitted.{alkenyl, Parts, More, Pieces, piecesAs, Fits}
 
 -- ---- a chain that a record holds, within its limits, is the one that its arrays say
 
@@ -38,6 +38,12 @@ pub held-chain : {c : ParsedChain} {d : Chain} → Holds c d → Within d → ch
 unfolding chainOf bondsIn groupsIn ringsIn
 held-chain {c} {d} k w =
     simp (k .prefix, k .written, k .carbon, k .branched, k .unlocated, k .oxygens, kept bondIn maxBonds (c .bonds) (c .«bond_count») (d .bonds) (k .bonds) (w .bonds), kept groupIn maxGroups (c .groups) (c .«group_count») (d .groups) (k .groups) (w .groups), kept ringIn maxRings (c .rings) (c .«ring_count») (d .rings) (k .rings) (w .rings))
+
+-- what is drawn of every record with some pieces is drawn of some chain
+pub fits-some : {r : Role} {p : Pieces} {x : Drawn} → Fits r p x → DrawsSome x
+fits-some {r} {p} f =
+    let bare : ParsedChain = record { prefix = p .prefix; written = 0; carbon = 0; branched = false; unlocated = 0; oxygens = 0; «bond_count» = 0; bonds = []; «group_count» = 0; groups = []; «ring_count» = 0; rings = [] } in
+    record { role = r; chain = chainOf (piecesAs bare p); draws = f .draws bare }
 
 -- ---- how many double bonds a prefix adds
 

@@ -22,25 +22,16 @@ use Rattle.listing.specs.Lists.{noList, listOf}
 use Rattle.listing.proofs.PlacedLaws.{places-few}
 use Rattle.template.proofs.Theorem.{promise}
 use Rattle.judge.specs.declared.Judged.{Judged}
+use Rattle.judge.specs.declared.Judged.the-variants.{Drawable as Judged·Drawable, Refused as Judged·Refused}
 use Rattle.judge.specs.Judged.{JudgedIs}
-use Rattle.judge.specs.Verdict.{Verdict, Refused, Drawable, wrongTail, verdict, tokens}
-use Rattle.judge.proofs.Accepted.{judged-accepted, judged-fits, answer-drawable, answer-refused}
+use Rattle.judge.specs.Verdict.{Verdict, Refused, Drawable, wrongTail, verdict, tokens, isRefusal}
+use Rattle.judge.proofs.Accepted.{judged-accepted, judged-fits, refused-number, answer-drawable, answer-refused}
 use Rattle.answer.specs.declared.Answer.{Answer}
 use Rattle.answer.specs.Answer.{siteOf, refusal, acceptance, short, answerTo, atStart, lineAfter, indexAfter, Answers}
+use Rattle.room.specs.Ready.{Readied}
 use Rattle.drawing.specs.Draw.{ChainsDrawn}
 use Rattle.forward.specs.Call.{Kept, Called}
 use Rattle.forward.proofs.Ready.{ready}
-
--- ---- refused
-
-pub called-refused : {v : Verdict} {swap : Bool} {t xs is : List ℕ} {a : Answer} (j : Judged) (m : ℕ) (ns l : List ℕ) → JudgedIs j m ns l t v → (j .fault .number ≡ 0 → ⊥) → a ≡ refusal (j .fault .number) (j .fault .place)
-    → Called v swap t xs is xs is a
-called-refused {v} {swap} {t} {xs} {is} {a} j m ns l h n e =
-    let w : v ≡ Refused (j .fault .number) (j .fault .place) = answer-refused j m ns l t v h n in
-    record {
-      answers = rw w (record { answer = e; line = refl; index = refl });
-      kept = λ z. absurd (n (sym (ap (λ (x : Answer). x .number) e) ∙ z));
-    }
 
 -- ---- accepted
 
@@ -88,14 +79,37 @@ module _ (class t : List ℕ) (count : ℕ) (sn1 sn2 sn3 sn4 : List ℕ) where
   unfolding wrongTail
   right-tail c ds e q = not-false (isTail t) (rw q at (judged-fits class t count (tokens count sn1 sn2 sn3 sn4) c ds e .tail))
 
-  pub called-drawn : {swap : Bool} {xs is ys js : List ℕ} {a : Answer} (j : Judged) (ns l : List ℕ) → JudgedIs j count ns l t v → j .fault .number ≡ 0
-      → ChainsDrawn (j .class) swap t (j .«tail_atoms») (chainsKept count ns l) xs is ys js a → Called v swap t xs is ys js a
-  called-drawn {swap} {xs} {is} {ys} {js} {a} j ns l h n g =
-      let d = answer-drawable j count ns l t v h n in
-      let accepted = judged-accepted class t count sn1 sn2 sn3 sn4 (j .class) (d .chains) (d .is) in
-      let r = ready (j .class) t (d .chains) (j .«tail_atoms») (chainsKept count ns l) accepted (right-tail (j .class) (d .chains) (d .is)) (d .drawing) (d .atoms) in
-      let w : Answers (Drawable (j .class) (d .chains)) swap t xs is ys js a = g .drawn (d .chains) r in
+  -- a refusal's number is not 0
+  some-number : (m p : ℕ) → v ≡ Refused m p → m ≡ 0 → ⊥
+  unfolding isRefusal
+  some-number m p e z =
+      let h : isRefusal m ≡ true = refused-number class t count sn1 sn2 sn3 sn4 m p e .0 in
+      let g : false ≡ true = rw z at h in
+      false≢true g
+
+  pub called-refused : {swap : Bool} {xs is : List ℕ} {a : Answer} (j : Judged) (m p : ℕ) (ns l : List ℕ) → JudgedIs j count ns l t v → j ≡ Judged·Refused m p → a ≡ refusal m p → Called v swap t xs is xs is a
+  called-refused {swap} {xs} {is} {a} j m p ns l h k e =
+      let w : v ≡ Refused m p = answer-refused m p count ns l t v (rw k at h) in
+      record {
+        answers = rw w (record { answer = e; line = refl; index = refl });
+        kept = λ z. absurd (some-number m p w (sym (ap (λ (x : Answer). x .number) e) ∙ z));
+      }
+
+  -- what was judged is ready to be drawn
+  module _ (j : Judged) (c : Class) (k : ℕ) (ns l : List ℕ) (h : JudgedIs j count ns l t v) (n : j ≡ Judged·Drawable c k) where
+    pub judged-ready : Readied c t k (chainsKept count ns l)
+    judged-ready =
+        let d = answer-drawable c k count ns l t v (rw n at h) in
+        let accepted = judged-accepted class t count sn1 sn2 sn3 sn4 c (d .chains) (d .is) in
+        record { chains = d .chains; ready = ready c t (d .chains) k (chainsKept count ns l) accepted (right-tail c (d .chains) (d .is)) (d .drawing) (d .atoms) }
+
+  pub called-drawn : {swap : Bool} {xs is ys js : List ℕ} {a : Answer} (j : Judged) (c : Class) (k : ℕ) (ns l : List ℕ) → JudgedIs j count ns l t v → j ≡ Judged·Drawable c k
+      → ChainsDrawn c swap t k (chainsKept count ns l) xs is ys js a → Called v swap t xs is ys js a
+  unfolding judged-ready
+  called-drawn {swap} {xs} {is} {ys} {js} {a} j c k ns l h n g =
+      let d = answer-drawable c k count ns l t v (rw n at h) in
+      let w : Answers (Drawable c (d .chains)) swap t xs is ys js a = g .drawn (d .chains) (judged-ready j c k ns l h n .ready) in
       record {
         answers = rw (d .is) w;
-        kept = kept-by (j .class) (d .chains) swap xs is ys js a (d .is) w;
+        kept = kept-by c (d .chains) swap xs is ys js a (d .is) w;
       }

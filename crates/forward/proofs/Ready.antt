@@ -68,9 +68,7 @@ tail-of c t ds k a h e q =
 pub ready : (c : Class) (t : List ℕ) (ds : List Chain) (k : ℕ) (x : Chains) → Accepted c t ds → (hasTail c ≡ true → isTail t ≡ true) → Drawing c ds x → k ≡ tailAtoms t → Ready c t k x ds
 ready c t ds k x a h d e =
     record {
-      tail = tail-of c t ds k a h e;
-      stood = stood c ds x d (a .chains);
-      fits = fits-class c t ds (a .chains) (λ q. tail-fits t (a .tail q) .few);
+      own = record { tail = tail-of c t ds k a h e; stood = stood c ds x d (a .chains); fits = fits-class c t ds (a .chains) (λ q. tail-fits t (a .tail q) .few) };
       told = told c t ds a;
       tokens = d .few;
       few = omega (arith, places-most c t ds a, d .counted);

@@ -4,6 +4,7 @@
 pub use answer::Answer;
 use drawable::CHAIN_ROOM;
 use drawable::LIST_ROOM;
+use judge::Judged;
 use shapes::SHAPE_ROOM;
 ghost use Prim.Native.Nat.{_*_, _≤_, min};
 ghost use lib.ListN.{length};
@@ -32,23 +33,13 @@ fn draw_in<'a>(
 {
     let mut shapes = [0u64; SHAPE_ROOM];
     let judged = judge::judge(class, tail, count, sn1, sn2, sn3, sn4, &mut shapes, lists);
-    let fault = judged.fault;
-    let number = fault.number;
-    if number != 0 {
-        return answer::refused(number, fault.place);
+    match judged {
+        Judged::Refused { number, place } => answer::refused(number, place),
+        Judged::Drawable {
+            class: kind,
+            tail_atoms: atoms,
+        } => drawing::draw_chains(line, index, kind, swap, tail, atoms, count, &shapes, lists),
     }
-    let kind = judged.class;
-    drawing::draw_chains(
-        line,
-        index,
-        kind,
-        swap,
-        tail,
-        judged.tail_atoms,
-        count,
-        &shapes,
-        lists,
-    )
 }
 
 // A request, with room for the lists of its chains that the caller lends: whoever draws many requests fills it once. What it holds before is

@@ -181,30 +181,24 @@ segment-written : {xs ys zs ws : List ℕ} {at p q o : ℕ} (x : Drawn) (t : Cha
 unfolding segmentText
 segment-written x t l h u v w = written-three h u v w
 
-pub segment-drawn : {xs ys : List ℕ} {at q m : ℕ} (x : Drawn) (t : ChainTokens) (l : ℕ) → TokensOf x t → m ≡ min l 247 → Written xs at (segmentText x t m) ys q → Segment x l xs at ys q
-segment-drawn {xs} {ys} {at} {q} {m} x t l k e w =
-    record {
-      size = written-length w;
-      text = λ r d g s h.
-          let z : m ≡ l = omega arith in
-          rw (segment-is r d x t g k s l) (rw z at w);
-    }
+pub segment-drawn : {xs ys : List ℕ} {at q : ℕ} (x : Drawn) (t : ChainTokens) (l : ℕ) → TokensOf x t → Written xs at (segmentText x t l) ys q → Segment x l xs at ys q
+segment-drawn x t l k w = record { size = written-length w; text = λ r d g s. rw (segment-is r d x t g k s l) w }
 
 -- what the writer of the literal carbons relies on
-pub range-ready : (x : Shape) (part : List ℕ) (first last : ℕ) (bs us : List ℕ) {gs rs : List ℕ} (l : ℕ) {m : ℕ} → TokensOf (drawnOf x part) (tokens first last bs us)
-    → gs ≡ groupsPart part → rs ≡ ringsPart part → m ≡ min l 247
-    → (1 ≤ first) × (last ≤ 255) × (last < length bs) × (last < length us) × Busy (x .acyl) (groupsIn (x .«group_count») gs) (ringsIn (x .«ring_count») rs) us × (m + length rs ≤ 255)
+pub range-ready : (x : Shape) (part : List ℕ) (first last : ℕ) (bs us : List ℕ) {gs rs : List ℕ} (l : ℕ) → TokensOf (drawnOf x part) (tokens first last bs us)
+    → gs ≡ groupsPart part → rs ≡ ringsPart part → l ≤ 247
+    → (1 ≤ first) × (last ≤ 255) × (last < length bs) × (last < length us) × Busy (x .acyl) (groupsIn (x .«group_count») gs) (ringsIn (x .«ring_count») rs) us × (l + length rs ≤ 255)
 range-ready x part first last bs us l k a b e =
     (omega (arith, k .first), k .room, k .bonded, k .laden, rw (a, b) (k .busy), rw b (omega (arith, rings-few part)))
 
 -- where the lists stand in the part of a chain
-pub segment-done : {xs ys zs ws gs rs : List ℕ} {at p q o m : ℕ} (x : Shape) (part : List ℕ) (first last : ℕ) (bs us : List ℕ) (l : ℕ) → length xs < 2 ^ 64
-    → TokensOf (drawnOf x part) (tokens first last bs us) → m ≡ min l 247 → gs ≡ groupsPart part → rs ≡ ringsPart part
-    → Written xs at (carbonsText (x .acyl) bs (groupsIn (x .«group_count») gs) (ringsIn (x .«ring_count») rs) m first (suc last - first)) ys p
+pub segment-done : {xs ys zs ws gs rs : List ℕ} {at p q o : ℕ} (x : Shape) (part : List ℕ) (first last : ℕ) (bs us : List ℕ) (l : ℕ) → length xs < 2 ^ 64
+    → TokensOf (drawnOf x part) (tokens first last bs us) → gs ≡ groupsPart part → rs ≡ ringsPart part
+    → Written xs at (carbonsText (x .acyl) bs (groupsIn (x .«group_count») gs) (ringsIn (x .«ring_count») rs) l first (suc last - first)) ys p
     → Written ys p (flexibleText (getD bs last 0) (x .unlocated)) zs q
     → Written zs q (floatsText (groupsIn (x .«float_count») (floatsPart part))) ws o → Segment (drawnOf x part) l xs at ws o
-segment-done {m = m} x part first last bs us l h k e a b u v w =
-    segment-drawn (drawnOf x part) (tokens first last bs us) l k e (segment-written (drawnOf x part) (tokens first last bs us) m h (rw (a, b) at u) v w)
+segment-done x part first last bs us l h k a b u v w =
+    segment-drawn (drawnOf x part) (tokens first last bs us) l k (segment-written (drawnOf x part) (tokens first last bs us) l h (rw (a, b) at u) v w)
 
 -- ---- a chain without a tail
 

@@ -32,7 +32,14 @@ pub record Readable (d : Chain) : Type 0 where
   pub carbons : d .carbon ≤ maxCarbons
   pub rings : RingsOn (d .carbon) (d .rings)
 
--- the text of every chain that x draws, with labels from l on, stands at the place `at`
+-- x is what is drawn of some chain that can be read
+pub record DrawsRead (x : Drawn) : Type 0 where
+  pub role : Role
+  pub chain : Chain
+  pub draws : Draws role chain x
+  pub readable : Readable chain
+
+-- the text of every such chain, with labels from l on, stands at the place `at`
 pub record Segment (x : Drawn) (l : ℕ) (xs : List ℕ) (at : ℕ) (ys : List ℕ) (q : ℕ) : Type 0 where
   pub size : length ys ≡ length xs
-  pub text : (r : Role) (d : Chain) → Draws r d x → Readable d → l ≤ 247 → Written xs at (show (itemPieces l (chain (chainDrawn r d)))) ys q
+  pub text : (r : Role) (d : Chain) → Draws r d x → Readable d → Written xs at (show (itemPieces l (chain (chainDrawn r d)))) ys q

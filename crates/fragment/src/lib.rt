@@ -1,9 +1,8 @@
 // The text of a chain, written at a place of a lent slice: its carbons, labels and groups by the crates below. The groups and rings are gone
 // through only at carbons that carry one, and the carbons between them are written in runs. On an empty slice the same functions measure.
 use drawable::Shape;
-ghost use mathlib.Core.Path.{_≡_};
 ghost use mathlib.Core.List.{_++_};
-ghost use Prim.Native.Nat.{suc, _+_, _-_, _≤_, _<_, min};
+ghost use Prim.Native.Nat.{suc, _+_, _-_, _≤_, _<_};
 ghost use lib.ListN.{length};
 ghost use Rattle.emit.specs.Text.{Written};
 ghost use Rattle.drawable.specs.Drawn.{groupsIn, ringsIn, floatsPart, drawnOf};
@@ -12,7 +11,7 @@ ghost use Rattle.carbons.specs.ByCarbon.{Busy};
 ghost use Rattle.branches.specs.Text.{floatsText};
 ghost use Rattle.backbone.specs.Text.{carbonText, bridgeText};
 ghost use Rattle.fragment.specs.Text.{featuresText, carbonsText};
-ghost use Rattle.fragment.specs.Segment.{Segment};
+ghost use Rattle.fragment.specs.Segment.{DrawsRead, Segment};
 
 // What follows the C of carbon k: its labels, its carbonyl and its groups.
 fn put_features<'a>(
@@ -113,16 +112,6 @@ fn assemble_range<'a>(
     p
 }
 
-// A label that leaves room for the labels of eight rings.
-fn in_labels(label: u8) -> u8
-    ensures { λ r. ⌜ r ≡ min label 247 ⌝ }
-{
-    if label < 247 {
-        return label;
-    }
-    247
-}
-
 // The groups without a position of a chain. Most have none: then their room is not looked for.
 fn put_loose<'a>(out: &mut [u8], at: usize, part: &'a [u64], count: usize) -> usize
     ensures { λ r. ⌜ Written (now (out .entry)) at (floatsText (groupsIn count (floatsPart (now (part .entry))))) (now (out .exit)) r ⌝ }
@@ -134,7 +123,7 @@ fn put_loose<'a>(out: &mut [u8], at: usize, part: &'a [u64], count: usize) -> us
 }
 
 // The text of a chain, with ring labels from the label given on: the literal carbons, the flexible tail and the groups without a position.
-// What each carbon has was looked up before, and is lent.
+// What each carbon has was looked up before, and is lent. The label leaves room for the labels of eight rings.
 pub fn build_chain_segment<'a>(
     out: &mut [u8],
     at: usize,
@@ -146,12 +135,13 @@ pub fn build_chain_segment<'a>(
     busy: &'a [u8],
     label: u8,
 ) -> usize
+    requires { ⌜ DrawsRead (drawnOf x (now part)) ⌝ }
+    requires { ⌜ label ≤ 247 ⌝ }
     requires { ⌜ TokensOf (drawnOf x (now part)) (tokens first last (now bonds) (now busy)) ⌝ }
     ensures { λ r. ⌜ Segment (drawnOf x (now (part .entry))) label (now (out .entry)) at (now (out .exit)) r ⌝ }
 {
     let end = last as usize;
     let bond = bonds[end];
-    let l = in_labels(label);
     let p = assemble_range(
         out,
         at,
@@ -164,7 +154,7 @@ pub fn build_chain_segment<'a>(
         last,
         bonds,
         busy,
-        l,
+        label,
     );
     let q = backbone::put_flexible(out, p, bond, x.unlocated);
     put_loose(out, q, part, x.float_count)

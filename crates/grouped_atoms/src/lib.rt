@@ -10,7 +10,7 @@ ghost use Rattle.emit.specs.Text.{Written};
 ghost use Rattle.drawable.specs.Drawn.{groupsIn, drawnOf, bondsDrawn, ringsDrawn};
 ghost use Rattle.carbons.specs.ByCarbon.{BondsBy};
 ghost use Rattle.carbons.specs.Tokens.{Grouped};
-ghost use Rattle.atoms.specs.Atoms.{AtomsOf};
+ghost use Rattle.atoms.specs.Atoms.{DrawsFew, AtomsOf};
 ghost use Rattle.grouped_atoms.specs.Groups.{Fits, GroupsNumbered};
 
 // The carbons so far: the place after their indices, the next atom, and the first carbon that is not numbered.
@@ -70,6 +70,7 @@ pub fn number_grouped<'a>(
     part: &'a [u64],
     bonds: &'a [u8],
 ) -> ChainAtoms
+    requires { ⌜ DrawsFew (drawnOf x (now part)) ⌝ }
     requires { ⌜ Grouped (drawnOf x (now part)) ⌝ }
     requires { ⌜ BondsBy (bondsDrawn (drawnOf x (now part))) (ringsDrawn (drawnOf x (now part))) (x .carbon) (now bonds) ⌝ }
     requires { ⌜ (at + x .carbon ≤ length (now index)) × (first < 40000) ⌝ }
@@ -100,6 +101,7 @@ pub fn number_grouped<'a>(
 
 // The indices of the drawn carbons of such a chain that carries nothing.
 pub fn number_bare(index: &mut [u16], at: usize, first: u32, x: Shape, part: &[u64]) -> ChainAtoms
+    requires { ⌜ DrawsFew (drawnOf x (now part)) ⌝ }
     requires { ⌜ Grouped (drawnOf x (now part)) ⌝ }
     requires { ⌜ (x .«bond_count» ≡ 0) × (x .«group_count» ≡ 0) ⌝ }
     requires { ⌜ (at + x .carbon ≤ length (now index)) × (first < 40000) ⌝ }

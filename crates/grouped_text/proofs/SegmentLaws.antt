@@ -1,6 +1,6 @@
 -- The text that is written of a whole chain is that of the drawing.
 -- Assumes nothing.
-use Prim.Native.Nat.{ℕ, suc, _+_, _-_, _*_, _^_, _≤_, _<_, min}
+use Prim.Native.Nat.{ℕ, suc, _+_, _-_, _*_, _^_, _≤_, _<_}
 use native.Mathlib.Omega.{arith}
 use mathlib.Core.Path.{_≡_, refl}
 use mathlib.Core.Bool.{Bool}
@@ -47,8 +47,8 @@ module _ (x : Drawn) (bs : List ℕ) (e : Grouped x) (b : BondsBy (bondsDrawn x)
   pub grouped-segment : {xs ys zs ws : List ℕ} {at p q r : ℕ} → length xs < 2 ^ 64 → Written xs at (carbonText (getD bs (x .first - 1) 0)) ys p → Written ys p (carbonylText (x .acyl) (x .first)) zs q
       → Written zs q (restText bs (x .first + 1) (x .carbon) (groupsDrawn x)) ws r → (l : ℕ) → Segment x l xs at ws r
   grouped-segment g u v w l =
-      segment-drawn x (tokens (x .first) (x .carbon) bs (busyList x)) l (grouped-tokens e b) refl
-      (rw (grouped-text (busyList x) (min l 247)) (written-three g u v w))
+      segment-drawn x (tokens (x .first) (x .carbon) bs (busyList x)) l (grouped-tokens e b)
+      (rw (grouped-text (busyList x) l) (written-three g u v w))
 
 -- ---- what the writer needs, where the groups stand in the part of a chain
 

@@ -9,7 +9,7 @@ ghost use Rattle.drawable.specs.Drawn.{groupsIn, drawnOf, bondsDrawn, ringsDraw
 ghost use Rattle.carbons.specs.Tokens.{Rising, Grouped};
 ghost use Rattle.carbons.specs.ByCarbon.{BondsBy};
 ghost use Rattle.runs.specs.Links.{linksText};
-ghost use Rattle.fragment.specs.Segment.{Segment};
+ghost use Rattle.fragment.specs.Segment.{DrawsRead, Segment};
 ghost use Rattle.grouped_text.specs.Text.{stopOf, nextText, restText};
 
 // The carbon of the group at a place; past the last group the last carbon.
@@ -123,6 +123,7 @@ pub fn build_grouped<'a>(
     part: &'a [u64],
     bonds: &'a [u8],
 ) -> usize
+    requires { ⌜ DrawsRead (drawnOf x (now part)) ⌝ }
     requires { ⌜ Grouped (drawnOf x (now part)) ⌝ }
     requires { ⌜ BondsBy (bondsDrawn (drawnOf x (now part))) (ringsDrawn (drawnOf x (now part))) (x .carbon) (now bonds) ⌝ }
     requires { ⌜ at + (x .carbon * 2 + 260) ≤ length (now out) ⌝ }
@@ -156,6 +157,7 @@ pub fn build_grouped<'a>(
 
 // The text of such a chain that carries nothing, where there is room for it: carbons between empty bonds, and the O of an acyl C1.
 pub fn build_bare(out: &mut [u8], at: usize, x: Shape, part: &[u64]) -> usize
+    requires { ⌜ DrawsRead (drawnOf x (now part)) ⌝ }
     requires { ⌜ Grouped (drawnOf x (now part)) ⌝ }
     requires { ⌜ (x .«bond_count» ≡ 0) × (x .«group_count» ≡ 0) ⌝ }
     requires { ⌜ at + (x .carbon * 2 + 260) ≤ length (now out) ⌝ }

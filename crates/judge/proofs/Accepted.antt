@@ -5,7 +5,6 @@ use Prim.Native.Nat.{ℕ, suc, _+_, _≤_, _<_}
 use native.Mathlib.Omega.{arith}
 use mathlib.Core.Path.{_≡_, refl, sym, ap, _∙_, subst}
 use mathlib.Core.Bool.{Bool, true, false, cond, not, false≢true}
-use mathlib.Core.Option.{Option, none, some}
 use mathlib.Core.List.{List, [], _∷_}
 use lib.ListN.{length, length-take}
 use lib.Dec.{eqb, ltb}
@@ -21,14 +20,18 @@ use Rattle.chain.specs.declared.Role.{Role}
 use Rattle.chain.specs.Refusals.{wrongKind, offChain, clashes, placeRefusal, groupOnCarbonyl, pinTooFar, tailTooShort, noSite, drawRefusal}
 use Rattle.template.specs.declared.Class.{Class}
 use Rattle.template.specs.declared.Class.the-variants.{Fa, Gl1, Gl2, Gl3, Gp, Cl, Sb, Sa}
-use Rattle.template.specs.Template.{classOf, fewest, most, roleOf, hasTail}
+use Rattle.template.specs.Template.{fewest, most, roleOf, hasTail}
 use Rattle.template.proofs.Placing.{AcceptsFrom}
 use Rattle.template.proofs.Tail.{TailReads}
 use Rattle.template.proofs.Theorem.{Accepted}
 use Rattle.shapes.specs.Shapes.{chainsKept}
+use Rattle.class.specs.declared.Code.{Code}
+use Rattle.class.specs.declared.Code.the-variants.{Known, Unknown}
+use Rattle.class.specs.Class.{classOf}
 use Rattle.judge.specs.declared.Fault.{Fault}
-use Rattle.judge.specs.declared.Judged.{Judged}
-use Rattle.judge.specs.Verdict.{Verdict, Refused, Drawable, tokens, firstOf, kindRefusal, wrongTail, orElse, judgeDrawn, judgeChains, judgeRead, wrongCount, judgeTokens, judgeClass, verdict, isRefusal}
+use Rattle.judge.specs.declared.Fault.the-variants.{Nothing, Due as Fault·Due}
+use Rattle.judge.specs.declared.Judged.the-variants.{Drawable as Judged·Drawable, Refused as Judged·Refused}
+use Rattle.judge.specs.Verdict.{Verdict, Refused, Drawable, tokens, faultAt, earlierOf, firstOf, kindRefusal, wrongTail, orElse, judgeDrawn, judgeChains, judgeRead, wrongCount, judgeTokens, judgeClass, verdict, isRefusal}
 use Rattle.judge.specs.Judged.{Drawing, JudgedIs}
 use Rattle.judge.proofs.Tokens.{tokens-sound, tokens-length, tokens-refused}
 
@@ -68,32 +71,34 @@ draw-due r d = go (groupOnCarbonyl r d) (pinTooFar r d) (tailTooShort r d) (noSi
 
 -- ---- the first fault
 
--- a fault that is one of a test's, at one of the places from p on
-record Numbered (p : ℕ) (ds : List Chain) (f : Fault) : Type 0 where
-  number : isRefusal (f .number) ≡ true
-  place : f .place < p + length ds
+-- where a fault is due, it has a number of 01 and one of the places from p on
+abbrev Numbered : ℕ → List Chain → Fault → Type 0
+Numbered p ds Nothing = Unit {0}
+Numbered p ds (Fault·Due n q) = (isRefusal n ≡ true) × (q < p + length ds)
 
 module _ (test : Role → Chain → ℕ) (c : Class) where
-  first-numbered : ((r : Role) (d : Chain) → Due (test r d)) → (p : ℕ) (ds : List Chain) → (firstOf test c p ds .number ≡ 0 → ⊥) → Numbered p ds (firstOf test c p ds)
-  unfolding firstOf
-  first-numbered g p [] n = absurd (n refl)
-  first-numbered g p (d ∷ ds) n = go (eqb (test (roleOf c p) d) 0) refl (first-numbered g (suc p) ds) n
+  first-numbered : ((r : Role) (d : Chain) → Due (test r d)) → (p : ℕ) (ds : List Chain) → Numbered p ds (firstOf test c p ds)
+  unfolding firstOf faultAt
+  first-numbered g p [] = tt
+  first-numbered g p (d ∷ ds) = go (eqb (test (roleOf c p) d) 0) refl (firstOf test c (suc p) ds) (first-numbered g (suc p) ds)
     where
-      go : (b : Bool) → eqb (test (roleOf c p) d) 0 ≡ b → ((firstOf test c (suc p) ds .number ≡ 0 → ⊥) → Numbered (suc p) ds (firstOf test c (suc p) ds))
-          → (cond b (firstOf test c (suc p) ds) (record { number = test (roleOf c p) d; place = p }) .number ≡ 0 → ⊥)
-          → Numbered p (d ∷ ds) (cond b (firstOf test c (suc p) ds) (record { number = test (roleOf c p) d; place = p }))
-      go true e ih m = let h : Numbered (suc p) ds (firstOf test c (suc p) ds) = ih m in record { number = h .number; place = omega (arith, h .place) }
-      go false e ih m = record { number = g (roleOf c p) d m; place = omega arith }
+      later : (f : Fault) → Numbered (suc p) ds f → Numbered p (d ∷ ds) f
+      later Nothing h = tt
+      later (Fault·Due n q) h = (h .0, omega (arith, h .1))
+
+      go : (b : Bool) → eqb (test (roleOf c p) d) 0 ≡ b → (f : Fault) → Numbered (suc p) ds f → Numbered p (d ∷ ds) (earlierOf (cond b Nothing (Fault·Due (test (roleOf c p) d) p)) f)
+      go true e f h = later f h
+      go false e f h = (g (roleOf c p) d (eqb-false (test (roleOf c p) d) 0 e), omega arith)
 
   -- no fault: none in the first chain, and none in the others
-  first-passed : (p : ℕ) (d : Chain) (ds : List Chain) → firstOf test c p (d ∷ ds) .number ≡ 0 → (test (roleOf c p) d ≡ 0) × (firstOf test c (suc p) ds .number ≡ 0)
-  unfolding firstOf
+  first-passed : (p : ℕ) (d : Chain) (ds : List Chain) → firstOf test c p (d ∷ ds) ≡ Nothing → (test (roleOf c p) d ≡ 0) × (firstOf test c (suc p) ds ≡ Nothing)
+  unfolding firstOf faultAt
   first-passed p d ds h = go (eqb (test (roleOf c p) d) 0) refl h
     where
-      go : (b : Bool) → eqb (test (roleOf c p) d) 0 ≡ b → cond b (firstOf test c (suc p) ds) (record { number = test (roleOf c p) d; place = p }) .number ≡ 0
-          → (test (roleOf c p) d ≡ 0) × (firstOf test c (suc p) ds .number ≡ 0)
+      go : (b : Bool) → eqb (test (roleOf c p) d) 0 ≡ b → earlierOf (cond b Nothing (Fault·Due (test (roleOf c p) d) p)) (firstOf test c (suc p) ds) ≡ Nothing
+          → (test (roleOf c p) d ≡ 0) × (firstOf test c (suc p) ds ≡ Nothing)
       go true e k = (eqb-true (test (roleOf c p) d) 0 e, k)
-      go false e k = absurd (eqb-false (test (roleOf c p) d) 0 e k)
+      go false e k = let z : _≡_ {A = ℕ} 0 1 = cc in absurd (omega arith)
 
 right-kind : (r : Role) (d : Chain) → kindRefusal r d ≡ 0 → wrongKind r d ≡ false
 unfolding kindRefusal
@@ -103,7 +108,7 @@ right-kind r d h = go (wrongKind r d) h
     go true k = absurd (omega arith)
     go false k = refl
 
-accepts-from : (c : Class) (p : ℕ) (ds : List Chain) → Every Sound ds → firstOf kindRefusal c p ds .number ≡ 0 → firstOf placeRefusal c p ds .number ≡ 0 → firstOf drawRefusal c p ds .number ≡ 0
+accepts-from : (c : Class) (p : ℕ) (ds : List Chain) → Every Sound ds → firstOf kindRefusal c p ds ≡ Nothing → firstOf placeRefusal c p ds ≡ Nothing → firstOf drawRefusal c p ds ≡ Nothing
     → AcceptsFrom (roleOf c) p ds
 accepts-from c p [] s k l m = tt
 accepts-from c p (d ∷ ds) s k l m =
@@ -118,30 +123,26 @@ accepts-from c p (d ∷ ds) s k l m =
 
 -- every test was passed
 pub record Fits (class t : List ℕ) (count : ℕ) (ss : List (List ℕ)) (c : Class) (ds : List Chain) : Type 0 where
-  pub known : classOf class ≡ some c
+  pub known : classOf class ≡ Known c
   pub counted : wrongCount c count ≡ false
   pub read : token.tokensOf ss ≡ token.All ds
-  pub kinds : firstOf kindRefusal c 1 ds .number ≡ 0
+  pub kinds : firstOf kindRefusal c 1 ds ≡ Nothing
   pub tail : wrongTail c t ≡ false
-  pub places : firstOf placeRefusal c 1 ds .number ≡ 0
-  pub draws : firstOf drawRefusal c 1 ds .number ≡ 0
+  pub places : firstOf placeRefusal c 1 ds ≡ Nothing
+  pub draws : firstOf drawRefusal c 1 ds ≡ Nothing
 
 module _ (class t : List ℕ) (count : ℕ) (ss : List (List ℕ)) where
   abbrev Says : Verdict → Type 0
   Says (Refused n p) = (isRefusal n ≡ true) × (p ≤ length ss)
   Says (Drawable c ds) = Fits class t count ss c ds
 
-  module _ (c : Class) (known : classOf class ≡ some c) (counted : wrongCount c count ≡ false) where
+  module _ (c : Class) (known : classOf class ≡ Known c) (counted : wrongCount c count ≡ false) where
     module _ (ds : List Chain) (read : token.tokensOf ss ≡ token.All ds) where
-      or-says : (f : Fault) (v : Verdict) → ((f .number ≡ 0 → ⊥) → Numbered 1 ds f) → (f .number ≡ 0 → Says v) → Says (orElse f v)
-      unfolding orElse
-      or-says f v n h = go (eqb (f .number) 0) refl
-        where
-          go : (b : Bool) → eqb (f .number) 0 ≡ b → Says (cond b v (Refused (f .number) (f .place)))
-          go true e = h (eqb-true (f .number) 0 e)
-          go false e = let m : Numbered 1 ds f = n (eqb-false (f .number) 0 e) in (m .number, omega (arith, m .place, tokens-length ss ds read))
+      or-says : (f : Fault) (v : Verdict) → Numbered 1 ds f → (f ≡ Nothing → Says v) → Says (orElse f v)
+      or-says Nothing v n h = h refl
+      or-says (Fault·Due m p) v n h = (n .0, omega (arith, n .1, tokens-length ss ds read))
 
-      drawn-says : firstOf kindRefusal c 1 ds .number ≡ 0 → wrongTail c t ≡ false → Says (judgeDrawn c ds)
+      drawn-says : firstOf kindRefusal c 1 ds ≡ Nothing → wrongTail c t ≡ false → Says (judgeDrawn c ds)
       unfolding judgeDrawn
       drawn-says kinds tail =
           or-says (firstOf placeRefusal c 1 ds) (orElse (firstOf drawRefusal c 1 ds) (Drawable c ds)) (first-numbered placeRefusal c place-due 1 ds)
@@ -153,7 +154,7 @@ module _ (class t : List ℕ) (count : ℕ) (ss : List (List ℕ)) where
       chains-say =
           or-says (firstOf kindRefusal c 1 ds) (cond (wrongTail c t) (Refused 23 0) (judgeDrawn c ds)) (first-numbered kindRefusal c kind-due 1 ds) (λ kinds. go (wrongTail c t) refl kinds)
         where
-          go : (b : Bool) → wrongTail c t ≡ b → firstOf kindRefusal c 1 ds .number ≡ 0 → Says (cond b (Refused 23 0) (judgeDrawn c ds))
+          go : (b : Bool) → wrongTail c t ≡ b → firstOf kindRefusal c 1 ds ≡ Nothing → Says (cond b (Refused 23 0) (judgeDrawn c ds))
           go true e kinds = (refl, omega arith)
           go false e kinds = drawn-says kinds e
 
@@ -161,7 +162,7 @@ module _ (class t : List ℕ) (count : ℕ) (ss : List (List ℕ)) where
     read-says (token.First n p) e = tokens-refused ss n p e
     read-says (token.All ds) e = chains-say ds e
 
-  tokens-say : (c : Class) → classOf class ≡ some c → Says (judgeTokens c t count ss)
+  tokens-say : (c : Class) → classOf class ≡ Known c → Says (judgeTokens c t count ss)
   unfolding judgeTokens isRefusal
   tokens-say c k = go (wrongCount c count) refl
     where
@@ -169,10 +170,10 @@ module _ (class t : List ℕ) (count : ℕ) (ss : List (List ℕ)) where
       go true e = (refl, omega arith)
       go false e = read-says c k e (token.tokensOf ss) refl
 
-  class-says : (o : Option Class) → classOf class ≡ o → Says (judgeClass o t count ss)
+  class-says : (o : Code) → classOf class ≡ o → Says (judgeClass o t count ss)
   unfolding isRefusal
-  class-says none e = (refl, omega arith)
-  class-says (some c) e = tokens-say c e
+  class-says Unknown e = (refl, omega arith)
+  class-says (Known c) e = tokens-say c e
 
   verdict-says : Says (verdict class t count ss)
   unfolding verdict
@@ -182,7 +183,7 @@ module _ (class t : List ℕ) (count : ℕ) (ss : List (List ℕ)) where
   judged-fits c ds e = subst Says e verdict-says
 
   -- the class is the one with the code
-  pub judged-drawable : (c : Class) (ds : List Chain) → verdict class t count ss ≡ Drawable c ds → classOf class ≡ some c
+  pub judged-drawable : (c : Class) (ds : List Chain) → verdict class t count ss ≡ Drawable c ds → classOf class ≡ Known c
   judged-drawable c ds e = judged-fits c ds e .known
 
   -- and the chains are those of the tokens
@@ -267,16 +268,16 @@ module _ (class t : List ℕ) (count : ℕ) (sn1 sn2 sn3 sn4 : List ℕ) where
 -- ---- what the answer of the code says of the verdict
 
 -- the n chains that the numbers ns and the lists l hold are those of the verdict, and the atoms of the tail t are counted
-pub record Drawn (j : Judged) (n : ℕ) (ns l t : List ℕ) (v : Verdict) : Type 0 where
+pub record Drawn (c : Class) (a n : ℕ) (ns l t : List ℕ) (v : Verdict) : Type 0 where
   pub chains : List Chain
-  pub is : v ≡ Drawable (j .class) chains
-  pub drawing : Drawing (j .class) chains (chainsKept n ns l)
-  pub atoms : j .«tail_atoms» ≡ tailAtoms t
+  pub is : v ≡ Drawable c chains
+  pub drawing : Drawing c chains (chainsKept n ns l)
+  pub atoms : a ≡ tailAtoms t
 
-pub answer-drawable : (j : Judged) (n : ℕ) (ns l t : List ℕ) (v : Verdict) → JudgedIs j n ns l t v → j .fault .number ≡ 0 → Drawn j n ns l t v
-answer-drawable j n ns l t (Refused m p) h z = absurd (omega (arith, h .0, h .2))
-answer-drawable j n ns l t (Drawable c ds) h z = record { chains = ds; is = ap (λ (x : Class). Drawable x ds) (sym (h .1)); drawing = rw (h .1) (h .2); atoms = h .3 }
+pub answer-drawable : (c : Class) (a n : ℕ) (ns l t : List ℕ) (v : Verdict) → JudgedIs (Judged·Drawable c a) n ns l t v → Drawn c a n ns l t v
+answer-drawable c a n ns l t (Refused m p) h = absurd h
+answer-drawable c a n ns l t (Drawable d ds) h = record { chains = ds; is = ap (λ (x : Class). Drawable x ds) (sym (h .0)); drawing = rw (h .0) (h .1); atoms = h .2 }
 
-pub answer-refused : (j : Judged) (n : ℕ) (ns l t : List ℕ) (v : Verdict) → JudgedIs j n ns l t v → (j .fault .number ≡ 0 → ⊥) → v ≡ Refused (j .fault .number) (j .fault .place)
-answer-refused j n ns l t (Refused m p) h z = rw (h .0, h .1)
-answer-refused j n ns l t (Drawable c ds) h z = absurd (z (h .0))
+pub answer-refused : (m p n : ℕ) (ns l t : List ℕ) (v : Verdict) → JudgedIs (Judged·Refused m p) n ns l t v → v ≡ Refused m p
+answer-refused m p n ns l t (Refused k q) h = rw (h .0, h .1)
+answer-refused m p n ns l t (Drawable c ds) h = absurd h

@@ -1,5 +1,5 @@
 -- What the judged request of the code holds. Assumes nothing.
-use Prim.Native.Nat.{ℕ, suc, _<_, _≤_}
+use Prim.Native.Nat.{ℕ, suc, _≤_}
 use mathlib.Core.Path.{_≡_}
 use mathlib.Core.Bool.{Bool, false, cond}
 use mathlib.Core.List.{List, [], _∷_}
@@ -15,12 +15,16 @@ use Rattle.template.specs.Template.{roleOf}
 use Rattle.drawable.specs.Drawn.{Drawn, drawnOf, Draws}
 use Rattle.drawable.specs.Chains.{Chains, drawnIn}
 use Rattle.shapes.specs.Shapes.{chainsKept}
+use Rattle.drawable.specs.declared.Shape.{Shape}
 use Rattle.judge.specs.declared.Judged.{Judged}
+use Rattle.judge.specs.declared.Judged.the-variants.{Drawable as Judged·Drawable, Refused as Judged·Refused}
 use Rattle.judge.specs.declared.Fault.{Fault}
+use Rattle.judge.specs.declared.Fault.the-variants.{Nothing, Due}
 use Rattle.judge.specs.declared.Faults.{Faults}
 use Rattle.judge.specs.declared.Reasons.{Reasons}
 use Rattle.judge.specs.declared.Seen.{Seen}
-use Rattle.judge.specs.Verdict.{Verdict, Refused, Drawable, noFault, kindRefusal}
+use Rattle.judge.specs.declared.Seen.the-variants.{Read as Seen·Read, Refused as Seen·Refused}
+use Rattle.judge.specs.Verdict.{Verdict, Refused, Drawable, faultAt, earlierOf, kindRefusal}
 
 -- chains as they are drawn in a class, one by one, the first of them the token with the place p
 pub data DrawsAll : Class → ℕ → List Drawn → List Chain → Type 0 where
@@ -33,10 +37,18 @@ pub record Drawing (c : Class) (ds : List Chain) (x : Chains) : Type 0 where
   pub counted : x .count ≡ length ds
   pub drawn : DrawsAll c 1 (drawnIn x) ds
 
--- the judged request j with n tokens, with the numbers ns of its chains and their lists l, stands for a verdict on a request with the tail t
+-- 01's number and the values of each case, as a verdict on a request with n tokens and the tail t has them: the class, and the chains whose
+-- numbers are ns and whose lists are l, with the atoms of the tail; or the refusal's number and place
 abbrev pub JudgedIs : Judged → ℕ → List ℕ → List ℕ → List ℕ → Verdict → Type 0
-JudgedIs j n ns l t (Refused m p) = (j .fault .number ≡ m) × (j .fault .place ≡ p) × (0 < m)
-JudgedIs j n ns l t (Drawable c ds) = (j .fault .number ≡ 0) × (j .class ≡ c) × Drawing c ds (chainsKept n ns l) × (j .«tail_atoms» ≡ tailAtoms t)
+JudgedIs (Judged·Drawable d a) n ns l t (Drawable c ds) = (d ≡ c) × Drawing c ds (chainsKept n ns l) × (a ≡ tailAtoms t)
+JudgedIs (Judged·Drawable d a) n ns l t (Refused m p) = ⊥
+JudgedIs (Judged·Refused k q) n ns l t (Drawable c ds) = ⊥
+JudgedIs (Judged·Refused k q) n ns l t (Refused m p) = (k ≡ m) × (q ≡ p)
+
+-- the fault that is due, or a request that is drawn
+abbrev pub orDrawable : Fault → Class → ℕ → Judged
+orDrawable Nothing c a = Judged·Drawable c a
+orDrawable (Due n p) c a = Judged·Refused n p
 
 -- ---- what is known of the tokens that were looked at
 
@@ -44,41 +56,32 @@ JudgedIs j n ns l t (Drawable c ds) = (j .fault .number ≡ 0) × (j .class ≡ 
 pub record KindIs (r : Role) (p : ChainPrefix) (c n : ℕ) : Type 0 where
   pub is : (d : Chain) → d .prefix ≡ p → d .carbon ≡ c → n ≡ kindRefusal r d
 
--- a token that was looked at, with its lists
-pub record Sight : Type 0 where
-  pub reasons : Reasons
-  pub drawn : Drawn
+-- what the reasons n and a shape, with the lists l, are of a chain in a place that is r's
+pub record ChainSeen (r : Role) (n : Reasons) (s : Shape) (l : List ℕ) (d : Chain) : Type 0 where
+  pub kind : n .kind ≡ kindRefusal r d
+  pub place : n .place ≡ placeRefusal r d
+  pub draw : n .draw ≡ drawRefusal r d
+  pub drawn : Draws r d (drawnOf s l)
 
-abbrev pub sightOf : Seen → List ℕ → Sight
-sightOf s l = record { reasons = s .reasons; drawn = drawnOf (s .shape) l }
-
--- what a token that was looked at, in a place that is r's, holds of an outcome
-abbrev pub SeenIs : Role → Sight → Outcome → Type 0
-SeenIs r s (Read d) =
-    (s .reasons .token ≡ 0) × (s .reasons .kind ≡ kindRefusal r d) × (s .reasons .place ≡ placeRefusal r d) × (s .reasons .draw ≡ drawRefusal r d) × Draws r d (s .drawn)
-SeenIs r s (record·Refused n) = (s .reasons .token ≡ n) × (0 < n)
-
--- a fault, or the number n at the place p where there is none
-unfoldable pub earlierOf : Fault → ℕ → ℕ → Fault
-earlierOf f n p = cond (eqb (f .number) 0) (cond (eqb n 0) f (record { number = n; place = p })) f
+-- each case of a token that was looked at, as an outcome has it
+abbrev pub SeenIs : Role → Seen → List ℕ → Outcome → Type 0
+SeenIs r (Seen·Read n s) l (Read d) = ChainSeen r n s l d
+SeenIs r (Seen·Read n s) l (record·Refused m) = ⊥
+SeenIs r (Seen·Refused k) l (Read d) = ⊥
+SeenIs r (Seen·Refused k) l (record·Refused m) = k ≡ m
 
 abbrev pub noFaults : Faults
-noFaults = record { token = noFault; kind = noFault; place = noFault; draw = noFault }
+noFaults = record { kind = Nothing; place = Nothing; draw = Nothing }
 
--- whether a token is refused for nothing
+-- whether a chain is refused for nothing
 unfoldable pub nothingDue : Reasons → Bool
-nothingDue n = cond (eqb (n .token) 0) (cond (eqb (n .kind) 0) (cond (eqb (n .place) 0) (eqb (n .draw) 0) false) false) false
+nothingDue n = cond (eqb (n .kind) 0) (cond (eqb (n .place) 0) (eqb (n .draw) 0) false) false
 
--- one token more, with its place
+-- one chain more, with its token's place
 unfoldable pub withReasons : Faults → Reasons → ℕ → Faults
-unfolding earlierOf
 withReasons f n p =
-    record { token = earlierOf (f .token) (n .token) p; kind = earlierOf (f .kind) (n .kind) p; place = earlierOf (f .place) (n .place) p; draw = earlierOf (f .draw) (n .draw) p }
+    record { kind = earlierOf (f .kind) (faultAt (n .kind) p); place = earlierOf (f .place) (faultAt (n .place) p); draw = earlierOf (f .draw) (faultAt (n .draw) p) }
 
--- 01: "per token 31 and 11, per chain 22, then 23, per chain 32 then 33, per chain 12 to 15"
+-- 01: "per chain 22, then 23, per chain 32 then 33, per chain 12 to 15"
 unfoldable pub dueOf : Faults → Bool → Fault
-dueOf f tail =
-    cond
-    (eqb (f .token .number) 0)
-    (cond (eqb (f .kind .number) 0) (cond tail (record { number = 23; place = 0 }) (cond (eqb (f .place .number) 0) (f .draw) (f .place))) (f .kind))
-    (f .token)
+dueOf f tail = earlierOf (f .kind) (cond tail (Due 23 0) (earlierOf (f .place) (f .draw)))

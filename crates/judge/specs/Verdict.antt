@@ -2,7 +2,6 @@
 -- chain 22, then 23, per chain 32 then 33, per chain 12 to 15, 41." Assumes nothing.
 use Prim.Native.Nat.{ℕ, suc}
 use mathlib.Core.Bool.{Bool, true, cond, not}
-use mathlib.Core.Option.{Option, none, some}
 use mathlib.Core.List.{List, [], _∷_}
 use lib.ListN.{length, take}
 use lib.Dec.{eqb, ltb}
@@ -13,8 +12,12 @@ use Rattle.chain.specs.declared.Role.{Role}
 use Rattle.chain.specs.Lists.{anyOf}
 use Rattle.chain.specs.Refusals.{wrongKind, placeRefusal, drawRefusal}
 use Rattle.template.specs.declared.Class.{Class}
-use Rattle.template.specs.Template.{classOf, fewest, most, roleOf, hasTail}
+use Rattle.template.specs.Template.{fewest, most, roleOf, hasTail}
+use Rattle.class.specs.declared.Code.{Code}
+use Rattle.class.specs.declared.Code.the-variants.{Known, Unknown}
+use Rattle.class.specs.Class.{classOf}
 use Rattle.judge.specs.declared.Fault.{Fault}
+use Rattle.judge.specs.declared.Fault.the-variants.{Nothing, Due}
 
 -- a refusal by its number and the token's place from 1, 0 for none; or the class and the chains of the tokens
 pub data Verdict : Type 0 where
@@ -25,14 +28,19 @@ pub data Verdict : Type 0 where
 abbrev pub tokens : ℕ → List ℕ → List ℕ → List ℕ → List ℕ → List (List ℕ)
 tokens count sn1 sn2 sn3 sn4 = take count (sn1 ∷ sn2 ∷ sn3 ∷ sn4 ∷ [])
 
--- no refusal
-abbrev pub noFault : Fault
-noFault = record { number = 0; place = 0 }
+-- a number other than 0 is a fault at its place
+unfoldable pub faultAt : ℕ → ℕ → Fault
+faultAt n p = cond (eqb n 0) Nothing (Due n p)
+
+-- a fault, or the next one where there is none
+abbrev pub earlierOf : Fault → Fault → Fault
+earlierOf Nothing g = g
+earlierOf (Due n p) g = Due n p
 
 -- the first chain, from the place p on, to which a test gives a number other than 0 where it stands
 unfoldable pub firstOf : (Role → Chain → ℕ) → Class → ℕ → List Chain → Fault
-firstOf test c p [] = noFault
-firstOf test c p (d ∷ ds) = cond (eqb (test (roleOf c p) d) 0) (firstOf test c (suc p) ds) (record { number = test (roleOf c p) d; place = p })
+firstOf test c p [] = Nothing
+firstOf test c p (d ∷ ds) = earlierOf (faultAt (test (roleOf c p) d) p) (firstOf test c (suc p) ds)
 
 -- 22, "wrong kind of chain for its place", or 0
 unfoldable pub kindRefusal : Role → Chain → ℕ
@@ -42,9 +50,10 @@ kindRefusal r d = cond (wrongKind r d) 22 0
 unfoldable pub wrongTail : Class → List ℕ → Bool
 wrongTail c t = cond (hasTail c) (not (isTail t)) (not (eqb (length t) 0))
 
--- a fault, or what follows
-unfoldable pub orElse : Fault → Verdict → Verdict
-orElse f v = cond (eqb (f .number) 0) v (Refused (f .number) (f .place))
+-- 01's number and place of each case: nothing is due, and what follows; or the refusal
+abbrev pub orElse : Fault → Verdict → Verdict
+orElse Nothing v = v
+orElse (Due n p) v = Refused n p
 
 -- 32 and 33 of every chain, then 12 to 15
 unfoldable pub judgeDrawn : Class → List Chain → Verdict
@@ -67,10 +76,10 @@ wrongCount c count = cond (ltb count (fewest c)) true (ltb (most c) count)
 unfoldable pub judgeTokens : Class → List ℕ → ℕ → List (List ℕ) → Verdict
 judgeTokens c t count ss = cond (wrongCount c count) (Refused 21 0) (judgeRead c t (token.tokensOf ss))
 
--- 20, "class unknown"
-abbrev pub judgeClass : Option Class → List ℕ → ℕ → List (List ℕ) → Verdict
-judgeClass none t count ss = Refused 20 0
-judgeClass (some c) t count ss = judgeTokens c t count ss
+-- 01's number and the value of each case of a class code: 20, "class unknown"; or the class, and what is asked of its request
+abbrev pub judgeClass : Code → List ℕ → ℕ → List (List ℕ) → Verdict
+judgeClass Unknown t count ss = Refused 20 0
+judgeClass (Known c) t count ss = judgeTokens c t count ss
 
 -- a class code, a tail, a number of tokens, and that many of the tokens
 unfoldable pub verdict : List ℕ → List ℕ → ℕ → List (List ℕ) → Verdict

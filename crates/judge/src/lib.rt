@@ -10,6 +10,7 @@ use record::GROUP_ROOM;
 use record::MAX_BONDS;
 use shapes::SHAPE_ROOM;
 use template::Class;
+use token::ReadToken;
 ghost use mathlib.Core.Path.{_≡_};
 ghost use Prim.Native.Nat.{_+_, _*_, _<_, _≤_, min};
 ghost use mathlib.Core.List.{[], _∷_};
@@ -18,8 +19,8 @@ ghost use Rattle.token.specs.Token.{tokenOf};
 ghost use Rattle.token.specs.Request.{tokensOf};
 ghost use Rattle.tail.specs.Grammar.{tailAtoms};
 ghost use Rattle.template.specs.Template.{roleOf};
-ghost use Rattle.judge.specs.Verdict.{tokens, wrongTail, wrongCount, judgeRead, verdict};
-ghost use Rattle.judge.specs.Judged.{JudgedIs, KindIs, sightOf, SeenIs, noFaults, earlierOf, nothingDue, withReasons, dueOf};
+ghost use Rattle.judge.specs.Verdict.{tokens, faultAt, earlierOf, wrongTail, wrongCount, judgeRead, verdict};
+ghost use Rattle.judge.specs.Judged.{JudgedIs, KindIs, SeenIs, noFaults, nothingDue, withReasons, dueOf, orDrawable};
 
 // A class code that is none of the eight.
 pub const UNKNOWN_CLASS: u16 = 20;
@@ -30,76 +31,64 @@ pub const WRONG_KIND: u16 = 22;
 // A tail outside the grammar, or where the class has none.
 pub const WRONG_TAIL: u16 = 23;
 
-// A refusal: its number, 0 for none, and the token's place from 1, 0 for none.
-pub struct Fault {
-    pub number: u16,
-    pub place: usize,
+// A fault of a request: none, or a refusal's number and the token's place from 1, 0 for none.
+pub enum Fault {
+    Nothing,
+    Due { number: u16, place: usize },
 }
 
-// A request that was judged: refused; or its class and the atoms of its tail, and no fault. Its chains stand in arrays that were lent: they
-// would be copied at every call.
-pub struct Judged {
-    pub fault: Fault,
-    pub class: Class,
-    pub tail_atoms: u16,
+// A request that was judged: its class and the atoms of its tail, or why it is refused. Its chains stand in arrays that were lent: they would
+// be copied at every call.
+pub enum Judged {
+    Drawable { class: Class, tail_atoms: u16 },
+    Refused { number: u16, place: usize },
 }
 
-// What one token is refused for: 31 or 11; and its chain, where it is read: 22; 32 or 33; 12 to 15. Each is 0 where nothing is due.
+// What a chain that was read is refused for: 22; 32 or 33; 12 to 15. Each is 0 where nothing is due.
 struct Reasons {
-    token: u16,
     kind: u16,
     place: u16,
     draw: u16,
 }
 
-// A token that was looked at: what it is refused for, and its chain as it is drawn, but for its lists.
-struct Seen {
-    reasons: Reasons,
-    shape: Shape,
+// A token that was looked at: what its chain is refused for, and the chain as it is drawn, but for its lists; or 31 or 11.
+enum Seen {
+    Read { reasons: Reasons, shape: Shape },
+    Refused(u16),
 }
 
-// The first fault of each sort among the tokens looked at so far. The sorts have an order of their own: a fault of a later token comes
-// before one of an earlier token where its sort does.
+// The first fault of each sort among the chains looked at so far. The sorts have an order of their own: a fault of a later chain comes
+// before one of an earlier chain where its sort does.
 struct Faults {
-    token: Fault,
     kind: Fault,
     place: Fault,
     draw: Fault,
 }
 
-impl Judged {
-    // A request that is refused before its tokens are looked at.
-    fn refused(fault: Fault) -> Judged
-        ensures { λ r. ⌜ r .fault ≡ fault ⌝ }
-    {
-        Judged {
-            fault,
-            class: Class::Fa,
-            tail_atoms: 0,
-        }
-    }
-}
-
-// A fault, or the next one where there is none: a number at a place.
-fn earlier(fault: Fault, number: u16, place: usize) -> Fault
-    ensures { λ r. ⌜ r ≡ earlierOf fault number place ⌝ }
+// The fault at a place that a number is, where it is not 0.
+fn fault_at(number: u16, place: usize) -> Fault
+    ensures { λ r. ⌜ r ≡ faultAt number place ⌝ }
 {
-    if fault.number != 0 {
-        return fault;
-    }
     if number == 0 {
-        return fault;
+        return Fault::Nothing;
     }
-    Fault { number, place }
+    Fault::Due { number, place }
 }
 
-// Whether a token is refused for nothing, as most are.
+// A fault, or the next one where there is none.
+fn earlier(fault: Fault, next: Fault) -> Fault
+    ensures { λ r. ⌜ r ≡ earlierOf fault next ⌝ }
+{
+    match fault {
+        Fault::Nothing => next,
+        Fault::Due { number, place } => Fault::Due { number, place },
+    }
+}
+
+// Whether a chain is refused for nothing, as most are.
 fn nothing_due(reasons: Reasons) -> bool
     ensures { λ r. ⌜ r ≡ nothingDue reasons ⌝ }
 {
-    if reasons.token != 0 {
-        return false;
-    }
     if reasons.kind != 0 {
         return false;
     }
@@ -113,53 +102,54 @@ impl Faults {
     fn new() -> Faults
         ensures { λ r. ⌜ r ≡ noFaults ⌝ }
     {
-        let none = Fault {
-            number: 0,
-            place: 0,
-        };
         Faults {
-            token: none,
-            kind: none,
-            place: none,
-            draw: none,
+            kind: Fault::Nothing,
+            place: Fault::Nothing,
+            draw: Fault::Nothing,
         }
     }
 
-    // One token more, with its place.
+    // One chain more, with its token's place.
     fn join(self, reasons: Reasons, place: usize) -> Faults
         ensures { λ r. ⌜ r ≡ withReasons self reasons place ⌝ }
     {
+        let kind = self.kind;
+        let spot = self.place;
+        let draw = self.draw;
         Faults {
-            token: earlier(self.token, reasons.token, place),
-            kind: earlier(self.kind, reasons.kind, place),
-            place: earlier(self.place, reasons.place, place),
-            draw: earlier(self.draw, reasons.draw, place),
+            kind: earlier(kind, fault_at(reasons.kind, place)),
+            place: earlier(spot, fault_at(reasons.place, place)),
+            draw: earlier(draw, fault_at(reasons.draw, place)),
         }
     }
 
-    // The fault that is due: that of a token, of a kind, of the tail if it is outside the grammar, of a place, of a drawing.
+    // The fault that is due: that of a kind, of the tail if it is outside the grammar, of a place, of a drawing.
     fn due(self, outside: bool) -> Fault
         ensures { λ r. ⌜ r ≡ dueOf self outside ⌝ }
     {
-        let token = self.token;
         let kind = self.kind;
         let place = self.place;
-        if token.number != 0 {
-            return token;
-        }
-        if kind.number != 0 {
-            return kind;
-        }
+        let draw = self.draw;
         if outside {
-            return Fault {
-                number: WRONG_TAIL,
-                place: 0,
-            };
+            return earlier(
+                kind,
+                Fault::Due {
+                    number: WRONG_TAIL,
+                    place: 0,
+                },
+            );
         }
-        if place.number != 0 {
-            return place;
-        }
-        self.draw
+        earlier(kind, earlier(place, draw))
+    }
+}
+
+// The fault that is due, or the request as it is drawn where there is none.
+fn or_drawable(fault: Fault, class: Class, tail_atoms: u16) -> Judged
+    ensures { λ r. ⌜ r ≡ orDrawable fault class «tail_atoms» ⌝ }
+{
+    match fault {
+        Fault::Due { number, place } => Judged::Refused { number, place },
+        Fault::Nothing => Judged::Drawable { class, tail_atoms },
     }
 }
 
@@ -212,30 +202,34 @@ fn see(
     part: &mut [u64],
 ) -> Seen
     requires { ⌜ length (now part) ≡ 77 ⌝ }
-    ensures { λ r. ⌜ SeenIs role (sightOf r (now (part .exit))) (tokenOf (now (token .entry))) ⌝ }
+    ensures { λ r. ⌜ SeenIs role r (now (part .exit)) (tokenOf (now (token .entry))) ⌝ }
 {
     let read = token::parse_token(token, bonds, groups, &mut part[69..77]);
-    let prefix = read.prefix;
-    let counts = read.counts;
-    let shape = fitted::drawn_as(
-        role,
-        prefix,
-        read.carbon,
-        read.unlocated,
-        bonds,
-        counts.bonds,
-        groups,
-        counts.groups,
-        counts.rings,
-        part,
-    );
-    let reasons = Reasons {
-        token: read.refusal,
-        kind: kind_refusal(role, prefix, read.carbon),
-        place: refusals::place_refusal(shape, part),
-        draw: refusals::draw_refusal(shape, part),
-    };
-    Seen { reasons, shape }
+    match read {
+        ReadToken::Refused(number) => Seen::Refused(number),
+        ReadToken::Read(said) => {
+            let prefix = said.prefix;
+            let counts = said.counts;
+            let shape = fitted::drawn_as(
+                role,
+                prefix,
+                said.carbon,
+                said.unlocated,
+                bonds,
+                counts.bonds,
+                groups,
+                counts.groups,
+                counts.rings,
+                part,
+            );
+            let reasons = Reasons {
+                kind: kind_refusal(role, prefix, said.carbon),
+                place: refusals::place_refusal(shape, part),
+                draw: refusals::draw_refusal(shape, part),
+            };
+            Seen::Read { reasons, shape }
+        }
+    }
 }
 
 // Token i, counted from 0, in its place.
@@ -252,7 +246,7 @@ fn look<'a>(
 ) -> Seen
     requires { ⌜ i < 4 ⌝ }
     requires { ⌜ length (now part) ≡ 77 ⌝ }
-    ensures { λ r. ⌜ SeenIs (roleOf class (i + 1)) (sightOf r (now (part .exit))) (tokenOf (getD (now (sn1 .entry) ∷ now (sn2 .entry) ∷ now (sn3 .entry) ∷ now (sn4 .entry) ∷ []) i [])) ⌝ }
+    ensures { λ r. ⌜ SeenIs (roleOf class (i + 1)) r (now (part .exit)) (tokenOf (getD (now (sn1 .entry) ∷ now (sn2 .entry) ∷ now (sn3 .entry) ∷ now (sn4 .entry) ∷ []) i [])) ⌝ }
 {
     let role = class::role_of(class, i + 1);
     see(role, token_at(i, sn1, sn2, sn3, sn4), bonds, groups, part)
@@ -292,20 +286,26 @@ fn judge_tokens<'a>(
             &mut groups,
             &mut lists[from..to],
         );
-        shapes::keep_shape(shapes, i, seen.shape);
-        i += 1;
-        // It leaves the faults as they are, and they are not copied.
-        if nothing_due(seen.reasons) {
-            continue;
+        let place = i + 1;
+        match seen {
+            // No later token is asked: what it says comes after this one's refusal.
+            Seen::Refused(number) => {
+                return Judged::Refused { number, place };
+            }
+            Seen::Read { reasons, shape } => {
+                shapes::keep_shape(shapes, i, shape);
+                i = place;
+                // It leaves the faults as they are, and they are not copied.
+                if nothing_due(reasons) {
+                    continue;
+                }
+                faults = faults.join(reasons, place);
+                continue;
+            }
         }
-        faults = faults.join(seen.reasons, i);
     }
     let atoms = tail::tail_atoms(tail);
-    Judged {
-        fault: faults.due(wrong_tail(class, tail, atoms)),
-        class,
-        tail_atoms: atoms,
-    }
+    or_drawable(faults.due(wrong_tail(class, tail, atoms)), class, atoms)
 }
 
 // Whether a class takes another number of tokens.
@@ -335,16 +335,16 @@ pub fn judge<'a>(
     ensures { λ r. ⌜ JudgedIs r count (now (shapes .exit)) (now (lists .exit)) (now (tail .entry)) (verdict (now (class .entry)) (now (tail .entry)) count (tokens count (now (sn1 .entry)) (now (sn2 .entry)) (now (sn3 .entry)) (now (sn4 .entry)))) ⌝ }
 {
     let Code::Known(known) = class::class_of(class) else {
-        return Judged::refused(Fault {
+        return Judged::Refused {
             number: UNKNOWN_CLASS,
             place: 0,
-        });
+        };
     };
     if wrong_count(known, count) {
-        return Judged::refused(Fault {
+        return Judged::Refused {
             number: WRONG_COUNT,
             place: 0,
-        });
+        };
     }
     judge_tokens(known, tail, count, sn1, sn2, sn3, sn4, shapes, lists)
 }

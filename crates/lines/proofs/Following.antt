@@ -4,7 +4,7 @@ use Prim.Native.Nat.{ℕ, zero, suc, _+_, _≤_, _<_, _^_, min}
 use native.Mathlib.Nat.{zero-add}
 use native.Mathlib.Omega.{arith}
 use mathlib.Core.Path.{_≡_, refl, sym, ap, _∙_}
-use mathlib.Core.Bool.{Bool, true}
+use mathlib.Core.Bool.{Bool}
 use mathlib.Core.List.{List, [], _∷_, _++_, map}
 use lib.ListN.{length, take, drop}
 use lib.Seq.{sets-eq}
@@ -14,7 +14,6 @@ use Rattle.record.specs.Chain.{Chain}
 use Rattle.shown.specs.declared.Site.{Site}
 use Rattle.drawable.specs.Chains.{Chains}
 use Rattle.template.specs.declared.Class.{Class}
-use Rattle.template.specs.Template.{elements, hasTail}
 use Rattle.template.specs.Drawn as request
 use Rattle.template.specs.Drawn.{placed, bySn, snSites, labels, allMarks, allSites, allSums}
 use Rattle.template.specs.Written.{indicesOf, textOf, lineOf}
@@ -32,12 +31,11 @@ use Rattle.chain_marks.proofs.Told.{marks-told, sums-told, marked-sums}
 use Rattle.chain_sites.proofs.Told.{sites-told}
 use Rattle.blocks.proofs.Notes.{line-noted}
 use Rattle.builder.specs.declared.Builder.{Builder}
-use Rattle.builder.specs.Build.{rooms, placedIn}
+use Rattle.builder.specs.Build.{Rooms, rooms, placedIn}
 use Rattle.builder.specs.Line.{sitesIn, Few, notesAfter, Finished}
-use Rattle.templates.specs.Templates.{FitsAll, TailOf}
-use Rattle.templates.specs.Classes.{StoodIn, ClassBuilt}
+use Rattle.templates.specs.Classes.{Classed, ClassBuilt}
 use Rattle.templates.proofs.Built.{Short}
-use Rattle.lines.specs.Line.{Roomy, LineIs, LineBuilt}
+use Rattle.lines.specs.Line.{Writes, Writable, LineIs, LineBuilt}
 
 -- ---- the sites
 
@@ -47,7 +45,7 @@ length-take-le (suc n) [] = omega arith
 length-take-le (suc n) (x ∷ l) = omega (arith, length-take-le n l)
 
 -- those of chains in order can be written
-few-sites : (l : List Placed) (count : ℕ) (o : Rising) (r : Sites) → InOrder (take count l) o → SitesHeld (sitesAt l (placesIn o)) r → Few r
+pub few-sites : (l : List Placed) (count : ℕ) (o : Rising) (r : Sites) → InOrder (take count l) o → SitesHeld (sitesAt l (placesIn o)) r → Few r
 few-sites l count o r i h =
     let w = sites-in-order l count o r i h in
     record { count = omega (arith, w .count, length-take-le 4 (allSiteList (take count l))); digits = w .digits }
@@ -62,6 +60,10 @@ written-front {xs} {ts = ts} w h = rw (w .elements, rw (zero-add (length ts)) at
     go (x ∷ l) r = ap (λ (z : List ℕ). x ∷ z) (go l r)
 
 -- ---- the line
+
+-- the chains of a line are those of its class
+pub line-classed : {c : Class} {t : List ℕ} {k : ℕ} {x : Chains} {xs : Rooms} → Writable c t k x xs → Classed c t k x
+line-classed w = record { chains = w .chains; own = w .writes .own }
 
 line-is : (c : Class) (swap : Bool) (t : List ℕ) (ds : List Chain) (s : Sites) (numbers rows : List ℕ) (n m : ℕ) → Each Told (placed c t ds)
     → SitesAre (allSiteList (map noted (placed c t ds))) s → take n numbers ≡ gathered indicesOf (placed c t ds) → take m rows ≡ gathered rowsOf (placed c t ds)
@@ -87,19 +89,16 @@ line-built {c} {swap} {t} {k} {x} {xs} {ys} {zs} {is} {js} {rs} {ss} {ns} {ms} {
     sited : SitesAre (allSiteList (take (b .count) (chainsIn ms))) s
     sited = sites-in-order (chainsIn ms) (b .count) o s i h
 
-    few : Few s
-    few = few-sites (chainsIn ms) (b .count) o s i h
-
-    line : (ds : List Chain) → (hasTail c ≡ true → TailOf t k) → StoodIn c ds x → FitsAll t ds (elements c) → Each Told (placed c t ds)
-        → Roomy (placed c t ds) (rooms xs is rs ns) → LineIs c swap t ds (rooms xs is rs ns) (rooms zs js ss ms) (record { at = q .at; used = q .used; count = q .count; order = o; sites = s })
-    line ds a d e p m =
-        let u = w .built ds a d e in
+    line : (ds : List Chain) → Writes c t k x (rooms xs is rs ns) ds → LineIs c swap t ds (rooms xs is rs ns) (rooms zs js ss ms) (record { at = q .at; used = q .used; count = q .count; order = o; sites = s })
+    line ds m =
+        let u = w .built ds (m .own) in
+        let p = m .told in
         let own : Written is 0 (gathered indicesOf (placed c t ds)) js (b .used) = rw (index-lists (placed c t ds) p) at (u .index) in
-        let n : b .used ≡ length (gathered indicesOf (placed c t ds)) = omega (arith, own .next, m .index, g .index) in
-        let front : take (length (gathered indicesOf (placed c t ds))) js ≡ gathered indicesOf (placed c t ds) = written-front own (m .index) in
-        let behind : take (length (gathered rowsOf (placed c t ds))) ss ≡ gathered rowsOf (placed c t ds) = written-front (u .rows) (m .rows) in
+        let n : b .used ≡ length (gathered indicesOf (placed c t ds)) = omega (arith, own .next, m .room .index, g .index) in
+        let front : take (length (gathered indicesOf (placed c t ds))) js ≡ gathered indicesOf (placed c t ds) = written-front own (m .room .index) in
+        let behind : take (length (gathered rowsOf (placed c t ds))) ss ≡ gathered rowsOf (placed c t ds) = written-front (u .rows) (m .room .rows) in
         let there : take (b .count) (chainsIn ms) ≡ map noted (placed c t ds) = u .counts .placed in
-        let after : Written ys (b .at) (notesAfter swap (sitesIn s) (map noted (placed c t ds)) js ss) zs (q .at) = rw there at (f .text few) in
+        let after : Written ys (b .at) (notesAfter swap (sitesIn s) (map noted (placed c t ds)) js ss) zs (q .at) = rw there at (f .text) in
         let z = line-is c swap t ds s js ss (length (gathered indicesOf (placed c t ds))) (length (gathered rowsOf (placed c t ds))) p (rw there at sited) front behind in
         record {
           text = rw z (written-append (g .text) (u .text) after);

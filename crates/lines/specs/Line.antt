@@ -1,14 +1,13 @@
 -- The line of a class. Assumes nothing.
 use Prim.Native.Nat.{ℕ, _≤_}
 use mathlib.Core.Path.{_≡_}
-use mathlib.Core.Bool.{Bool, true}
+use mathlib.Core.Bool.{Bool}
 use mathlib.Core.List.{List, map}
 use lib.ListN.{length, take}
 use Rattle.emit.specs.Text.{Written}
 use Rattle.record.specs.Chain.{Chain}
 use Rattle.drawable.specs.Chains.{Chains}
 use Rattle.template.specs.declared.Class.{Class}
-use Rattle.template.specs.Template.{elements, hasTail}
 use Rattle.template.specs.Drawn as request
 use Rattle.template.specs.Drawn.{placed}
 use Rattle.template.specs.Written.{indicesOf, lineOf}
@@ -19,8 +18,7 @@ use Rattle.placed.specs.Fragment.{noted, rowsOf, gathered, Told}
 use Rattle.listing.specs.Order.{InOrder}
 use Rattle.listing.specs.Sites.{allSiteList, SitesAre}
 use Rattle.builder.specs.Build.{Rooms, Sizes}
-use Rattle.templates.specs.Templates.{FitsAll, TailOf}
-use Rattle.templates.specs.Classes.{StoodIn}
+use Rattle.templates.specs.Classes.{InClass}
 use Rattle.lines.specs.declared.Line.{Line}
 
 -- the chains of a line, in the order of the text, by what is noted of them
@@ -32,6 +30,17 @@ pub record Roomy (ps : List request.Placed) (xs : Rooms) : Type 0 where
   pub index : length (gathered indicesOf ps) ≤ length (xs .index)
   pub rows : length (gathered rowsOf ps) ≤ length (xs .rows)
 
+-- the chains ds of a request are x, the numbers of their places leave room, and there is room for their indices and rows
+pub record Writes (c : Class) (t : List ℕ) (k : ℕ) (x : Chains) (xs : Rooms) (ds : List Chain) : Type 0 where
+  pub own : InClass c t k x ds
+  pub told : Each Told (placed c t ds)
+  pub room : Roomy (placed c t ds) xs
+
+-- some request has these chains
+pub record Writable (c : Class) (t : List ℕ) (k : ℕ) (x : Chains) (xs : Rooms) : Type 0 where
+  pub chains : List Chain
+  pub writes : Writes c t k x xs chains
+
 -- the line is written from the first place on; its chains are noted, and their indices end to end in the slice
 pub record LineIs (c : Class) (swap : Bool) (t : List ℕ) (ds : List Chain) (xs ys : Rooms) (r : Line) : Type 0 where
   pub text : Written (xs .text) 0 (lineOf c swap t ds) (ys .text) (r .at)
@@ -40,10 +49,9 @@ pub record LineIs (c : Class) (swap : Bool) (t : List ℕ) (ds : List Chain) (xs
   pub index : take (r .used) (ys .index) ≡ gathered indicesOf (placed c t ds)
   pub indices : Written (xs .index) 0 (gathered indicesOf (placed c t ds)) (ys .index) (r .used)
 
--- the line of a class
+-- the line of every request that has them
 pub record LineBuilt (c : Class) (swap : Bool) (t : List ℕ) (k : ℕ) (x : Chains) (xs ys : Rooms) (r : Line) : Type 0 where
   pub sizes : Sizes xs ys
   pub order : InOrder (chainsOf r (ys .notes)) (r .order)
   pub sites : SitesAre (allSiteList (chainsOf r (ys .notes))) (r .sites)
-  pub line : (ds : List Chain) → (hasTail c ≡ true → TailOf t k) → StoodIn c ds x → FitsAll t ds (elements c) → Each Told (placed c t ds)
-      → Roomy (placed c t ds) xs → LineIs c swap t ds xs ys r
+  pub line : (ds : List Chain) → Writes c t k x xs ds → LineIs c swap t ds xs ys r

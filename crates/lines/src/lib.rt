@@ -6,7 +6,7 @@ use shapes::SHAPE_ROOM;
 use template::Class;
 ghost use Rattle.shapes.specs.Shapes.{chainsKept};
 ghost use Rattle.builder.specs.Build.{rooms};
-ghost use Rattle.lines.specs.Line.{LineBuilt};
+ghost use Rattle.lines.specs.Line.{Writable, LineBuilt};
 
 // A line that is written: its length, how many indices its chains have, how many chains there are, their places by rising sn, and its sites.
 // The builder itself is left behind: what comes back is only what is asked for.
@@ -19,7 +19,7 @@ pub struct Line {
 }
 
 // The line of a class, with the chains of the request. The indices of the chains and the rows of their floating groups are written to slices of
-// their own, from which the site lists are made; where each chain stands is noted in an array.
+// their own, from which the site lists are made; where each chain stands is noted in an array. Both slices need room for all of them.
 pub fn build_line(
     out: &mut [u8],
     index: &mut [u16],
@@ -33,6 +33,7 @@ pub fn build_line(
     shapes: &[u64; SHAPE_ROOM],
     lists: &[u64],
 ) -> Line
+    requires { ⌜ Writable class (now tail) «tail_atoms» (chainsKept count (now shapes) (now lists)) (rooms (now out) (now index) (now rows) (now notes)) ⌝ }
     ensures { λ r. ⌜ LineBuilt class swap (now (tail .entry)) «tail_atoms» (chainsKept count (now (shapes .entry)) (now (lists .entry))) (rooms (now (out .entry)) (now (index .entry)) (now (rows .entry)) (now (notes .entry))) (rooms (now (out .exit)) (now (index .exit)) (now (rows .exit)) (now (notes .exit))) r ⌝ }
 {
     let b = templates::class_smiles(

@@ -6,7 +6,7 @@ use record::Ring;
 ghost use mathlib.Core.Path.{_≡_};
 ghost use Rattle.chain.specs.Lists.{anyOf};
 ghost use Rattle.chain.specs.Refusals.{doubleOff, groupOff, ringOff, offChain};
-ghost use Rattle.drawable.specs.Drawn.{bondsIn, groupsIn, ringsIn, drawnOf, Says};
+ghost use Rattle.drawable.specs.Drawn.{bondsIn, groupsIn, ringsIn, drawnOf, Says, DrawsSome};
 
 // Whether a double bond is outside of the carbons from `first` up to, not including, `carbon`.
 fn bond_off(bond: DbPos, first: u16, carbon: u16) -> bool
@@ -105,6 +105,7 @@ fn any_ring_off(rings: &[u64], count: usize, first: u16, acyl: bool) -> bool
 // 32: whether a feature is off the drawn chain. A located group on a chain without carbons is off it, so only those that float are left to
 // be asked about there.
 pub fn off_chain(x: Shape, part: &[u64]) -> bool
+    requires { ⌜ DrawsSome (drawnOf x (now part)) ⌝ }
     ensures { λ r. ⌜ Says (drawnOf x (now (part .entry))) r offChain ⌝ }
 {
     let first = x.first;

@@ -16,14 +16,16 @@ use Rattle.scan.proofs.Laws.{to-end, starts-length}
 use Rattle.groups.specs.Groups.{methyl}
 use Rattle.record.specs.declared.ChainPrefix.{ChainPrefix}
 use Rattle.record.specs.declared.ChainPrefix.the-variants.{Acyl, EtherAlkyl, EtherAlkenyl, SphingoidD, SphingoidT}
-use Rattle.record.specs.Chain.{Chain, Outcome, Read, Refused, noFeatures, withGroup, maxCarbons, unreadable, overLimit}
+use Rattle.record.specs.Chain.{Chain, Read, Refused, noFeatures, withGroup, maxCarbons, unreadable, overLimit}
 use Rattle.parsed.specs.Parsed.{Grows, first, groupsAs}
-use Rattle.parsed.proofs.Laws.{holds-none}
+use Rattle.parsed.proofs.Laws.{holds-none, stands-read}
 use Rattle.opening.specs.declared.Branch.{Branch}
 use Rattle.opening.specs.declared.Branch.the-variants.{Straight, Iso, Anteiso}
 use Rattle.opening.specs.declared.Opening.{Opening}
+use Rattle.opening.specs.declared.Start.{Start}
 use Rattle.opening.specs.declared.Started.{Started}
-use Rattle.opening.specs.Opening.{isoText, anteisoText, branchOf, branchLength, etherText, alkenylText, sphingoidOf, beforeDigit, prefixOf, prefixLength, secondWord, openingOf, branchOffset, branched, startChain, carbonsBy, carbonsOf, Word, Prefixed, Opened, startedAs, Starts}
+use Rattle.opening.specs.declared.Started.the-variants.{Read as Started·Read, Refused as Started·Refused}
+use Rattle.opening.specs.Opening.{isoText, anteisoText, branchOf, branchLength, etherText, alkenylText, sphingoidOf, beforeDigit, prefixOf, prefixLength, secondWord, openingOf, branchOffset, branched, startChain, carbonsBy, carbonsOf, Word, Prefixed, Opened, startAs, Starts}
 
 -- ---- the branch word
 
@@ -170,23 +172,23 @@ opened-digit (x ∷ y ∷ s) d p m h e n f g =
 -- ---- the carbons
 
 module _ (p : ChainPrefix) (offset w : ℕ) where
-  pub too-few : (r : Started) (gs : List ℕ) → w < offset + 3 → r .refusal ≡ 11 → Starts r gs (branched p offset w)
+  pub too-few : (gs : List ℕ) → w < offset + 3 → Starts (Started·Refused 11) gs (branched p offset w)
   unfolding branched
-  too-few r gs h e = record { stands = λ bs rs. rw (lt-ltb w (offset + 3) h) (e, omega arith) }
+  too-few gs h = record { stands = λ bs rs. rw (lt-ltb w (offset + 3) h) refl }
 
   pub methyl-on : (m : ℕ) (gs ys : List ℕ) → offset + 3 ≤ w → Grows groupsAs (first 0 gs) (first m ys) (withGroup (record { pos = w - 1 - offset; row = 1 }))
-      → Starts (record { refusal = 0; prefix = p; written = w; carbon = w - 1; branched = true; groups = m }) ys (branched p offset w)
+      → Starts (Started·Read (record { prefix = p; written = w; carbon = w - 1; branched = true; groups = m })) ys (branched p offset w)
   unfolding branched
   methyl-on m gs ys h t =
       record {
         stands = λ bs rs.
-            let start : Started = record { refusal = 0; prefix = p; written = w; carbon = w - 1; branched = true; groups = 0 } in
-            rw (le-ltb w (offset + 3) h) (refl, t .takes (startedAs start bs gs rs) .holds (noFeatures p w (w - 1) true) (holds-none p w (w - 1) true bs gs rs));
+            let start : Start = record { prefix = p; written = w; carbon = w - 1; branched = true; groups = 0 } in
+            rw (le-ltb w (offset + 3) h) (t .takes (startAs start bs gs rs) .holds (noFeatures p w (w - 1) true) (holds-none p w (w - 1) true bs gs rs));
       }
 
 module _ (p : ChainPrefix) (b : Branch) (w : ℕ) (gs : List ℕ) where
-  pub start-straight : b ≡ Straight → Starts (record { refusal = 0; prefix = p; written = w; carbon = w; branched = false; groups = 0 }) gs (startChain p b w)
-  start-straight e = rw e (record { stands = λ bs rs. (refl, holds-none p w w false bs gs rs) })
+  pub start-straight : b ≡ Straight → Starts (Started·Read (record { prefix = p; written = w; carbon = w; branched = false; groups = 0 })) gs (startChain p b w)
+  start-straight e = rw e (record { stands = λ bs rs. holds-none p w w false bs gs rs })
 
   pub start-iso : (o : ℕ) (r : Started) → b ≡ Iso → o ≡ branchOffset b → Starts r gs (branched p o w) → Starts r gs (startChain p b w)
   start-iso o r e f s = let g : o ≡ 1 = f ∙ ap branchOffset e in rw e (rw g at s)
@@ -194,46 +196,52 @@ module _ (p : ChainPrefix) (b : Branch) (w : ℕ) (gs : List ℕ) where
   pub start-anteiso : (o : ℕ) (r : Started) → b ≡ Anteiso → o ≡ branchOffset b → Starts r gs (branched p o w) → Starts r gs (startChain p b w)
   start-anteiso o r e f s = let g : o ≡ 2 = f ∙ ap branchOffset e in rw e (rw g at s)
 
-module _ (p : ChainPrefix) (b : Branch) (t : List ℕ) (v : Number) (e : v ≡ numberUpTo 4294967295 t) (r : Started) (gs : List ℕ) where
-  pub carbons-unreadable : v ≡ Unreadable → r .refusal ≡ 11 → Starts r gs (carbonsOf p b t)
+module _ (p : ChainPrefix) (b : Branch) (t : List ℕ) (v : Number) (e : v ≡ numberUpTo 4294967295 t) (gs : List ℕ) where
+  pub carbons-unreadable : v ≡ Unreadable → Starts (Started·Refused 11) gs (carbonsOf p b t)
   unfolding carbonsOf
-  carbons-unreadable f h = record { stands = λ bs rs. rw (sym e ∙ f) (h, omega arith) }
+  carbons-unreadable f = record { stands = λ bs rs. rw (sym e ∙ f) refl }
 
-  pub carbons-over : (n : ℕ) → v ≡ Value n → 255 < n → r .refusal ≡ 31 → Starts r gs (carbonsOf p b t)
+  pub carbons-over : (n : ℕ) → v ≡ Value n → 255 < n → Starts (Started·Refused 31) gs (carbonsOf p b t)
   unfolding carbonsOf
-  carbons-over n f h k = record { stands = λ bs rs. rw (sym e ∙ f, lt-ltb maxCarbons n h) (k, omega arith) }
+  carbons-over n f h = record { stands = λ bs rs. rw (sym e ∙ f, lt-ltb maxCarbons n h) refl }
 
-  pub carbons-read : (n : ℕ) → v ≡ Value n → n ≤ 255 → Starts r gs (startChain p b n) → Starts r gs (carbonsOf p b t)
+  pub carbons-read : (n : ℕ) (r : Started) → v ≡ Value n → n ≤ 255 → Starts r gs (startChain p b n) → Starts r gs (carbonsOf p b t)
   unfolding carbonsOf
-  carbons-read n f h s = record { stands = λ bs rs. rw (sym e ∙ f, le-ltb maxCarbons n h) (s .stands bs rs) }
+  carbons-read n r f h s = record { stands = λ bs rs. rw (sym e ∙ f, le-ltb maxCarbons n h) (s .stands bs rs) }
 
 -- ---- what callers use: the chain that carbons give
 
-branched-few : (p : ChainPrefix) (o w : ℕ) (d : Chain) → w ≤ 255 → branched p o w ≡ Read d → (d .carbon ≤ maxCarbons) × (d .bonds ≡ [])
+branched-few : (p : ChainPrefix) (o w : ℕ) (d : Chain) → w ≤ 255 → branched p o w ≡ Read d → d .carbon ≤ maxCarbons
 unfolding branched withGroup
 branched-few p o w d l h = go (ltb w (o + 3)) h
   where
     c : Chain
     c = withGroup (record { pos = w - 1 - o; row = methyl }) (noFeatures p w (w - 1) true)
 
-    go : (b : Bool) → cond b (Refused unreadable) (Read c) ≡ Read d → (d .carbon ≤ maxCarbons) × (d .bonds ≡ [])
+    go : (b : Bool) → cond b (Refused unreadable) (Read c) ≡ Read d → d .carbon ≤ maxCarbons
     go true h = let z : _≡_ {A = ℕ} 0 1 = cc in absurd (omega arith)
-    go false h = let z : c ≡ d = cc in rw (← z) (omega arith, refl)
+    go false h = let z : c ≡ d = cc in rw (← z) (omega arith)
 
--- its carbons are within the limit, and it has no double bond yet
-pub carbons-few : (p : ChainPrefix) (b : Branch) (t : List ℕ) (d : Chain) → carbonsOf p b t ≡ Read d → (d .carbon ≤ maxCarbons) × (d .bonds ≡ [])
+carbons-few : (p : ChainPrefix) (b : Branch) (t : List ℕ) (d : Chain) → carbonsOf p b t ≡ Read d → d .carbon ≤ maxCarbons
 unfolding carbonsOf
 carbons-few p b t d h = value (numberUpTo numberLimit t) h
   where
-    start : (b : Branch) (n : ℕ) → n ≤ 255 → startChain p b n ≡ Read d → (d .carbon ≤ maxCarbons) × (d .bonds ≡ [])
-    start Straight n l h = let z : noFeatures p n n false ≡ d = cc in rw (← z) (l, refl)
+    start : (b : Branch) (n : ℕ) → n ≤ 255 → startChain p b n ≡ Read d → d .carbon ≤ maxCarbons
+    start Straight n l h = let z : noFeatures p n n false ≡ d = cc in rw (← z) l
     start Iso n l h = branched-few p 1 n d l h
     start Anteiso n l h = branched-few p 2 n d l h
 
-    test : (x : Bool) (n : ℕ) → ltb maxCarbons n ≡ x → cond x (Refused overLimit) (startChain p b n) ≡ Read d → (d .carbon ≤ maxCarbons) × (d .bonds ≡ [])
+    test : (x : Bool) (n : ℕ) → ltb maxCarbons n ≡ x → cond x (Refused overLimit) (startChain p b n) ≡ Read d → d .carbon ≤ maxCarbons
     test true n e h = let z : _≡_ {A = ℕ} 0 1 = cc in absurd (omega arith)
     test false n e h = start b n (ltb-false maxCarbons n e) h
 
-    value : (v : Number) → carbonsBy p b v ≡ Read d → (d .carbon ≤ maxCarbons) × (d .bonds ≡ [])
+    value : (v : Number) → carbonsBy p b v ≡ Read d → d .carbon ≤ maxCarbons
     value (Value n) h = test (ltb maxCarbons n) n refl h
     value Unreadable h = let z : _≡_ {A = ℕ} 0 1 = cc in absurd (omega arith)
+
+-- its carbons are within the limit
+pub start-few : (p : ChainPrefix) (b : Branch) (t gs : List ℕ) (r : Started) (s : Start) → Starts r gs (carbonsOf p b t) → r ≡ Started·Read s → s .carbon ≤ maxCarbons
+start-few p b t gs r s w e =
+    let v : Starts (Started·Read s) gs (carbonsOf p b t) = rw e at w in
+    let q = stands-read (startAs s [] gs []) (carbonsOf p b t) (v .stands [] []) in
+    omega (arith, carbons-few p b t (q .0) (q .1), q .2 .carbon)

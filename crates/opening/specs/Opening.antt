@@ -14,12 +14,14 @@ use Rattle.groups.specs.Groups.{methyl}
 use Rattle.record.specs.declared.ChainPrefix.{ChainPrefix}
 use Rattle.record.specs.declared.ChainPrefix.the-variants.{Acyl, EtherAlkyl, EtherAlkenyl, SphingoidD, SphingoidT}
 use Rattle.parsed.specs.declared.ParsedChain.{ParsedChain}
-use Rattle.parsed.specs.Parsed.{Stands}
+use Rattle.parsed.specs.Parsed.{Answer, Has, Refuses, Stands}
 use Rattle.record.specs.Chain.{Outcome, Read, Refused, unreadable, overLimit, maxCarbons, noFeatures, withGroup}
 use Rattle.opening.specs.declared.Branch.{Branch}
 use Rattle.opening.specs.declared.Branch.the-variants.{Straight, Iso, Anteiso}
 use Rattle.opening.specs.declared.Opening.{Opening}
+use Rattle.opening.specs.declared.Start.{Start}
 use Rattle.opening.specs.declared.Started.{Started}
+use Rattle.opening.specs.declared.Started.the-variants.{Read as Started·Read, Refused as Started·Refused}
 
 -- `iso-`
 abbrev pub isoText : List ℕ
@@ -125,10 +127,15 @@ pub record Opened (t : List ℕ) (r : Opening) : Type 0 where
   pub within : r .carbons ≤ length t
 
 -- the record of a chain that was started, with these arrays
-abbrev pub startedAs : Started → List ℕ → List ℕ → List ℕ → ParsedChain
-startedAs r bs gs rs =
+abbrev pub startAs : Start → List ℕ → List ℕ → List ℕ → ParsedChain
+startAs r bs gs rs =
     record { prefix = r .prefix; written = r .written; carbon = r .carbon; branched = r .branched; unlocated = 0; oxygens = 0; «bond_count» = 0; bonds = bs; «group_count» = r .groups; groups = gs; «ring_count» = 0; rings = rs }
+
+-- 01's number and the values of each case: that record, or 11 or 31
+abbrev pub started : Started → List ℕ → List ℕ → List ℕ → Answer ParsedChain
+started (Started·Read r) bs gs rs = Has (startAs r bs gs rs)
+started (Started·Refused n) bs gs rs = Refuses n
 
 -- r stands for an outcome, with the groups gs
 pub record Starts (r : Started) (gs : List ℕ) (o : Outcome) : Type 0 where
-  pub stands : (bs rs : List ℕ) → Stands (record { refusal = r .refusal; chain = startedAs r bs gs rs }) o
+  pub stands : (bs rs : List ℕ) → Stands (started r bs gs rs) o

@@ -161,10 +161,8 @@ fn branch_offset(b: Branch) -> u16
     }
 }
 
-// The start of a chain: its prefix; the carbons written, and those left after a branch word; whether there was one, and how many groups it gave; or a
-// refusal by its number (0: none).
-pub struct Started {
-    pub refusal: u16,
+// The start of a chain: its prefix; the carbons written, and those left after a branch word; whether there was one, and how many groups it gave.
+pub struct Start {
     pub prefix: ChainPrefix,
     pub written: u16,
     pub carbon: u16,
@@ -172,18 +170,10 @@ pub struct Started {
     pub groups: usize,
 }
 
-// Refused: what stands beside the number says nothing.
-fn refused(refusal: u16) -> Started
-    ensures { λ r. ⌜ r .refusal ≡ refusal ⌝ }
-{
-    Started {
-        refusal,
-        prefix: ChainPrefix::Acyl,
-        written: 0,
-        carbon: 0,
-        branched: false,
-        groups: 0,
-    }
+// The start of a chain, or the number by which it is refused.
+pub enum Started {
+    Read(Start),
+    Refused(u16),
 }
 
 // A chain with a branch word: one carbon of those written is the methyl.
@@ -193,7 +183,7 @@ fn branched_chain(prefix: ChainPrefix, offset: u16, written: u16, groups: &mut [
     ensures { λ r. ⌜ Starts r (now (groups .exit)) (branched prefix offset written) ⌝ }
 {
     if written < offset + 3 {
-        return refused(record::UNREADABLE);
+        return Started::Refused(record::UNREADABLE);
     }
     let carbon = written - 1;
     let methyl = Mod {
@@ -201,14 +191,13 @@ fn branched_chain(prefix: ChainPrefix, offset: u16, written: u16, groups: &mut [
         row: METHYL,
     };
     let count = parsed::push_group(groups, 0, methyl);
-    Started {
-        refusal: 0,
+    Started::Read(Start {
         prefix,
         written,
         carbon,
         branched: true,
         groups: count,
-    }
+    })
 }
 
 // The chain of so many written carbons, with its methyl.
@@ -218,14 +207,13 @@ fn start_chain(prefix: ChainPrefix, branch: Branch, written: u16, groups: &mut [
 {
     let offset = branch_offset(branch);
     match branch {
-        Branch::Straight => Started {
-            refusal: 0,
+        Branch::Straight => Started::Read(Start {
             prefix,
             written,
             carbon: written,
             branched: false,
             groups: 0,
-        },
+        }),
         Branch::Iso => branched_chain(prefix, offset, written, groups),
         Branch::Anteiso => branched_chain(prefix, offset, written, groups),
     }
@@ -242,10 +230,10 @@ pub fn parse_carbons(
     ensures { λ r. ⌜ Starts r (now (groups .exit)) (carbonsOf prefix branch (now (text .entry))) ⌝ }
 {
     let Number::Value(n) = scan::read_number(text, 4294967295) else {
-        return refused(record::UNREADABLE);
+        return Started::Refused(record::UNREADABLE);
     };
     if (record::MAX_CARBONS as u64) < n {
-        return refused(record::OVER_LIMIT);
+        return Started::Refused(record::OVER_LIMIT);
     }
     start_chain(prefix, branch, n as u16, groups)
 }

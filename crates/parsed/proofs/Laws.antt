@@ -4,11 +4,15 @@ use Prim.Native.Nat.{ℕ, _+_, _<_, _≤_, _^_, min}
 use native.Mathlib.Numerals.{add-one}
 use native.Mathlib.Omega.{arith}
 use mathlib.Core.Path.{_≡_, refl, sym, ap, _∙_}
-use mathlib.Core.Bool.{Bool}
+use mathlib.Core.Bool.{Bool, true, false, cond}
 use mathlib.Core.List.{List, [], _∷_, _++_, map, map-append}
 use lib.ListN.{length, take, set, length-append}
 use lib.Seq.{take-suc-set, take-all, take-append-le}
-use borrow.Author.Tests.{lt-ltb, le-ltb}
+use lib.Dec.{ltb}
+use borrow.Author.Tests.{lt-ltb, le-ltb, ltb-true, ltb-false}
+use denote.Enum.Declared.{tagOf}
+use types.Run.{OneOf, miss}
+use Rattle.parsed.proofs.Counted.{the-type}
 use Rattle.record.specs.declared.ChainPrefix.{ChainPrefix}
 use Rattle.record.specs.declared.DbPos.{DbPos}
 use Rattle.record.specs.declared.Mod.{Mod}
@@ -17,10 +21,10 @@ use Rattle.record.specs.Chain.{Chain, Outcome, Read, Refused, andThen, noFeatur
 use Rattle.codes.specs.Codes.{bondIn, groupIn, ringIn, bondCode, groupCode, ringCode}
 use Rattle.codes.proofs.Laws.{bond-back, group-back, ring-back}
 use Rattle.parsed.specs.declared.ParsedChain.{ParsedChain}
-use Rattle.parsed.specs.declared.Parsed.{Parsed}
 use Rattle.parsed.specs.declared.Counts.{Counts}
 use Rattle.parsed.specs.declared.Counted.{Counted}
-use Rattle.parsed.specs.Parsed.{Keeps, Holds, Stands, Takes, Gives, first, bondsAs, groupsAs, ringsAs, gather, allAs, ungroupedAs, unbondedAs, carbonAs, on, Answer, Grows, Fills, Judges}
+use Rattle.parsed.specs.declared.Counted.the-variants.{Read as Counted·Read, Refused as Counted·Refused}
+use Rattle.parsed.specs.Parsed.{Keeps, Holds, Answer, Has, Refuses, answered, Stands, Takes, Gives, first, bondsAs, groupsAs, ringsAs, countsAs, gather, allAs, ungroupedAs, unbondedAs, carbonAs, on, Grows, Fills, counted, Judges, Collects, checked}
 
 -- ---- one element more in an array
 
@@ -112,81 +116,118 @@ holds-none p w c b bs gs rs =
 -- ---- the counts after a list or a segment
 
 module _ (c : Counts) where
-  pub bonds-many : 32 < c .bonds → Judges c (record { refusal = 31; counts = c }) countsOf
-  unfolding countsOf
-  bonds-many h = record { gives = λ x. record { stands = λ d k. rw (lt-ltb maxBonds (length (d .bonds)) (keeps-over (k .bonds) h)) (refl, omega arith) } }
+  pub bonds-many : 32 < c .bonds → Counted·Refused 31 ≡ checked c
+  unfolding checked
+  bonds-many h = rw (lt-ltb maxBonds (c .bonds) h)
 
-  pub groups-many : c .bonds ≤ 32 → 16 < c .groups → Judges c (record { refusal = 31; counts = c }) countsOf
-  unfolding countsOf
-  groups-many b h =
-      record { gives = λ x. record { stands = λ d k. rw (le-ltb maxBonds (length (d .bonds)) (keeps-within (k .bonds) b), lt-ltb maxGroups (length (d .groups)) (keeps-over (k .groups) h)) (refl, omega arith) } }
+  pub groups-many : c .bonds ≤ 32 → 16 < c .groups → Counted·Refused 31 ≡ checked c
+  unfolding checked
+  groups-many b h = rw (le-ltb maxBonds (c .bonds) b, lt-ltb maxGroups (c .groups) h)
 
-  pub rings-many : c .bonds ≤ 32 → c .groups ≤ 16 → 8 < c .rings → Judges c (record { refusal = 31; counts = c }) countsOf
-  unfolding countsOf
-  rings-many b g h =
-      record { gives = λ x. record { stands = λ d k. rw (le-ltb maxBonds (length (d .bonds)) (keeps-within (k .bonds) b), le-ltb maxGroups (length (d .groups)) (keeps-within (k .groups) g), lt-ltb maxRings (length (d .rings)) (keeps-over (k .rings) h)) (refl, omega arith) } }
+  pub rings-many : c .bonds ≤ 32 → c .groups ≤ 16 → 8 < c .rings → Counted·Refused 31 ≡ checked c
+  unfolding checked
+  rings-many b g h = rw (le-ltb maxBonds (c .bonds) b, le-ltb maxGroups (c .groups) g, lt-ltb maxRings (c .rings) h)
 
-  pub none-many : c .bonds ≤ 32 → c .groups ≤ 16 → c .rings ≤ 8 → Judges c (record { refusal = 0; counts = c }) countsOf
-  unfolding countsOf
-  none-many b g r =
-      record { gives = λ x. record { stands = λ d k. rw (le-ltb maxBonds (length (d .bonds)) (keeps-within (k .bonds) b), le-ltb maxGroups (length (d .groups)) (keeps-within (k .groups) g), le-ltb maxRings (length (d .rings)) (keeps-within (k .rings) r)) (refl, k) } }
+  pub none-many : c .bonds ≤ 32 → c .groups ≤ 16 → c .rings ≤ 8 → Counted·Read c ≡ checked c
+  unfolding checked
+  none-many b g r = rw (le-ltb maxBonds (c .bonds) b, le-ltb maxGroups (c .groups) g, le-ltb maxRings (c .rings) r)
+
+-- a count is over its limit exactly where its list is
+keeps-test : {A : Type 0} {of : ℕ → A} {limit : ℕ} {xs : List ℕ} {n : ℕ} {l : List A} → Keeps of limit xs n l → ltb limit n ≡ ltb limit (length l)
+keeps-test {limit = limit} {n = n} {l} k = go (ltb limit n) refl
+  where
+    go : (b : Bool) → ltb limit n ≡ b → b ≡ ltb limit (length l)
+    go true t = sym (lt-ltb limit (length l) (keeps-over k (ltb-true limit n t)))
+    go false t = sym (le-ltb limit (length l) (keeps-within k (ltb-false limit n t)))
+
+-- the counts are judged as the lists that they count
+pub checked-judges : (c : Counts) → Judges c (checked c) countsOf
+unfolding checked countsOf
+checked-judges c =
+    record {
+      gives = λ x.
+          record {
+            stands = λ d k.
+                rw (← keeps-test (k .bonds), ← keeps-test (k .groups), ← keeps-test (k .rings))
+                (go x d k (ltb maxBonds (c .bonds)) (ltb maxGroups (c .groups)) (ltb maxRings (c .rings)));
+          };
+    }
+  where
+    go : (x : ParsedChain) (d : Chain) → Holds (countsAs x c) d → (a b e : Bool)
+        → Stands (answered (countsAs x) (counted (cond a (Counted·Refused 31) (cond b (Counted·Refused 31) (cond e (Counted·Refused 31) (Counted·Read c))))))
+        (cond a (Refused 31) (cond b (Refused 31) (cond e (Refused 31) (Read d))))
+    go x d k true b e = refl
+    go x d k false true e = refl
+    go x d k false false true = refl
+    go x d k false false false = k
+
+-- counts that pass are within the limits, and are those that were checked
+pub checked-read : (c k : Counts) → Counted·Read k ≡ checked c → (k ≡ c) × (k .bonds ≤ maxBonds)
+unfolding checked
+checked-read c k e = go (ltb maxBonds (c .bonds)) (ltb maxGroups (c .groups)) (ltb maxRings (c .rings)) refl e
+  where
+    go : (a b r : Bool) → ltb maxBonds (c .bonds) ≡ a → Counted·Read k ≡ cond a (Counted·Refused 31) (cond b (Counted·Refused 31) (cond r (Counted·Refused 31) (Counted·Read c))) → (k ≡ c) × (k .bonds ≤ maxBonds)
+    go true b r t e = let z : _≡_ {A = ℕ} 0 1 = cc in absurd (omega arith)
+    go false true r t e = let z : _≡_ {A = ℕ} 0 1 = cc in absurd (omega arith)
+    go false false true t e = let z : _≡_ {A = ℕ} 0 1 = cc in absurd (omega arith)
+    go false false false t e = let z : k ≡ c = cc in (z, rw z (ltb-false maxBonds (c .bonds) t))
 
 -- ---- how answers are put together, of whole records and of their parts
 
 -- what was taken is read
-pub gives-read : {c r : ParsedChain} {f : Chain → Chain} → Takes c r f → Gives c (record { refusal = 0; chain = r }) (λ d. Read (f d))
-gives-read t = record { stands = λ d k. (refl, t .holds d k) }
+gives-read : {c r : ParsedChain} {f : Chain → Chain} → Takes c r f → Gives c (Has r) (λ d. Read (f d))
+gives-read t = record { stands = λ d k. t .holds d k }
 
 -- the same, said by another definition
-pub gives-same : {c : ParsedChain} {r : Parsed} {f g : Chain → Outcome} → Gives c r f → ((d : Chain) → Holds c d → f d ≡ g d) → Gives c r g
+gives-same : {c : ParsedChain} {r : Answer ParsedChain} {f g : Chain → Outcome} → Gives c r f → ((d : Chain) → Holds c d → f d ≡ g d) → Gives c r g
 gives-same {r = r} w e = record { stands = λ d k. rw (e d k) at (w .stands d k) }
 
--- an answer that is no refusal stands for a chain, which its record holds
-pub stands-read : (r : Parsed) (o : Outcome) → Stands r o → r .refusal ≡ 0 → (d : Chain) × (o ≡ Read d) × Holds (r .chain) d
-stands-read r (Read d) w e = (d, refl, w .1)
-stands-read r (Refused n) w e = absurd (omega (arith, w .0, w .1))
+-- a record that was read stands for a chain, which it holds
+pub stands-read : (c : ParsedChain) (o : Outcome) → Stands (Has c) o → (d : Chain) × (o ≡ Read d) × Holds c d
+stands-read c (Read d) w = (d, refl, w)
+stands-read c (Refused n) w = absurd w
 
--- a refusal stays, whatever follows
-pub stands-refused : (r : Parsed) (o : Outcome) (f : Chain → Outcome) → Stands r o → (r .refusal ≡ 0 → ⊥) → Stands r (andThen o f)
-stands-refused r (Read d) f w n = absurd (n (w .0))
-stands-refused r (Refused m) f w n = w
-
-pub gives-stop : {c : ParsedChain} {r : Parsed} {f : Chain → Outcome} (g : Chain → Outcome) → Gives c r f → (r .refusal ≡ 0 → ⊥) → Gives c r (λ d. andThen (f d) g)
-gives-stop {r = r} {f} g w n = record { stands = λ d k. stands-refused r (f d) g (w .stands d k) n }
+-- a number stands for its refusal
+pub stands-refused : (n : ℕ) (o : Outcome) → Stands (Refuses n) o → o ≡ Refused n
+stands-refused n (Read d) w = absurd w
+stands-refused n (Refused m) w = ap Refused (sym w)
 
 -- no refusal, and then what follows
-pub stands-then : (r q : Parsed) (o : Outcome) (g : Chain → Outcome) → Stands r o → r .refusal ≡ 0 → Gives (r .chain) q g → Stands q (andThen o g)
-stands-then r q (Read d) g w e v = v .stands d (w .1)
-stands-then r q (Refused n) g w e v = absurd (omega (arith, w .0, w .1))
+stands-then : (c : ParsedChain) (q : Answer ParsedChain) (o : Outcome) (g : Chain → Outcome) → Stands (Has c) o → Gives c q g → Stands q (andThen o g)
+stands-then c q (Read d) g w v = v .stands d w
+stands-then c q (Refused n) g w v = absurd w
 
-pub gives-then : {c : ParsedChain} {r q : Parsed} {f g : Chain → Outcome} → Gives c r f → r .refusal ≡ 0 → Gives (r .chain) q g → Gives c q (λ d. andThen (f d) g)
-gives-then {r = r} {q} {f} {g} w e v = record { stands = λ d k. stands-then r q (f d) g (w .stands d k) e v }
+-- an answer of the code whose variant is not the first is a refusal
+abbrev pub NotRead : Counted → Type 0
+NotRead r = OneOf (1 ∷ []) (tagOf the-type r)
+
+pub not-read : (r : Counted) → NotRead r → (n : ℕ) × (r ≡ Counted·Refused n)
+not-read (Counted·Read k) t = absurd (miss (1 ∷ []) 0 tt t)
+not-read (Counted·Refused n) t = (n, refl)
 
 -- ---- the same of parts
 
 module _ {S : Type 0} {put : ParsedChain → S → ParsedChain} where
   -- nothing is done
-  pub fills-none : (c : S) → Fills put c (record { refusal = 0; state = c }) Read
-  fills-none c = record { gives = λ x. record { stands = λ d k. (refl, k) } }
+  pub fills-none : (c : S) → Fills put c (Has c) Read
+  fills-none c = record { gives = λ x. record { stands = λ d k. k } }
 
   -- a refusal by the number by which the definition refuses
-  pub fills-number : (n : ℕ) → 0 < n → (c : S) (r : Answer S) (f : Chain → Outcome) → r .refusal ≡ n → ((x : ParsedChain) (d : Chain) → Holds (put x c) d → f d ≡ Refused n) → Fills put c r f
-  fills-number n p c r f h e = record { gives = λ x. record { stands = λ d k. rw (e x d k) (h, p) } }
+  pub fills-refused : (n : ℕ) (c : S) (f : Chain → Outcome) → ((x : ParsedChain) (d : Chain) → Holds (put x c) d → f d ≡ Refused n) → Fills put c (Refuses n) f
+  fills-refused n c f e = record { gives = λ x. record { stands = λ d k. rw (e x d k) refl } }
 
-  pub fills-11 : (c : S) (r : Answer S) (f : Chain → Outcome) → r .refusal ≡ 11 → ((x : ParsedChain) (d : Chain) → Holds (put x c) d → f d ≡ Refused 11) → Fills put c r f
-  fills-11 = fills-number 11 (omega arith)
-
-  pub fills-read : {c e : S} {f : Chain → Chain} → Grows put c e f → Fills put c (record { refusal = 0; state = e }) (λ d. Read (f d))
+  pub fills-read : {c e : S} {f : Chain → Chain} → Grows put c e f → Fills put c (Has e) (λ d. Read (f d))
   fills-read t = record { gives = λ x. gives-read (t .takes x) }
 
   pub fills-same : {c : S} {r : Answer S} {f g : Chain → Outcome} → Fills put c r f → ((x : ParsedChain) (d : Chain) → Holds (put x c) d → f d ≡ g d) → Fills put c r g
   fills-same w e = record { gives = λ x. gives-same (w .gives x) (e x) }
 
-  pub fills-stop : {c : S} {r : Answer S} {f : Chain → Outcome} (g : Chain → Outcome) → Fills put c r f → (r .refusal ≡ 0 → ⊥) → Fills put c r (λ d. andThen (f d) g)
-  fills-stop g w n = record { gives = λ x. gives-stop g (w .gives x) n }
+  -- a refusal stays, whatever follows
+  pub fills-stop : {c : S} {n : ℕ} {f : Chain → Outcome} (g : Chain → Outcome) → Fills put c (Refuses n) f → Fills put c (Refuses n) (λ d. andThen (f d) g)
+  fills-stop {n = n} {f} g w = record { gives = λ x. record { stands = λ d k. rw (stands-refused n (f d) (w .gives x .stands d k)) refl } }
 
-  pub fills-then : {c : S} {r q : Answer S} {f g : Chain → Outcome} → Fills put c r f → r .refusal ≡ 0 → Fills put (r .state) q g → Fills put c q (λ d. andThen (f d) g)
-  fills-then w e v = record { gives = λ x. gives-then (w .gives x) e (v .gives x) }
+  pub fills-then : {c e : S} {q : Answer S} {f g : Chain → Outcome} → Fills put c (Has e) f → Fills put e q g → Fills put c q (λ d. andThen (f d) g)
+  fills-then {e = e} {q} {f} {g} w v = record { gives = λ x. record { stands = λ d k. stands-then (put x e) (answered (put x) q) (f d) g (w .gives x .stands d k) (v .gives x) } }
 
   -- whatever the number of carbons
   pub fills-on : {c : S} {r : Answer S} {f : Chain → Outcome} (n : ℕ) → Fills put c r f → Fills (on n put) c r f
@@ -198,9 +239,20 @@ pub ring-ungrouped : (k : Counts) (m : ℕ) (bs gs rs ys : List ℕ) (f : Chain 
     → Grows ungroupedAs (gather k bs gs rs) (gather (record { bonds = k .bonds; groups = k .groups; rings = m; oxygens = k .oxygens }) bs gs ys) f
 ring-ungrouped k m bs gs rs ys f w = record { takes = λ x. w .takes (ungroupedAs x (gather k bs gs rs)) }
 
-pub bonds-ungrouped : (k : Counts) (n m : ℕ) (bs gs rs ys : List ℕ) (f : Chain → Outcome) → Fills bondsAs (first (k .bonds) bs) (record { refusal = n; state = first m ys }) f
-    → Fills ungroupedAs (gather k bs gs rs) (record { refusal = n; state = gather (record { bonds = m; groups = k .groups; rings = k .rings; oxygens = k .oxygens }) ys gs rs }) f
-bonds-ungrouped k n m bs gs rs ys f w = record { gives = λ x. w .gives (ungroupedAs x (gather k bs gs rs)) }
+module _ (k : Counts) (bs gs rs : List ℕ) (f : Chain → Outcome) where
+  pub bonds-ungrouped : (m : ℕ) (ys : List ℕ) → Fills bondsAs (first (k .bonds) bs) (Has (first m ys)) f
+      → Fills ungroupedAs (gather k bs gs rs) (Has (gather (record { bonds = m; groups = k .groups; rings = k .rings; oxygens = k .oxygens }) ys gs rs)) f
+  bonds-ungrouped m ys w = record { gives = λ x. w .gives (ungroupedAs x (gather k bs gs rs)) }
+
+  pub bonds-ungrouped-refused : (n : ℕ) → Fills bondsAs (first (k .bonds) bs) (Refuses n) f → Fills ungroupedAs (gather k bs gs rs) (Refuses n) f
+  bonds-ungrouped-refused n w = record { gives = λ x. w .gives (ungroupedAs x (gather k bs gs rs)) }
+
+  pub groups-unbonded : (m : ℕ) (ys : List ℕ) → Fills groupsAs (first (k .groups) gs) (Has (first m ys)) f
+      → Fills unbondedAs (gather k bs gs rs) (Has (gather (record { bonds = k .bonds; groups = m; rings = k .rings; oxygens = k .oxygens }) bs ys rs)) f
+  groups-unbonded m ys w = record { gives = λ x. w .gives (unbondedAs x (gather k bs gs rs)) }
+
+  pub groups-unbonded-refused : (n : ℕ) → Fills groupsAs (first (k .groups) gs) (Refuses n) f → Fills unbondedAs (gather k bs gs rs) (Refuses n) f
+  groups-unbonded-refused n w = record { gives = λ x. w .gives (unbondedAs x (gather k bs gs rs)) }
 
 module _ (k : Counts) (m : ℕ) (bs gs rs ys : List ℕ) (f : Chain → Chain) where
   pub ring-unbonded : Grows ringsAs (first (k .rings) rs) (first m ys) f → Grows unbondedAs (gather k bs gs rs) (gather (record { bonds = k .bonds; groups = k .groups; rings = m; oxygens = k .oxygens }) bs gs ys) f
@@ -208,10 +260,6 @@ module _ (k : Counts) (m : ℕ) (bs gs rs ys : List ℕ) (f : Chain → Chain) w
 
   pub group-unbonded : Grows groupsAs (first (k .groups) gs) (first m ys) f → Grows unbondedAs (gather k bs gs rs) (gather (record { bonds = k .bonds; groups = m; rings = k .rings; oxygens = k .oxygens }) bs ys rs) f
   group-unbonded w = record { takes = λ x. w .takes (unbondedAs x (gather k bs gs rs)) }
-
-pub groups-unbonded : (k : Counts) (n m : ℕ) (bs gs rs ys : List ℕ) (f : Chain → Outcome) → Fills groupsAs (first (k .groups) gs) (record { refusal = n; state = first m ys }) f
-    → Fills unbondedAs (gather k bs gs rs) (record { refusal = n; state = gather (record { bonds = k .bonds; groups = m; rings = k .rings; oxygens = k .oxygens }) bs ys rs }) f
-groups-unbonded k n m bs gs rs ys f w = record { gives = λ x. w .gives (unbondedAs x (gather k bs gs rs)) }
 
 -- the last oxygen count
 pub oxygens-set : (k : Counts) (n : ℕ) (bs gs rs : List ℕ) → Grows unbondedAs (gather k bs gs rs) (gather (record { bonds = k .bonds; groups = k .groups; rings = k .rings; oxygens = n }) bs gs rs) (withOxygens n)
@@ -221,16 +269,25 @@ oxygens-set k n bs gs rs =
 
 -- what is done to several arrays, among all
 
-module _ (carbon : ℕ) (k j : Counts) (n : ℕ) (bs gs rs : List ℕ) (f : Chain → Outcome) where
-  pub ungrouped-all : (ys zs : List ℕ) → Fills (on carbon ungroupedAs) (gather k bs [] rs) (record { refusal = n; state = gather j ys [] zs }) f
-      → Fills (on carbon allAs) (gather k bs gs rs) (record { refusal = n; state = gather j ys gs zs }) f
-  ungrouped-all ys zs w = record { gives = λ x. w .gives (groupsAs x (first 0 gs)) }
+module _ (carbon : ℕ) (k : Counts) (bs gs rs : List ℕ) (r : Counted) (f : Chain → Outcome) where
+  pub ungrouped-all : (ys zs : List ℕ) → Collects (on carbon ungroupedAs) (gather k bs [] rs) r ys [] zs f → Collects (on carbon allAs) (gather k bs gs rs) r ys gs zs f
+  ungrouped-all ys zs = go r
+    where
+      go : (r : Counted) → Collects (on carbon ungroupedAs) (gather k bs [] rs) r ys [] zs f → Collects (on carbon allAs) (gather k bs gs rs) r ys gs zs f
+      go (Counted·Read j) w = record { gives = λ x. w .gives (groupsAs x (first 0 gs)) }
+      go (Counted·Refused n) w = record { gives = λ x. w .gives (groupsAs x (first 0 gs)) }
 
-  pub unbonded-all : (hs zs : List ℕ) → Fills (on carbon unbondedAs) (gather k [] gs rs) (record { refusal = n; state = gather j [] hs zs }) f
-      → Fills (on carbon allAs) (gather k bs gs rs) (record { refusal = n; state = gather j bs hs zs }) f
-  unbonded-all hs zs w = record { gives = λ x. w .gives (bondsAs x (first 0 bs)) }
+  pub unbonded-all : (hs zs : List ℕ) → Collects (on carbon unbondedAs) (gather k [] gs rs) r [] hs zs f → Collects (on carbon allAs) (gather k bs gs rs) r bs hs zs f
+  unbonded-all hs zs = go r
+    where
+      go : (r : Counted) → Collects (on carbon unbondedAs) (gather k [] gs rs) r [] hs zs f → Collects (on carbon allAs) (gather k bs gs rs) r bs hs zs f
+      go (Counted·Read j) w = record { gives = λ x. w .gives (bondsAs x (first 0 bs)) }
+      go (Counted·Refused n) w = record { gives = λ x. w .gives (bondsAs x (first 0 bs)) }
 
--- counts alone, among all
-pub counts-all : (carbon : ℕ) (k : Counts) (r : Counted) (bs gs rs : List ℕ) (f : Chain → Outcome) → Judges k r f
-    → Fills (on carbon allAs) (gather k bs gs rs) (record { refusal = r .refusal; state = gather (r .counts) bs gs rs }) f
-counts-all carbon k r bs gs rs f w = record { gives = λ x. w .gives (allAs (carbonAs x carbon) (gather k bs gs rs)) }
+  -- counts alone, among all
+  pub counts-all : Judges k r f → Collects (on carbon allAs) (gather k bs gs rs) r bs gs rs f
+  counts-all = go r
+    where
+      go : (r : Counted) → Judges k r f → Collects (on carbon allAs) (gather k bs gs rs) r bs gs rs f
+      go (Counted·Read j) w = record { gives = λ x. w .gives (allAs (carbonAs x carbon) (gather k bs gs rs)) }
+      go (Counted·Refused n) w = record { gives = λ x. w .gives (allAs (carbonAs x carbon) (gather k bs gs rs)) }

@@ -1,16 +1,19 @@
 -- Which chain a record of the code holds, and what a reader answers that adds to arrays which are lent to it: what the contracts of `parsed`
 -- and of the token reader above it cite. Assumes nothing.
-use Prim.Native.Nat.{ℕ, _+_, _<_, min}
+use Prim.Native.Nat.{ℕ, _+_, min}
 use mathlib.Core.Path.{_≡_}
+use mathlib.Core.Bool.{cond}
 use mathlib.Core.List.{List, map}
 use lib.ListN.{length, take}
-use Rattle.record.specs.Chain.{Chain, Outcome, Read, Refused, maxBonds, maxGroups, maxRings}
+use lib.Dec.{ltb}
+use Rattle.record.specs.Chain.{Chain, Outcome, Read, Refused, maxBonds, maxGroups, maxRings, overLimit}
 use Rattle.codes.specs.Codes.{bondIn, groupIn, ringIn}
 use Rattle.parsed.specs.declared.ParsedChain.{ParsedChain}
-use Rattle.parsed.specs.declared.Parsed.{Parsed}
 use Rattle.parsed.specs.declared.Counts.{Counts}
 use Rattle.parsed.specs.declared.Counted.{Counted}
+use Rattle.parsed.specs.declared.Counted.the-variants.{Read as Counted·Read, Refused as Counted·Refused}
 use Rattle.parsed.specs.declared.Pushed.{Pushed}
+use Rattle.parsed.specs.declared.Pushed.the-variants.{Read as Pushed·Read, Refused as Pushed·Refused}
 
 -- an array of numbers keeps a list up to a limit: its count is the list's length, which it stops following one past the limit, and what it
 -- counts within the limit stands for what the list starts with
@@ -30,17 +33,29 @@ pub record Holds (c : ParsedChain) (d : Chain) : Type 0 where
   pub groups : Keeps groupIn maxGroups (c .groups) (c .«group_count») (d .groups)
   pub rings : Keeps ringIn maxRings (c .rings) (c .«ring_count») (d .rings)
 
--- the answer r stands for an outcome: 0 and a record that holds the chain, or the refusal's number
-abbrev pub Stands : Parsed → Outcome → Type 0
-Stands r (Read d) = (r .refusal ≡ 0) × Holds (r .chain) d
-Stands r (Refused n) = (r .refusal ≡ n) × (0 < n)
+-- a reader's answer: what it has then, or the number by which it refuses
+pub data Answer (S : Type 0) : Type 0 where
+  Has : S → Answer S
+  Refuses : ℕ → Answer S
+
+-- the answer of a record, where a part of it is answered
+abbrev pub answered : {S T : Type 0} → (S → T) → Answer S → Answer T
+answered put (Has s) = Has (put s)
+answered put (Refuses n) = Refuses n
+
+-- an answer stands for an outcome: the record holds the chain, or the number is the refusal's
+abbrev pub Stands : Answer ParsedChain → Outcome → Type 0
+Stands (Has c) (Read d) = Holds c d
+Stands (Has c) (Refused n) = ⊥
+Stands (Refuses n) (Read d) = ⊥
+Stands (Refuses n) (Refused m) = n ≡ m
 
 -- r holds f of what c holds
 pub record Takes (c r : ParsedChain) (f : Chain → Chain) : Type 0 where
   pub holds : (d : Chain) → Holds c d → Holds r (f d)
 
 -- r stands for f of what c holds
-pub record Gives (c : ParsedChain) (r : Parsed) (f : Chain → Outcome) : Type 0 where
+pub record Gives (c : ParsedChain) (r : Answer ParsedChain) (f : Chain → Outcome) : Type 0 where
   pub stands : (d : Chain) → Holds c d → Stands r (f d)
 
 -- ---- a part of a record, which is all that a reader has of it
@@ -102,27 +117,45 @@ carbonAs x n =
 abbrev pub on : {S : Type 0} → ℕ → (ParsedChain → S → ParsedChain) → ParsedChain → S → ParsedChain
 on n put x c = put (carbonAs x n) c
 
--- a reader's answer: the refusal's number, 0 for none, and what it has then
-pub record Answer (S : Type 0) : Type 0 where
-  pub refusal : ℕ
-  pub state : S
-
 -- whatever the rest x of a record is, `put` putting a part in it: with e it holds f of what it holds with c
 pub record Grows {S : Type 0} (put : ParsedChain → S → ParsedChain) (c e : S) (f : Chain → Chain) : Type 0 where
   pub takes : (x : ParsedChain) → Takes (put x c) (put x e) f
 
 -- whatever the rest x of a record is: with the answer r it stands for f of what it holds with c
 pub record Fills {S : Type 0} (put : ParsedChain → S → ParsedChain) (c : S) (r : Answer S) (f : Chain → Outcome) : Type 0 where
-  pub gives : (x : ParsedChain) → Gives (put x c) (record { refusal = r .refusal; chain = put x (r .state) }) f
+  pub gives : (x : ParsedChain) → Gives (put x c) (answered (put x) r) f
+
+-- ---- 01's number and the values of each case of the code's answers
+
+-- counts alone; with the arrays that go with them
+abbrev pub counted : Counted → Answer Counts
+counted (Counted·Read k) = Has k
+counted (Counted·Refused n) = Refuses n
+
+abbrev pub collected : Counted → List ℕ → List ℕ → List ℕ → Answer Gathered
+collected (Counted·Read k) bs gs rs = Has (gather k bs gs rs)
+collected (Counted·Refused n) bs gs rs = Refuses n
+
+-- the count of one array, and the array
+abbrev pub pushed : Pushed → List ℕ → Answer Counting
+pushed (Pushed·Read n) xs = Has (first n xs)
+pushed (Pushed·Refused n) xs = Refuses n
 
 -- the answer to counts alone
 abbrev pub Judges : Counts → Counted → (Chain → Outcome) → Type 0
-Judges k r f = Fills countsAs k (record { refusal = r .refusal; state = r .counts }) f
+Judges k r f = Fills countsAs k (counted r) f
 
 -- the answer of a reader that adds to one array: n of xs before, and then so many of ys
 abbrev pub Pushes : (ParsedChain → Counting → ParsedChain) → ℕ → List ℕ → Pushed → List ℕ → (Chain → Outcome) → Type 0
-Pushes put n xs r ys f = Fills put (first n xs) (record { refusal = r .refusal; state = first (r .count) ys }) f
+Pushes put n xs r ys f = Fills put (first n xs) (pushed r ys) f
 
 -- the answer of a reader that adds to several arrays
 abbrev pub Collects : (ParsedChain → Gathered → ParsedChain) → Gathered → Counted → List ℕ → List ℕ → List ℕ → (Chain → Outcome) → Type 0
-Collects put c r bs gs rs f = Fills put c (record { refusal = r .refusal; state = gather (r .counts) bs gs rs }) f
+Collects put c r bs gs rs f = Fills put c (collected r bs gs rs) f
+
+-- 31 where a count is over its limit, else the counts as they are: `countsOf` of the chain whose lists are counted
+unfoldable pub checked : Counts → Counted
+checked k =
+    cond (ltb maxBonds (k .bonds)) (Counted·Refused overLimit)
+    (cond (ltb maxGroups (k .groups)) (Counted·Refused overLimit)
+    (cond (ltb maxRings (k .rings)) (Counted·Refused overLimit) (Counted·Read k)))

@@ -14,8 +14,8 @@ use record::Ring;
 ghost use mathlib.Core.Path.{_≡_};
 ghost use Prim.Native.Nat.{_≤_};
 ghost use lib.ListN.{length};
-ghost use Rattle.record.specs.Chain.{withBond, withGroup, withRing, countsOf, maxBonds, maxGroups, maxRings};
-ghost use Rattle.parsed.specs.Parsed.{Grows, first, bondsAs, groupsAs, ringsAs, Judges};
+ghost use Rattle.record.specs.Chain.{withBond, withGroup, withRing, maxBonds, maxGroups, maxRings};
+ghost use Rattle.parsed.specs.Parsed.{Grows, first, bondsAs, groupsAs, ringsAs, checked};
 
 // Double bonds, groups and rings are numbers of the crate `codes`.
 pub struct ParsedChain {
@@ -33,12 +33,6 @@ pub struct ParsedChain {
     pub rings: [u64; MAX_RINGS],
 }
 
-// A chain that was read, or a refusal by its number (0: read). An enum holds no array, so the number stands beside the chain.
-pub struct Parsed {
-    pub refusal: u16,
-    pub chain: ParsedChain,
-}
-
 // How much of each lent array is used, and the last oxygen count.
 pub struct Counts {
     pub bonds: usize,
@@ -47,16 +41,16 @@ pub struct Counts {
     pub oxygens: u32,
 }
 
-// What a reader counts once it has read, or a refusal by its number (0: read).
-pub struct Counted {
-    pub refusal: u16,
-    pub counts: Counts,
+// What a reader counts once it has read, or the number by which it refuses.
+pub enum Counted {
+    Read(Counts),
+    Refused(u16),
 }
 
 // The same of a reader that adds to one array.
-pub struct Pushed {
-    pub refusal: u16,
-    pub count: usize,
+pub enum Pushed {
+    Read(usize),
+    Refused(u16),
 }
 
 // One double bond more; how many there are then.
@@ -95,37 +89,18 @@ pub fn push_ring(rings: &mut [u64], count: usize, ring: Ring) -> usize
     MAX_RINGS + 1
 }
 
-// Refusal 11. The counts beside it say nothing.
-pub fn unreadable(counts: Counts) -> Counted
-    ensures { λ r. ⌜ r .refusal ≡ 11 ⌝ }
-{
-    Counted {
-        refusal: record::UNREADABLE,
-        counts,
-    }
-}
-
 // After a list or a segment: 31 where a count is over its limit.
 pub fn check_counts(counts: Counts) -> Counted
-    ensures { λ r. ⌜ Judges counts r countsOf ⌝ }
+    ensures { λ r. ⌜ r ≡ checked counts ⌝ }
 {
     if MAX_BONDS < counts.bonds {
-        return Counted {
-            refusal: OVER_LIMIT,
-            counts,
-        };
+        return Counted::Refused(OVER_LIMIT);
     }
     if MAX_GROUPS < counts.groups {
-        return Counted {
-            refusal: OVER_LIMIT,
-            counts,
-        };
+        return Counted::Refused(OVER_LIMIT);
     }
     if MAX_RINGS < counts.rings {
-        return Counted {
-            refusal: OVER_LIMIT,
-            counts,
-        };
+        return Counted::Refused(OVER_LIMIT);
     }
-    Counted { refusal: 0, counts }
+    Counted::Read(counts)
 }

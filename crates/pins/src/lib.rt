@@ -8,7 +8,7 @@ ghost use Prim.Native.Nat.{_+_};
 ghost use lib.Dec.{ltb};
 ghost use Rattle.chain.specs.Lists.{allOf, isEmpty};
 ghost use Rattle.chain.specs.Refusals.{pinTooFar};
-ghost use Rattle.drawable.specs.Drawn.{groupsIn, ringsIn, groupPin, drawnOf, Says};
+ghost use Rattle.drawable.specs.Drawn.{groupsIn, ringsIn, groupPin, drawnOf, Says, DrawsSome};
 ghost use Rattle.pins.specs.Pins.{ringPin, pinsIn};
 
 // The last carbon that a first pin may have.
@@ -68,6 +68,7 @@ fn rings_past(rings: &[u64], count: usize, bound: u32) -> bool
 
 // 13: unlocated bonds, and a first pin too far.
 pub fn pin_too_far(x: Shape, part: &[u64]) -> bool
+    requires { ⌜ DrawsSome (drawnOf x (now part)) ⌝ }
     ensures { λ r. ⌜ Says (drawnOf x (now (part .entry))) r pinTooFar ⌝ }
 {
     if x.unlocated == 0 {

@@ -9,7 +9,7 @@ use Rattle.form.specs.Parts.{partsAt, listParts}
 use Rattle.form.proofs.Laws.{parts-last, parts-more, parts-first, list-none, list-some}
 use Rattle.record.specs.Chain.{Chain, Outcome, Read, Refused, andThen}
 use Rattle.parsed.specs.declared.ParsedChain.{ParsedChain}
-use Rattle.parsed.specs.Parsed.{Answer, Fills}
+use Rattle.parsed.specs.Parsed.{Answer, Has, Refuses, Fills}
 use Rattle.parsed.proofs.Laws.{fills-none, fills-same, fills-stop, fills-then}
 use Rattle.positions.specs.Each.{each}
 
@@ -27,33 +27,30 @@ module _ {S : Type 0} {put : ParsedChain → S → ParsedChain} where
 
 module _ {S : Type 0} {put : ParsedChain → S → ParsedChain} (f : List ℕ → Chain → Outcome) where
   -- an empty list adds nothing
-  pub each-none : (s : List ℕ) (c : S) → length s ≡ 0 → Fills put c (record { refusal = 0; state = c }) (each f (listParts s))
+  pub each-none : (s : List ℕ) (c : S) → length s ≡ 0 → Fills put c (Has c) (each f (listParts s))
   unfolding each
   each-none s c h = rw (list-none s h) (fills-none c)
 
   pub each-start : (s : List ℕ) (c : S) → (length s ≡ 0 → ⊥) → Onward put c c (each f (listParts s)) (each f (partsAt 44 s))
   each-start s c h = rw (list-some s h) (onward-start c (each f (partsAt 44 s)))
 
-  module _ (b : ℕ) (e c : S) (whole : Chain → Outcome) (t : List ℕ) (n : ℕ) (r : Answer S)
-      (o : Onward put e c whole (each f (partsAt b t))) (p : Place t (indexOf b t) n) (w : Fills put c r (f (take (n - 0) t))) where
+  module _ (b : ℕ) (e c : S) (whole : Chain → Outcome) (t : List ℕ) (n : ℕ) (o : Onward put e c whole (each f (partsAt b t))) (p : Place t (indexOf b t) n) where
     -- a refusal ends the loop
-    pub each-stop : (r .refusal ≡ 0 → ⊥) → Fills put e r whole
+    pub each-stop : (m : ℕ) → Fills put c (Refuses m) (f (take (n - 0) t)) → Fills put e (Refuses m) whole
     unfolding each
-    each-stop h =
+    each-stop m w =
         let ss = parts-first b t n p in
-        o .then r (rw (ss .1) (fills-stop (each f (ss .0)) w h))
+        o .then (Refuses m) (rw (ss .1) (fills-stop (each f (ss .0)) w))
 
     -- so does the last part
-    pub each-last : n ≡ length t → Fills put e r whole
+    pub each-last : (r : Answer S) → Fills put c r (f (take (n - 0) t)) → n ≡ length t → Fills put e r whole
     unfolding each
-    each-last h = o .then r (rw (parts-last b t n p h) (fills-same w (λ x d k. sym (and-read (f (take (n - 0) t) d)))))
+    each-last r w h = o .then r (rw (parts-last b t n p h) (fills-same w (λ x d k. sym (and-read (f (take (n - 0) t) d)))))
 
-  -- a part that was read, and more to come
-  pub each-more : (b : ℕ) (e c q : S) (whole : Chain → Outcome) (t : List ℕ) (n r : ℕ) → Onward put e c whole (each f (partsAt b t)) → Place t (indexOf b t) n
-      → Fills put c (record { refusal = r; state = q }) (f (take (n - 0) t)) → (n ≡ length t → ⊥) → r ≡ 0
-      → Onward put e q whole (each f (partsAt b (take (length t - (n + 1)) (drop (n + 1) t))))
-  unfolding each
-  each-more b e c q whole t n r o p w h k = record { then = λ z v. o .then z (rw (parts-more b t n p h) (fills-then w k v)) }
+    -- a part that was read, and more to come
+    pub each-more : (q : S) → Fills put c (Has q) (f (take (n - 0) t)) → (n ≡ length t → ⊥) → Onward put e q whole (each f (partsAt b (take (length t - (n + 1)) (drop (n + 1) t))))
+    unfolding each
+    each-more q w h = record { then = λ z v. o .then z (rw (parts-more b t n p h) (fills-then w v)) }
 
 -- two ways to read a part that agree on every part
 pub each-same : (f g : List ℕ → Chain → Outcome) → ((s : List ℕ) (d : Chain) → f s d ≡ g s d) → (ss : List (List ℕ)) (d : Chain) → each f ss d ≡ each g ss d

@@ -22,8 +22,8 @@ use Rattle.record.specs.declared.Geometry.{Geometry}
 use Rattle.record.specs.declared.Geometry.the-variants.{Unstated, Cis, Trans}
 use Rattle.record.specs.Chain.{Chain, Outcome, Refused, unreadable, withBond}
 use Rattle.parsed.specs.declared.Pushed.{Pushed}
-use Rattle.parsed.specs.Parsed.{Counting, bondsAs, Grows, Fills, Pushes}
-use Rattle.parsed.proofs.Laws.{fills-11, fills-read, fills-same}
+use Rattle.parsed.specs.Parsed.{Has, Refuses, Counting, bondsAs, Grows, Fills, Pushes}
+use Rattle.parsed.proofs.Laws.{fills-refused, fills-read, fills-same}
 use Rattle.positions.specs.declared.Position.{Position}
 use Rattle.positions.specs.declared.Position.the-variants.{At, Unreadable}
 use Rattle.positions.specs.Positions.{geometryOf, positioned, numbered, lettered, positionOf, withPosition, bondAt, bondList, inside, within, ringPosition, ringBondAt, ringBondList}
@@ -112,22 +112,22 @@ bonding-start start end s c h = each-start (ringBondAt start end) s c h
 module _ (start end : ℕ) (e c : Counting) (whole : Chain → Outcome) (t : List ℕ) (n : ℕ) (p : Position)
     (k : Onward bondsAs e c whole (each (ringBondAt start end) (partsAt 44 t))) (f : Place t (indexOf 44 t) n) (g : p ≡ ringPosition start end (take (n - 0) t)) where
   -- a part that cannot be read ends the loop
-  pub bond-unreadable : p ≡ Unreadable → Fills bondsAs e (record { refusal = 11; state = c }) whole
+  pub bond-unreadable : p ≡ Unreadable → Fills bondsAs e (Refuses 11) whole
   bond-unreadable h =
-      each-stop (ringBondAt start end) 44 e c whole t n (record { refusal = 11; state = c }) k f
-      (fills-11 c (record { refusal = 11; state = c }) (ringBondAt start end (take (n - 0) t)) refl (λ x d w. ring-bond start end (take (n - 0) t) d ∙ rw (sym g ∙ h))) (λ y. absurd (omega arith))
+      each-stop (ringBondAt start end) 44 e c whole t n k f 11
+      (fills-refused 11 c (ringBondAt start end (take (n - 0) t)) (λ x d w. ring-bond start end (take (n - 0) t) d ∙ rw (sym g ∙ h)))
 
   module _ (b : DbPos) (h : p ≡ At b) (q : Counting) (w : Grows bondsAs c q (withBond b)) where
-    added : Fills bondsAs c (record { refusal = 0; state = q }) (ringBondAt start end (take (n - 0) t))
+    added : Fills bondsAs c (Has q) (ringBondAt start end (take (n - 0) t))
     added = fills-same (fills-read w) (λ x d k. sym (ring-bond start end (take (n - 0) t) d ∙ rw (sym g ∙ h)))
 
     -- so does the last part
-    pub bond-last : n ≡ length t → Fills bondsAs e (record { refusal = 0; state = q }) whole
-    bond-last l = each-last (ringBondAt start end) 44 e c whole t n (record { refusal = 0; state = q }) k f added l
+    pub bond-last : n ≡ length t → Fills bondsAs e (Has q) whole
+    bond-last l = each-last (ringBondAt start end) 44 e c whole t n k f (Has q) added l
 
     -- a double bond more, and more to come
     pub bond-more : (n ≡ length t → ⊥) → Onward bondsAs e q whole (each (ringBondAt start end) (partsAt 44 (take (length t - (n + 1)) (drop (n + 1) t))))
-    bond-more l = each-more (ringBondAt start end) 44 e c q whole t n 0 k f added l refl
+    bond-more l = each-more (ringBondAt start end) 44 e c whole t n k f q added l
 
 -- ---- the list
 

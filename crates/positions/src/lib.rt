@@ -90,24 +90,18 @@ pub fn parse_ring_bonds(s: &[u8], start: u64, end: u64, bonds: &mut [u64], count
     ensures { λ r. ⌜ Pushes bondsAs count (now (bonds .entry)) r (now (bonds .exit)) (ringBondList start end (now (s .entry))) ⌝ }
 {
     if s.len() == 0 {
-        return Pushed { refusal: 0, count };
+        return Pushed::Read(count);
     }
     let mut t = s;
     let mut so_far = count;
     loop {
         let n = scan::find(t, b',');
         let Position::At(bond) = read_ring_position(&t[0..n], start, end) else {
-            return Pushed {
-                refusal: record::UNREADABLE,
-                count: so_far,
-            };
+            return Pushed::Refused(record::UNREADABLE);
         };
         so_far = parsed::push_bond(bonds, so_far, bond);
         if n == t.len() {
-            return Pushed {
-                refusal: 0,
-                count: so_far,
-            };
+            return Pushed::Read(so_far);
         }
         t = &t[n + 1..];
     }

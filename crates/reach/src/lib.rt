@@ -5,7 +5,7 @@ ghost use mathlib.Core.List.{map};
 ghost use Prim.Native.Nat.{max};
 ghost use Rattle.chain.specs.Lists.{largest};
 ghost use Rattle.chain.specs.Features.{prefixEnd, literalEnd, remaining, drawnCount};
-ghost use Rattle.drawable.specs.Drawn.{bondsIn, groupsIn, ringsIn, groupsPart, ringsPart, groupPin, drawnOf, Says, SaysUpTo};
+ghost use Rattle.drawable.specs.Drawn.{bondsIn, groupsIn, ringsIn, groupsPart, ringsPart, groupPin, drawnOf, Says, SaysUpTo, DrawsSome};
 ghost use Rattle.reach.specs.Reach.{bondReach, ringReach, Flexible};
 
 fn larger(a: u64, b: u64) -> u64
@@ -99,6 +99,7 @@ fn prefix_end(x: Shape, part: &[u64]) -> u16
 
 // R, the carbons that remain after the literal prefix.
 pub fn remaining(x: Shape, part: &[u64]) -> u16
+    requires { ⌜ DrawsSome (drawnOf x (now part)) ⌝ }
     ensures { λ r. ⌜ Says (drawnOf x (now (part .entry))) r remaining ⌝ }
 {
     let end = prefix_end(x, part);
@@ -107,6 +108,7 @@ pub fn remaining(x: Shape, part: &[u64]) -> u16
 
 // The last literal carbon: c where every double bond is located.
 pub fn literal_end(x: Shape, part: &[u64]) -> u16
+    requires { ⌜ DrawsSome (drawnOf x (now part)) ⌝ }
     ensures { λ r. ⌜ SaysUpTo (drawnOf x (now (part .entry))) r literalEnd ⌝ }
 {
     if x.unlocated == 0 {
@@ -127,6 +129,7 @@ fn flexible_count(unlocated: u16) -> u32
 
 // How many carbons are drawn.
 pub fn drawn_count(x: Shape, part: &[u64]) -> u32
+    requires { ⌜ DrawsSome (drawnOf x (now part)) ⌝ }
     ensures { λ r. ⌜ Says (drawnOf x (now (part .entry))) r drawnCount ⌝ }
 {
     let first = x.first as u32;

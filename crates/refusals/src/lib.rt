@@ -17,7 +17,7 @@ ghost use Prim.Native.Nat.{_-_, _≤_};
 ghost use lib.ListN.{length};
 ghost use Rattle.chain.specs.Lists.{anyOf};
 ghost use Rattle.chain.specs.Refusals.{groupOff, placeRefusal};
-ghost use Rattle.drawable.specs.Drawn.{bondsIn, groupsIn, ringsIn, groupAt, bondsPart, groupsPart, ringsPart, drawnOf, Says};
+ghost use Rattle.drawable.specs.Drawn.{bondsIn, groupsIn, ringsIn, groupAt, bondsPart, groupsPart, ringsPart, drawnOf, Says, DrawsSome};
 ghost use Rattle.refusals.specs.Rising.{Only, bondsRise, ringPast, ringsRise};
 
 // A feature off the drawn chain.
@@ -130,6 +130,7 @@ fn ring_bound(first: u16, acyl: bool) -> u32
 
 // 32, then 33, feature by feature.
 fn listed_refusal(x: Shape, part: &[u64]) -> u16
+    requires { ⌜ DrawsSome (drawnOf x (now part)) ⌝ }
     ensures { λ r. ⌜ Says (drawnOf x (now (part .entry))) r placeRefusal ⌝ }
 {
     if offchain::off_chain(x, part) {
@@ -143,6 +144,7 @@ fn listed_refusal(x: Shape, part: &[u64]) -> u16
 
 // 32, then 33; 0 where neither is due. Of most chains one look at each list tells that neither is; the others are asked feature by feature.
 pub fn place_refusal(x: Shape, part: &[u64]) -> u16
+    requires { ⌜ DrawsSome (drawnOf x (now part)) ⌝ }
     ensures { λ r. ⌜ Says (drawnOf x (now (part .entry))) r placeRefusal ⌝ }
 {
     if part.len() < CHAIN_ROOM {

@@ -23,8 +23,9 @@ use Rattle.record.specs.Chain.{Chain, Outcome, Read, Refused, withRing}
 use Rattle.parsed.specs.declared.ParsedChain.{ParsedChain}
 use Rattle.parsed.specs.declared.Counts.{Counts}
 use Rattle.parsed.specs.declared.Pushed.{Pushed}
-use Rattle.parsed.specs.Parsed.{first, bondsAs, ringsAs, Gathered, gather, ungroupedAs, on, Answer, Grows, Fills, Pushes}
-use Rattle.parsed.proofs.Laws.{fills-11, fills-read, fills-same, fills-stop, fills-then, fills-on, ring-ungrouped, bonds-ungrouped}
+use Rattle.parsed.specs.declared.Pushed.the-variants.{Read as Pushed·Read, Refused as Pushed·Refused}
+use Rattle.parsed.specs.Parsed.{Answer, Has, Refuses, first, bondsAs, ringsAs, Gathered, gather, ungroupedAs, on, Grows, Fills, Pushes}
+use Rattle.parsed.proofs.Laws.{fills-refused, fills-read, fills-same, fills-stop, fills-then, fills-on, ring-ungrouped, bonds-ungrouped, bonds-ungrouped-refused}
 use Rattle.positions.specs.Positions.{ringBondList}
 use Rattle.features.specs.Features.{ringOf}
 use Rattle.features.specs.declared.Segment.{Segment}
@@ -33,57 +34,56 @@ use Rattle.ring.specs.Ring.{ringOr11, closedOr11, ringList, ringListed, 
 
 -- ---- a list that has to be closed
 
-module _ {S : Type 0} {put : ParsedChain → S → ParsedChain} (f : List ℕ → Chain → Outcome) (s : List ℕ) (c : S) (r : Answer S) (b : Bool) (e : b ≡ endsInParenthesis s) where
-  pub closed-not : not b ≡ true → r .refusal ≡ 11 → Fills put c r (closedOr11 f s)
+module _ {S : Type 0} {put : ParsedChain → S → ParsedChain} (f : List ℕ → Chain → Outcome) (s : List ℕ) (c : S) (b : Bool) (e : b ≡ endsInParenthesis s) where
+  pub closed-not : not b ≡ true → Fills put c (Refuses 11) (closedOr11 f s)
   unfolding closedOr11
-  closed-not h k = fills-11 c r (closedOr11 f s) k (λ x d u. rw (sym e ∙ not-true b h))
+  closed-not h = fills-refused 11 c (closedOr11 f s) (λ x d u. rw (sym e ∙ not-true b h))
 
-  pub closed-by : not b ≡ false → Fills put c r (f (take (length s - 1 - 0) s)) → Fills put c r (closedOr11 f s)
+  pub closed-by : (r : Answer S) → not b ≡ false → Fills put c r (f (take (length s - 1 - 0) s)) → Fills put c r (closedOr11 f s)
   unfolding closedOr11
-  closed-by h w = fills-same w (λ x d u. rw (sub-zero (length s - 1), sym e ∙ not-false b h))
+  closed-by r h w = fills-same w (λ x d u. rw (sub-zero (length s - 1), sym e ∙ not-false b h))
 
 -- ---- a ring
 
 module _ (g : Ring) (n : ℕ) (list : List ℕ) (k : Counts) (bs rs : List ℕ) (m : ℕ) (e : m ≡ length (listParts list)) where
-  pub list-many : (r : Answer Gathered) → n < m → r .refusal ≡ 11 → Fills ungroupedAs (gather k bs [] rs) r (ringList g n list)
+  pub list-many : n < m → Fills ungroupedAs (gather k bs [] rs) (Refuses 11) (ringList g n list)
   unfolding ringList
-  list-many r h z = fills-11 (gather k bs [] rs) r (ringList g n list) z (λ x d u. rw (← e, lt-ltb n m h))
+  list-many h = fills-refused 11 (gather k bs [] rs) (ringList g n list) (λ x d u. rw (← e, lt-ltb n m h))
 
   module _ (h : m ≤ n) (q : Pushed) (ys : List ℕ) (w : Pushes bondsAs (k .bonds) bs q ys (ringBondList (g .start) (g .end) list)) where
-    listed : Fills ungroupedAs (gather k bs [] rs) (record { refusal = q .refusal; state = gather (record { bonds = q .count; groups = k .groups; rings = k .rings; oxygens = k .oxygens }) ys [] rs }) (ringBondList (g .start) (g .end) list)
-    listed = bonds-ungrouped k (q .refusal) (q .count) bs [] rs ys (ringBondList (g .start) (g .end) list) w
-
-    pub list-refused : (q .refusal ≡ 0 → ⊥)
-        → Fills ungroupedAs (gather k bs [] rs) (record { refusal = q .refusal; state = gather (record { bonds = q .count; groups = k .groups; rings = k .rings; oxygens = k .oxygens }) ys [] rs }) (ringList g n list)
+    pub list-refused : (a : ℕ) → q ≡ Pushed·Refused a → Fills ungroupedAs (gather k bs [] rs) (Refuses a) (ringList g n list)
     unfolding ringList
-    list-refused z = fills-same (fills-stop (λ e. Read (withRing g e)) listed z) (λ x d u. sym (rw (← e, le-ltb n m h)))
+    list-refused a z =
+        let v = bonds-ungrouped-refused k bs [] rs (ringBondList (g .start) (g .end) list) a (rw z at w) in
+        fills-same (fills-stop (λ e. Read (withRing g e)) v) (λ x d u. sym (rw (← e, le-ltb n m h)))
 
-    pub list-read : (i : ℕ) (zs : List ℕ) → q .refusal ≡ 0 → Grows ringsAs (first (k .rings) rs) (first i zs) (withRing g)
-        → Fills ungroupedAs (gather k bs [] rs) (record { refusal = 0; state = gather (record { bonds = q .count; groups = k .groups; rings = i; oxygens = k .oxygens }) ys [] zs }) (ringList g n list)
+    pub list-read : (a i : ℕ) (zs : List ℕ) → q ≡ Pushed·Read a → Grows ringsAs (first (k .rings) rs) (first i zs) (withRing g)
+        → Fills ungroupedAs (gather k bs [] rs) (Has (gather (record { bonds = a; groups = k .groups; rings = i; oxygens = k .oxygens }) ys [] zs)) (ringList g n list)
     unfolding ringList
-    list-read i zs z t =
-        fills-same (fills-then listed z (fills-read (ring-ungrouped (record { bonds = q .count; groups = k .groups; rings = k .rings; oxygens = k .oxygens }) i ys [] rs zs (withRing g) t))) (λ x d u. sym (rw (← e, le-ltb n m h)))
+    list-read a i zs z t =
+        let v = bonds-ungrouped k bs [] rs (ringBondList (g .start) (g .end) list) a ys (rw z at w) in
+        fills-same (fills-then v (fills-read (ring-ungrouped (record { bonds = a; groups = k .groups; rings = k .rings; oxygens = k .oxygens }) i ys [] rs zs (withRing g) t))) (λ x d u. sym (rw (← e, le-ltb n m h)))
 
-module _ (g : Ring) (n : ℕ) (s : List ℕ) (c : Gathered) (r : Answer Gathered) (b : Bool) (e : b ≡ endsInParenthesis s) where
-  pub ring-open : not b ≡ true → r .refusal ≡ 11 → Fills ungroupedAs c r (ringListed g n s)
+module _ (g : Ring) (n : ℕ) (s : List ℕ) (c : Gathered) (b : Bool) (e : b ≡ endsInParenthesis s) where
+  pub ring-open : not b ≡ true → Fills ungroupedAs c (Refuses 11) (ringListed g n s)
   unfolding ringListed
-  ring-open h k = closed-not (ringList g n) s c r b e h k
+  ring-open h = closed-not (ringList g n) s c b e h
 
-  pub ring-closed : not b ≡ false → Fills ungroupedAs c r (ringList g n (take (length s - 1 - 0) s)) → Fills ungroupedAs c r (ringListed g n s)
+  pub ring-closed : (r : Answer Gathered) → not b ≡ false → Fills ungroupedAs c r (ringList g n (take (length s - 1 - 0) s)) → Fills ungroupedAs c r (ringListed g n s)
   unfolding ringListed
-  ring-closed h w = closed-by (ringList g n) s c r b e h w
+  ring-closed r h w = closed-by (ringList g n) s c b e r h w
 
 module _ (g : Ring) (s : List ℕ) (q : ℕ) (p : Place s (indexOf 40 s) q) (a : Number) (e : a ≡ ringCount (take (q - 0) s)) where
   count-at : ringCount (take (indexOf 40 s) s) ≡ a
   count-at = rw (sub-zero q, p .is) at (sym e)
 
-  pub bonds-unreadable : (c : Gathered) (r : Answer Gathered) → a ≡ Number·Unreadable → r .refusal ≡ 11 → Fills ungroupedAs c r (ringBonds g s)
+  pub bonds-unreadable : (c : Gathered) → a ≡ Number·Unreadable → Fills ungroupedAs c (Refuses 11) (ringBonds g s)
   unfolding ringBonds
-  bonds-unreadable c r h k = fills-11 c r (ringBonds g s) k (λ x d u. rw (count-at ∙ h))
+  bonds-unreadable c h = fills-refused 11 c (ringBonds g s) (λ x d u. rw (count-at ∙ h))
 
   module _ (n : ℕ) (h : a ≡ Number·Value n) where
     pub bonds-unlisted : (k : Counts) (bs rs zs : List ℕ) (i : ℕ) → q ≡ length s → Grows ringsAs (first (k .rings) rs) (first i zs) (withRing g)
-        → Fills ungroupedAs (gather k bs [] rs) (record { refusal = 0; state = gather (record { bonds = k .bonds; groups = k .groups; rings = i; oxygens = k .oxygens }) bs [] zs }) (ringBonds g s)
+        → Fills ungroupedAs (gather k bs [] rs) (Has (gather (record { bonds = k .bonds; groups = k .groups; rings = i; oxygens = k .oxygens }) bs [] zs)) (ringBonds g s)
     unfolding ringBonds
     bonds-unlisted k bs rs zs i l t = fills-same (fills-read (ring-ungrouped k i bs [] rs zs (withRing g) t)) (λ x d u. sym (rw (count-at ∙ h, ← p .is, eq-eqb q (length s) l)))
 
@@ -99,38 +99,38 @@ no-ring (Repeated row m) f n = refl
 no-ring (Oxygens m) f n = refl
 no-ring Unreadable f n = refl
 
-module _ (start end : ℕ) (s : List ℕ) (carbon : ℕ) (c : Gathered) (m : ℕ) (p : Place s (indexOf 58 s) m) (a : Number) (e : a ≡ trimmedNumber (take (m - 0) s)) (r : Answer Gathered) where
+module _ (start end : ℕ) (s : List ℕ) (carbon : ℕ) (c : Gathered) (m : ℕ) (p : Place s (indexOf 58 s) m) (a : Number) (e : a ≡ trimmedNumber (take (m - 0) s)) where
   size-at : trimmedNumber (take (indexOf 58 s) s) ≡ a
   size-at = rw (sub-zero m, p .is) at (sym e)
 
-  pub size-unreadable : a ≡ Number·Unreadable → r .refusal ≡ 11 → Fills (on carbon ungroupedAs) c r (ringSized start end s)
+  pub size-unreadable : a ≡ Number·Unreadable → Fills (on carbon ungroupedAs) c (Refuses 11) (ringSized start end s)
   unfolding ringSized
-  size-unreadable h k = fills-11 c r (ringSized start end s) k (λ x d u. rw (size-at ∙ h))
+  size-unreadable h = fills-refused 11 c (ringSized start end s) (λ x d u. rw (size-at ∙ h))
 
   module _ (size : ℕ) (h : a ≡ Number·Value size) (g : Segment) (f : g ≡ ringOf start end size carbon) where
-    pub size-wrong : OneOf (1 ∷ 2 ∷ 3 ∷ 4 ∷ []) (tagOf the-type g) → r .refusal ≡ 11 → Fills (on carbon ungroupedAs) c r (ringSized start end s)
+    pub size-wrong : OneOf (1 ∷ 2 ∷ 3 ∷ 4 ∷ []) (tagOf the-type g) → Fills (on carbon ungroupedAs) c (Refuses 11) (ringSized start end s)
     unfolding ringSized
-    size-wrong n k =
-        fills-11 c r (ringSized start end s) k
+    size-wrong n =
+        fills-refused 11 c (ringSized start end s)
         (λ x d u. let z : ringOf start end size (d .carbon) ≡ g = rw (← u .carbon) (sym f) in rw (size-at ∙ h, z) (no-ring g (λ r. ringBonds r (afterPlace (indexOf 58 s) s) d) n))
 
-    pub size-sized : (t : List ℕ) (ring : Ring) → g ≡ Cycle ring → t ≡ afterPlace m s → Fills ungroupedAs c r (ringBonds ring t) → Fills (on carbon ungroupedAs) c r (ringSized start end s)
+    pub size-sized : (t : List ℕ) (ring : Ring) (r : Answer Gathered) → g ≡ Cycle ring → t ≡ afterPlace m s → Fills ungroupedAs c r (ringBonds ring t) → Fills (on carbon ungroupedAs) c r (ringSized start end s)
     unfolding ringSized
-    size-sized t ring k l w = fills-same (fills-on carbon w) (λ x d u. sym (rw (size-at ∙ h, ← u .carbon, sym f ∙ k, ← p .is, ← l)))
+    size-sized t ring r k l w = fills-same (fills-on carbon w) (λ x d u. sym (rw (size-at ∙ h, ← u .carbon, sym f ∙ k, ← p .is, ← l)))
 
-module _ (s : List ℕ) (dash cy carbon : ℕ) (c : Gathered) (r : Answer Gathered) (a : Number) (e : a ≡ trimmedNumber (take (dash - 0) s)) where
+module _ (s : List ℕ) (dash cy carbon : ℕ) (c : Gathered) (a : Number) (e : a ≡ trimmedNumber (take (dash - 0) s)) where
   start-at : trimmedNumber (take dash s) ≡ a
   start-at = rw (sub-zero dash) at (sym e)
 
-  pub start-unreadable : a ≡ Number·Unreadable → r .refusal ≡ 11 → Fills (on carbon ungroupedAs) c r (ringSegment s dash cy)
+  pub start-unreadable : a ≡ Number·Unreadable → Fills (on carbon ungroupedAs) c (Refuses 11) (ringSegment s dash cy)
   unfolding ringSegment
-  start-unreadable h k = fills-11 c r (ringSegment s dash cy) k (λ x d u. rw (start-at ∙ h))
+  start-unreadable h = fills-refused 11 c (ringSegment s dash cy) (λ x d u. rw (start-at ∙ h))
 
   module _ (start : ℕ) (h : a ≡ Number·Value start) (b : Number) (f : b ≡ trimmedNumber (take (cy - (dash + 1)) (drop (dash + 1) s))) where
-    pub end-unreadable : b ≡ Number·Unreadable → r .refusal ≡ 11 → Fills (on carbon ungroupedAs) c r (ringSegment s dash cy)
+    pub end-unreadable : b ≡ Number·Unreadable → Fills (on carbon ungroupedAs) c (Refuses 11) (ringSegment s dash cy)
     unfolding ringSegment
-    end-unreadable i k = fills-11 c r (ringSegment s dash cy) k (λ x d u. rw (start-at ∙ h, sym f ∙ i))
+    end-unreadable i = fills-refused 11 c (ringSegment s dash cy) (λ x d u. rw (start-at ∙ h, sym f ∙ i))
 
-    pub ring-segment-is : (end : ℕ) → b ≡ Number·Value end → Fills (on carbon ungroupedAs) c r (ringSized start end (take (length s - (cy + 2)) (drop (cy + 2) s))) → Fills (on carbon ungroupedAs) c r (ringSegment s dash cy)
+    pub ring-segment-is : (end : ℕ) (r : Answer Gathered) → b ≡ Number·Value end → Fills (on carbon ungroupedAs) c r (ringSized start end (take (length s - (cy + 2)) (drop (cy + 2) s))) → Fills (on carbon ungroupedAs) c r (ringSegment s dash cy)
     unfolding ringSegment
-    ring-segment-is end i w = fills-same w (λ x d u. rw (to-end (cy + 2) s) (sym (rw (start-at ∙ h, sym f ∙ i))))
+    ring-segment-is end r i w = fills-same w (λ x d u. rw (to-end (cy + 2) s) (sym (rw (start-at ∙ h, sym f ∙ i))))

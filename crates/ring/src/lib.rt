@@ -4,6 +4,7 @@
 use features::Segment;
 use parsed::Counted;
 use parsed::Counts;
+use parsed::Pushed;
 use record::Ring;
 use scan::Number;
 ghost use Prim.Native.Nat.{_+_, _<_, _≤_};
@@ -27,7 +28,7 @@ fn parse_ring_list(
     ensures { λ r. ⌜ Collects ungroupedAs (gather counts (now (bonds .entry)) [] (now (rings .entry))) r (now (bonds .exit)) [] (now (rings .exit)) (ringList ring n (now (list .entry))) ⌝ }
 {
     if n < (form::position_count(list) as u64) {
-        return parsed::unreadable(counts);
+        return Counted::Refused(record::UNREADABLE);
     }
     let so_far = counts.bonds;
     let listed = positions::parse_ring_bonds(
@@ -37,19 +38,14 @@ fn parse_ring_list(
         bonds,
         so_far,
     );
-    let refusal = listed.refusal;
-    let mut more = counts;
-    more.bonds = listed.count;
-    if refusal != 0 {
-        return Counted {
-            refusal,
-            counts: more,
-        };
-    }
-    more.rings = parsed::push_ring(rings, more.rings, ring);
-    Counted {
-        refusal: 0,
-        counts: more,
+    match listed {
+        Pushed::Refused(number) => Counted::Refused(number),
+        Pushed::Read(count) => {
+            let mut more = counts;
+            more.bonds = count;
+            more.rings = parsed::push_ring(rings, more.rings, ring);
+            Counted::Read(more)
+        }
     }
 }
 
@@ -67,7 +63,7 @@ fn parse_ring_listed(
     ensures { λ r. ⌜ Collects ungroupedAs (gather counts (now (bonds .entry)) [] (now (rings .entry))) r (now (bonds .exit)) [] (now (rings .exit)) (ringListed ring n (now (s .entry))) ⌝ }
 {
     if !form::ends_in_parenthesis(s) {
-        return parsed::unreadable(counts);
+        return Counted::Refused(record::UNREADABLE);
     }
     parse_ring_list(ring, n, &s[0..s.len() - 1], bonds, rings, counts)
 }
@@ -86,15 +82,12 @@ fn parse_ring_bond_count(
 {
     let open = scan::find(s, b'(');
     let Number::Value(n) = form::ring_count(&s[0..open]) else {
-        return parsed::unreadable(counts);
+        return Counted::Refused(record::UNREADABLE);
     };
     if open == s.len() {
         let mut more = counts;
         more.rings = parsed::push_ring(rings, more.rings, ring);
-        return Counted {
-            refusal: 0,
-            counts: more,
-        };
+        return Counted::Read(more);
     }
     parse_ring_listed(ring, n, &s[open + 1..], bonds, rings, counts)
 }
@@ -115,10 +108,10 @@ fn parse_ring_size(
 {
     let colon = scan::find(s, b':');
     let Number::Value(size) = form::trimmed_number(&s[0..colon]) else {
-        return parsed::unreadable(counts);
+        return Counted::Refused(record::UNREADABLE);
     };
     let Segment::Cycle(ring) = features::ring_of(start, end, size, carbon) else {
-        return parsed::unreadable(counts);
+        return Counted::Refused(record::UNREADABLE);
     };
     parse_ring_bond_count(ring, form::after_place(s, colon), bonds, rings, counts)
 }
@@ -139,10 +132,10 @@ pub fn parse_ring_segment(
     ensures { λ r. ⌜ Collects (on carbon ungroupedAs) (gather counts (now (bonds .entry)) [] (now (rings .entry))) r (now (bonds .exit)) [] (now (rings .exit)) (ringSegment (now (s .entry)) dash cy) ⌝ }
 {
     let Number::Value(start) = form::trimmed_number(&s[0..dash]) else {
-        return parsed::unreadable(counts);
+        return Counted::Refused(record::UNREADABLE);
     };
     let Number::Value(end) = form::trimmed_number(&s[dash + 1..cy]) else {
-        return parsed::unreadable(counts);
+        return Counted::Refused(record::UNREADABLE);
     };
     parse_ring_size(start, end, &s[cy + 2..], carbon, bonds, rings, counts)
 }

@@ -18,10 +18,10 @@ use Rattle.template.specs.Written.{indicesOf, lineOf, indexOf}
 use Rattle.placed.specs.Fragment.{gathered}
 use Rattle.builder.specs.Build.{rooms}
 use Rattle.lines.specs.declared.Line.{Line}
-use Rattle.lines.specs.Line.{LineIs, LineBuilt}
+use Rattle.lines.specs.Line.{Writes, Writable, LineIs, LineBuilt}
 use Rattle.longest.specs.Covered.{Covered, Slight, SlightCovered}
 use Rattle.answer.specs.Answer.{short}
-use Rattle.room.specs.Ready.{Ready, ShortIs, Ample}
+use Rattle.room.specs.Ready.{Ready, Readied, ShortIs, Ample}
 use Rattle.room.proofs.Index.{index-length}
 
 -- a measured length is no more than the text has
@@ -60,11 +60,19 @@ module _ (c : Class) (swap : Bool) (t : List ℕ) (ds : List Chain) where
 
 -- ---- a line that is measured
 
+-- there is room for the indices and rows of four chains
+module _ {c : Class} {t : List ℕ} {k : ℕ} {x : Chains} {vs ns rs os : List ℕ} (n : length ns ≡ 1020) (m : length rs ≡ 64) where
+  ready-writes : (ds : List Chain) → Ready c t k x ds → Writes c t k x (rooms vs ns rs os) ds
+  ready-writes ds w =
+      record { own = w .own; told = w .told; room = record { index = omega (arith, n, w .index, w .tokens); rows = omega (arith, m, w .rows, w .tokens) } }
+
+  pub readied-writable : Readied c t k x → Writable c t k x (rooms vs ns rs os)
+  readied-writable w = record { chains = w .chains; writes = ready-writes (w .chains) (w .ready) }
+
 module _ {c : Class} {swap : Bool} {t : List ℕ} {k : ℕ} {x : Chains} {vs zs ns js rs ss os ps : List ℕ} {r : Line} where
   measured : LineBuilt c swap t k x (rooms vs ns rs os) (rooms zs js ss ps) r → length ns ≡ 1020 → length rs ≡ 64 → (ds : List Chain) → Ready c t k x ds
       → LineIs c swap t ds (rooms vs ns rs os) (rooms zs js ss ps) r
-  measured h n m ds w =
-      h .line ds (w .tail) (w .stood) (w .fits) (w .told) (record { index = omega (arith, n, w .index, w .tokens); rows = omega (arith, m, w .rows, w .tokens) })
+  measured h n m ds w = h .line ds (ready-writes n m ds w)
 
   pub short-line : {n m : ℕ} → LineBuilt c swap t k x (rooms vs ns rs os) (rooms zs js ss ps) r → length ns ≡ 1020 → length rs ≡ 64 → n < r .at
       → ShortIs c swap t k x n m true
@@ -86,7 +94,7 @@ pub ample : {t : List ℕ} {k count : ℕ} {ns : List ℕ} {r n m : ℕ} → Cov
 ample {t} {n = n} {m} h e f =
     record {
       long = λ c swap l ds w.
-          long-enough c swap t ds n m (omega (arith, f, h .covers c swap ds l (w .tail) (w .stood) (w .told))) (omega (arith, e, index-length c t ds, w .index, w .tokens));
+          long-enough c swap t ds n m (omega (arith, f, h .covers c swap ds l (w .own .tail) (w .own .stood) (w .told))) (omega (arith, e, index-length c t ds, w .index, w .tokens));
     }
 
 -- for any with chains of which none is long

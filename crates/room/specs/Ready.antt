@@ -8,27 +8,28 @@ use Rattle.record.specs.Chain.{Chain}
 use Rattle.drawable.specs.Chains.{Chains}
 use Rattle.shapes.specs.Shapes.{chainsKept}
 use Rattle.template.specs.declared.Class.{Class}
-use Rattle.template.specs.Template.{elements, hasTail}
 use Rattle.template.specs.Drawn.{placed}
 use Rattle.template.specs.Written.{indicesOf}
 use Rattle.chain.specs.Lists.{Each}
 use Rattle.placed.specs.Fragment.{rowsOf, gathered, Told}
-use Rattle.templates.specs.Templates.{FitsAll, TailOf}
-use Rattle.templates.specs.Classes.{StoodIn}
+use Rattle.templates.specs.Classes.{InClass}
 use Rattle.answer.specs.Answer.{short}
 
 -- the chains ds of a class are x, with their tail of k atoms; there are no more of them than tokens, with at most so many floating groups, and no
 -- more indices than carbons
 pub record Ready (c : Class) (t : List ℕ) (k : ℕ) (x : Chains) (ds : List Chain) : Type 0 where
-  pub tail : hasTail c ≡ true → TailOf t k
-  pub stood : StoodIn c ds x
-  pub fits : FitsAll t ds (elements c)
+  pub own : InClass c t k x ds
   pub told : Each Told (placed c t ds)
   pub tokens : x .count ≤ 4
   pub few : length (placed c t ds) ≤ x .count
   pub index : length (gathered indicesOf (placed c t ds)) ≤ 255 * x .count
   pub lists : (m : ℕ) → Each (λ p. p .chain .carbon ≤ m) (placed c t ds) → length (gathered indicesOf (placed c t ds)) ≤ x .count * m
   pub rows : length (gathered rowsOf (placed c t ds)) ≤ 16 * x .count
+
+-- some request has these chains, and is ready to be drawn
+pub record Readied (c : Class) (t : List ℕ) (k : ℕ) (x : Chains) : Type 0 where
+  pub chains : List Chain
+  pub ready : Ready c t k x chains
 
 -- whether a slice is too short, for every such request and slices of these lengths
 pub record ShortIs (c : Class) (swap : Bool) (t : List ℕ) (k : ℕ) (x : Chains) (line index : ℕ) (r : Bool) : Type 0 where

@@ -7,7 +7,7 @@ use shapes::SHAPE_ROOM;
 use template::Class;
 ghost use lib.ListN.{length};
 ghost use Rattle.shapes.specs.Shapes.{chainsKept};
-ghost use Rattle.room.specs.Ready.{ShortIs, AmpleIf};
+ghost use Rattle.room.specs.Ready.{Readied, ShortIs, AmpleIf};
 
 // Room for the indices of four chains.
 pub const INDEX_ROOM: usize = 1020;
@@ -50,6 +50,7 @@ fn is_measured_short(
     shapes: &[u64; SHAPE_ROOM],
     lists: &[u64],
 ) -> bool
+    requires { ⌜ Readied class (now tail) «tail_atoms» (chainsKept count (now shapes) (now lists)) ⌝ }
     ensures { λ r. ⌜ ShortIs class swap (now (tail .entry)) «tail_atoms» (chainsKept count (now (shapes .entry)) (now (lists .entry))) (length (now (line .entry))) (length (now (index .entry))) r ⌝ }
 {
     let mut text = [0u8; 1];
@@ -87,6 +88,7 @@ pub fn is_short(
     shapes: &[u64; SHAPE_ROOM],
     lists: &[u64],
 ) -> bool
+    requires { ⌜ Readied class (now tail) «tail_atoms» (chainsKept count (now shapes) (now lists)) ⌝ }
     ensures { λ r. ⌜ ShortIs class swap (now (tail .entry)) «tail_atoms» (chainsKept count (now (shapes .entry)) (now (lists .entry))) (length (now (line .entry))) (length (now (index .entry))) r ⌝ }
 {
     if is_ample(line, index, tail, tail_atoms, count, shapes) {

@@ -13,12 +13,12 @@ use mathlib.Core.List.{List, [], _∷_, _++_, map, map-append}
 use lib.ListN.{length, getD, set, take, length-set, replicate}
 use lib.Seq.{getD-set-same, getD-set-other, set-out, take-suc, take-all}
 use lib.Dec.{eqb, ltb}
-use borrow.Author.Tests.{lt-ltb, le-ltb, eq-eqb, ne-eqb, ltb-true}
+use borrow.Author.Tests.{lt-ltb, le-ltb, eq-eqb, ne-eqb, ltb-true, ltb-false}
 use Rattle.record.specs.declared.DbPos.{DbPos}
 use Rattle.codes.specs.Codes.{bondIn}
 use Rattle.seats.specs.declared.Seat.{Seat}
 use Rattle.seats.specs.declared.Seat.the-variants.{At, Nothing}
-use Rattle.seats.specs.Seats.{among, also, free, firstFree, orElse, seatFrom, onSeat, seatsFrom, firstStart, seated, usedIn, positions, NoMarks, Marks, MarksAll, Seated}
+use Rattle.seats.specs.Seats.{among, also, free, Found, SeatIs, firstFree, orElse, seatFrom, onSeat, seatsFrom, firstStart, seated, usedIn, positions, NoMarks, Marks, MarksAll, Seated}
 
 -- ---- a free seat
 
@@ -35,42 +35,6 @@ module _ (xs : List Bool) (p : ℕ) where
   unfolding free
   used-above e f = rw (e, f)
 
-module _ (A : Seat) (u : ℕ → Bool) (p to : ℕ) (v : A ≡ firstFree u (to - p) p) where
-  seat-first : p < to → A ≡ cond (free u p) (At p) (firstFree u (to - (p + 1)) (suc p))
-  unfolding firstFree
-  seat-first h =
-      let e : to - p ≡ suc (to - (p + 1)) = omega arith in
-      v ∙ rw e
-
-  pub seat-here : (b : Bool) → p < to → b ≡ free u p → b ≡ true → At p ≡ A
-  seat-here b h e f = sym (seat-first h ∙ rw (sym e ∙ f))
-
-  pub seat-next : (b : Bool) → p < to → b ≡ free u p → b ≡ false → A ≡ firstFree u (to - (p + 1)) (p + 1)
-  seat-next b h e f = rw (add-one p) (seat-first h ∙ rw (sym e ∙ f, add-one p))
-
-  pub seat-none : to ≤ p → Nothing ≡ A
-  unfolding firstFree
-  seat-none h =
-      let e : to - p ≡ 0 = omega arith in
-      sym (v ∙ rw e)
-
--- ---- upward from a start, and from 2 on again
-
-module _ (c : ℕ) (u : ℕ → Bool) (s : ℕ) where
-  pub start-past : (r : Seat) → c ≤ s → r ≡ firstFree u (c - 2) 2 → r ≡ seatFrom c u s
-  unfolding seatFrom
-  start-past r h e = rw (le-ltb s c h) e
-
-  pub found-above : (r : Seat) (p : ℕ) → s < c → r ≡ firstFree u (c - s) s → r ≡ At p → r ≡ seatFrom c u s
-  unfolding seatFrom
-  found-above r p h e f = rw (lt-ltb s c h, sym e ∙ f) f
-
-  pub found-below : (r q : Seat) → s < c → r ≡ firstFree u (c - s) s → r ≡ Nothing → q ≡ firstFree u (s - 2) 2 → q ≡ seatFrom c u s
-  unfolding seatFrom
-  found-below r q h e f g = rw (lt-ltb s c h, sym e ∙ f) g
-
--- ---- where a seat is
-
 first-range : (u : ℕ → Bool) (n a p : ℕ) → firstFree u n a ≡ At p → (a ≤ p) × (p < a + n)
 unfolding firstFree
 first-range u zero a p e = let z : _≡_ {A = ℕ} 0 1 = cc in absurd (omega arith)
@@ -80,8 +44,83 @@ first-range u (suc n) a p e = go (free u a) e (first-range u n (suc a) p)
     go true e f = let z : a ≡ p = cc in (omega arith, omega arith)
     go false e f = let w = f e in (omega (arith, w .0, w .1), omega (arith, w .0, w .1))
 
+first-is-free : (u : ℕ → Bool) (n a p : ℕ) → firstFree u n a ≡ At p → free u p ≡ true
+unfolding firstFree
+first-is-free u zero a p e = let z : _≡_ {A = ℕ} 0 1 = cc in absurd (omega arith)
+first-is-free u (suc n) a p e = go (free u a) refl e (first-is-free u n (suc a) p)
+  where
+    go : (b : Bool) → free u a ≡ b → cond b (At a) (firstFree u n (suc a)) ≡ At p → (firstFree u n (suc a) ≡ At p → free u p ≡ true) → free u p ≡ true
+    go true g e f = let z : a ≡ p = cc in ap (free u) (sym z) ∙ g
+    go false g e f = f e
+
+none-free : (u : ℕ → Bool) (n a : ℕ) → firstFree u n a ≡ Nothing → (p : ℕ) → a ≤ p → p < a + n → free u p ≡ false
+unfolding firstFree
+none-free u zero a e p h k = absurd (omega arith)
+none-free u (suc n) a e p h k = go (free u a) refl e (none-free u n (suc a)) (ℕ-discrete a p)
+  where
+    go : (b : Bool) → free u a ≡ b → cond b (At a) (firstFree u n (suc a)) ≡ Nothing
+        → (firstFree u n (suc a) ≡ Nothing → (q : ℕ) → suc a ≤ q → q < suc a + n → free u q ≡ false) → Dec (a ≡ p) → free u p ≡ false
+    go true g e f d = let z : _≡_ {A = ℕ} 0 1 = cc in absurd (omega arith)
+    go false g e f (yes q) = ap (free u) (sym q) ∙ g
+    go false g e f (no q) = f e p (omega (arith, q)) (omega arith)
+
+first-found : (u : ℕ → Bool) (from to : ℕ) (r : Seat) → r ≡ firstFree u (to - from) from → Found u from to r
+first-found u from to (At p) e =
+    let w = first-range u (to - from) from p (sym e) in
+    (w .0, omega (arith, w .0, w .1), first-is-free u (to - from) from p (sym e))
+first-found u from to Nothing e = λ p h k. none-free u (to - from) from (sym e) p h (omega arith)
+
+module _ (u : ℕ → Bool) (from to p : ℕ) (v : firstFree u (to - from) from ≡ firstFree u (to - p) p) where
+  seat-first : p < to → firstFree u (to - from) from ≡ cond (free u p) (At p) (firstFree u (to - (p + 1)) (suc p))
+  unfolding firstFree
+  seat-first h =
+      let e : to - p ≡ suc (to - (p + 1)) = omega arith in
+      v ∙ rw e
+
+  seat-is : (r : Seat) → r ≡ firstFree u (to - from) from → SeatIs u from to (firstFree u (to - from) from) r
+  seat-is r e = record { is = e; found = first-found u from to r e }
+
+  pub seat-here : (b : Bool) → p < to → b ≡ free u p → b ≡ true → SeatIs u from to (firstFree u (to - from) from) (At p)
+  seat-here b h e f = seat-is (At p) (sym (seat-first h ∙ rw (sym e ∙ f)))
+
+  pub seat-next : (b : Bool) → p < to → b ≡ free u p → b ≡ false → firstFree u (to - from) from ≡ firstFree u (to - (p + 1)) (p + 1)
+  seat-next b h e f = rw (add-one p) (seat-first h ∙ rw (sym e ∙ f, add-one p))
+
+  pub seat-none : to ≤ p → SeatIs u from to (firstFree u (to - from) from) Nothing
+  unfolding firstFree
+  seat-none h =
+      let e : to - p ≡ 0 = omega arith in
+      seat-is Nothing (sym (v ∙ rw e))
+
+-- ---- upward from a start, and from 2 on again
+
+module _ (c : ℕ) (u : ℕ → Bool) (s : ℕ) (l : 2 ≤ s) where
+  pub start-past : (r : Seat) → c ≤ s → SeatIs u 2 c (firstFree u (c - 2) 2) r → SeatIs u 2 c (seatFrom c u s) r
+  unfolding seatFrom
+  start-past r h w = record { is = rw (le-ltb s c h) (w .is); found = w .found }
+
+  pub found-above : (r : Seat) (p : ℕ) → s < c → SeatIs u s c (firstFree u (c - s) s) r → r ≡ At p → SeatIs u 2 c (seatFrom c u s) r
+  unfolding seatFrom
+  found-above r p h w f =
+      let g : Found u s c (At p) = rw f at (w .found) in
+      record { is = rw (lt-ltb s c h, sym (w .is) ∙ f) f; found = rw f (omega (arith, g .0), g .1, g .2) }
+
+  pub found-below : (r q : Seat) → s < c → SeatIs u s c (firstFree u (c - s) s) r → r ≡ Nothing → SeatIs u 2 s (firstFree u (s - 2) 2) q → SeatIs u 2 c (seatFrom c u s) q
+  unfolding seatFrom
+  found-below r q h w f v = record { is = rw (lt-ltb s c h, sym (w .is) ∙ f) (v .is); found = go q (v .found) (rw f at (w .found)) }
+    where
+      side : (p : ℕ) (b : Bool) → ltb p s ≡ b → (p < s → free u p ≡ false) → (s ≤ p → free u p ≡ false) → free u p ≡ false
+      side p true t g n = g (ltb-true p s t)
+      side p false t g n = n (ltb-false p s t)
+
+      go : (q : Seat) → Found u 2 s q → Found u s c Nothing → Found u 2 c q
+      go (At p) g n = (g .0, omega (arith, g .1), g .2)
+      go Nothing g n = λ p a b. side p (ltb p s) refl (g p a) (λ k. n p k b)
+
+-- ---- where a seat is
+
 -- a seat is one of 2..c−1
-pub seat-range : (c : ℕ) (u : ℕ → Bool) (s p : ℕ) → 2 ≤ s → 2 ≤ c → seatFrom c u s ≡ At p → (2 ≤ p) × (p < c)
+seat-range : (c : ℕ) (u : ℕ → Bool) (s p : ℕ) → 2 ≤ s → 2 ≤ c → seatFrom c u s ≡ At p → (2 ≤ p) × (p < c)
 unfolding seatFrom
 seat-range c u s p h k e = go (ltb s c) refl e
   where
@@ -199,18 +238,18 @@ seats-agree c u v s (suc n) k g = rw (seat-agree c u v g s k) (go (seatFrom c v 
 -- ---- one seat after the other
 
 module _ (A : Bool) (xs : List Bool) (c s n : ℕ) (v : A ≡ seatsFrom c (usedIn xs) s n) where
-  pub no-seat : (r : Seat) → 0 < n → r ≡ seatFrom c (usedIn xs) s → r ≡ Nothing → false ≡ A
+  pub no-seat : (r : Seat) → 0 < n → SeatIs (usedIn xs) 2 c (seatFrom c (usedIn xs) s) r → r ≡ Nothing → false ≡ A
   unfolding seatsFrom
-  no-seat r h e f =
+  no-seat r h w f =
       let m : n ≡ suc (n - 1) = omega arith in
-      sym (v ∙ rw (m, sym e ∙ f))
+      sym (v ∙ rw (m, sym (w .is) ∙ f))
 
-  pub next-seat : (r : Seat) (p : ℕ) (ys : List Bool) → 0 < n → 4 ≤ c → (m : ℕ) → c < m → length xs ≡ m → r ≡ seatFrom c (usedIn xs) s → r ≡ At p → Marks xs p ys
+  pub next-seat : (r : Seat) (p : ℕ) (ys : List Bool) → 0 < n → 4 ≤ c → (m : ℕ) → c < m → length xs ≡ m → SeatIs (usedIn xs) 2 c (seatFrom c (usedIn xs) s) r → r ≡ At p → Marks xs p ys
       → A ≡ seatsFrom c (usedIn ys) (p + 3) (n - 1)
   unfolding seatsFrom
   next-seat r p ys h g q l₀ l e f m =
       let t : n ≡ suc (n - 1) = omega arith in
-      let w : seatsFrom c (usedIn xs) s (suc (n - 1)) ≡ seatsFrom c (also p (usedIn xs)) (p + 3) (n - 1) = rw (sym e ∙ f) in
+      let w : seatsFrom c (usedIn xs) s (suc (n - 1)) ≡ seatsFrom c (also p (usedIn xs)) (p + 3) (n - 1) = rw (sym (e .is) ∙ f) in
       rw (m .marked) (v ∙ ap (seatsFrom c (usedIn xs) s) t ∙ w ∙ seats-agree c (also p (usedIn xs)) (usedIn (set xs p true)) (p + 3) (n - 1) (omega arith) (λ k h. also-set xs p k (omega arith)))
 
   pub all-seated : n ≤ 0 → true ≡ A
@@ -220,8 +259,8 @@ module _ (A : Bool) (xs : List Bool) (c s n : ℕ) (v : A ≡ seatsFrom c (usedI
       sym (v ∙ rw m)
 
 -- the next start fits
-pub seat-next-fits : (c : ℕ) (u : ℕ → Bool) (s : ℕ) (r : Seat) (p : ℕ) → 2 ≤ s → 4 ≤ c → c ≤ 255 → r ≡ seatFrom c u s → r ≡ At p → Fits w16 (p + 3)
-seat-next-fits c u s r p h k l e f = record { fits = omega (arith, seat-range c u s p h (omega arith) (sym e ∙ f) .1) }
+pub seat-next-fits : (c : ℕ) (u : ℕ → Bool) (s r : Seat) (p : ℕ) → c ≤ 255 → SeatIs u 2 c s r → r ≡ At p → Fits w16 (p + 3)
+seat-next-fits c u s r p l w f = let g : Found u 2 c (At p) = rw f at (w .found) in record { fits = omega (arith, g .1) }
 
 -- ---- the whole
 
@@ -274,7 +313,7 @@ seats-row c bs l n r z h f e =
     let k : 4 ≤ c = omega (arith, w .1) in
     rw (w .0)
     (record {
-      is = λ d. rw (ne-eqb n 0 z, le-ltb c 4 k, ← first-nine c (omega (arith, w .1))) (sym (row-all c (among []) 9 n (omega (arith, w .1)) (λ k h. refl)));
+      is = rw (ne-eqb n 0 z, le-ltb c 4 k, ← first-nine c (omega (arith, w .1))) (sym (row-all c (among []) 9 n (omega (arith, w .1)) (λ k h. refl)));
       few = λ d. omega (arith, w .1);
     })
 
@@ -351,20 +390,17 @@ seats-room c u s (suc n) h k e = go (seatFrom c u s) refl e (λ p. seats-room c 
 module _ (c : ℕ) (ps : List ℕ) (n : ℕ) where
   pub seats-none : n ≡ 0 → Seated c ps n true
   unfolding seated
-  seats-none e = record { is = λ h. rw (eq-eqb n 0 e); few = λ t. omega arith }
+  seats-none e = record { is = rw (eq-eqb n 0 e); few = λ t. omega arith }
 
   pub seats-short : (n ≡ 0 → ⊥) → c < 4 → Seated c ps n false
   unfolding seated
-  seats-short e h = record { is = λ k. rw (ne-eqb n 0 e, lt-ltb c 4 h); few = λ t. absurd (true≢false (sym t)) }
-
-  pub seats-large : 255 < c → Seated c ps n false
-  seats-large h = record { is = λ k. absurd (omega arith); few = λ t. absurd (true≢false (sym t)) }
+  seats-short e h = record { is = rw (ne-eqb n 0 e, lt-ltb c 4 h); few = λ t. absurd (true≢false (sym t)) }
 
   pub seats-found : (xs ys : List Bool) (s : ℕ) (r : Bool) → (n ≡ 0 → ⊥) → 4 ≤ c → c ≤ 255 → NoMarks xs → MarksAll xs ps ys → s ≡ firstStart c → r ≡ seatsFrom c (usedIn ys) s n → Seated c ps n r
   unfolding seated
   seats-found xs ys s r e h l z m f g =
       record {
-        is = λ k. rw (ne-eqb n 0 e, le-ltb c 4 h, ← f) (g ∙ seats-agree c (usedIn ys) (among ps) s n (omega arith) agree);
+        is = rw (ne-eqb n 0 e, le-ltb c 4 h, ← f) (g ∙ seats-agree c (usedIn ys) (among ps) s n (omega arith) agree);
         few = λ t. omega (arith, seats-room c (usedIn ys) s n (first-low c s f) (omega arith) (sym g ∙ t));
       }
     where

@@ -30,6 +30,17 @@ also p used k = cond (eqb p k) true (used k)
 unfoldable pub free : (ℕ → Bool) → ℕ → Bool
 free used p = cond (used p) false (cond (used (p - 1)) false (not (used (p + 1))))
 
+-- what each answer says of the seats from..to−1, beside what is used: that p is one of them and free; that none of them is free. Where those
+-- are all the seats of a chain, "seats fail" then, which is 11 (`finished` of the token reader)
+abbrev pub Found : (ℕ → Bool) → ℕ → ℕ → Seat → Type 0
+Found used from to (At p) = (from ≤ p) × (p < to) × (free used p ≡ true)
+Found used from to Nothing = (p : ℕ) → from ≤ p → p < to → free used p ≡ false
+
+-- r is the seat s of a search, and a seat or none of those from..to−1
+pub record SeatIs (used : ℕ → Bool) (from to : ℕ) (s r : Seat) : Type 0 where
+  pub is : r ≡ s
+  pub found : Found used from to r
+
 -- the first free of n seats, upward from p
 unfoldable pub firstFree : (ℕ → Bool) → ℕ → ℕ → Seat
 firstFree used zero p = Nothing
@@ -44,6 +55,7 @@ unfoldable pub seatFrom : ℕ → (ℕ → Bool) → ℕ → Seat
 seatFrom c used s =
     cond (ltb s c) (orElse (firstFree used (c - s) s) (firstFree used (s - 2) 2)) (firstFree used (c - 2) 2)
 
+-- a seat, and then what follows; none, and the seats fail
 abbrev pub onSeat : Seat → (ℕ → Bool) → Bool
 onSeat (At p) f = f p
 onSeat Nothing f = false
@@ -80,7 +92,7 @@ pub record MarksAll (xs : List Bool) (ps : List ℕ) (ys : List Bool) : Type 0 w
   pub same-length : length ys ≡ length xs
   pub marked : (k : ℕ) → k < length xs → usedIn ys k ≡ cond (among ps k) true (usedIn xs k)
 
--- the answer r on c carbons, which are at most as many as a token may write; no more bonds are seated than there are carbons
+-- the answer r on c carbons; no more bonds are seated than a token may write carbons
 pub record Seated (c : ℕ) (ps : List ℕ) (n : ℕ) (r : Bool) : Type 0 where
-  pub is : c ≤ maxCarbons → r ≡ seated c ps n
+  pub is : r ≡ seated c ps n
   pub few : r ≡ true → n ≤ maxCarbons

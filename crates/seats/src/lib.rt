@@ -8,12 +8,12 @@ ghost use mathlib.Core.List.{map};
 ghost use lib.ListN.{take, length};
 ghost use Rattle.record.specs.Chain.{maxCarbons};
 ghost use Rattle.codes.specs.Codes.{bondIn};
-ghost use Rattle.seats.specs.Seats.{usedIn, free, firstFree, seatFrom, seatsFrom, firstStart, positions, NoMarks, Marks, MarksAll, Seated};
+ghost use Rattle.seats.specs.Seats.{usedIn, free, firstFree, seatFrom, SeatIs, seatsFrom, firstStart, positions, NoMarks, Marks, MarksAll, Seated};
 
 // One place for each position from 0 to MAX_CARBONS.
 const PLACES: usize = 256;
 
-// A free seat.
+// A free seat, or none. What each says is `Found` of specs/Seats.antt.
 pub enum Seat {
     At(u16),
     Nothing,
@@ -37,7 +37,7 @@ fn is_free(used: &[bool], p: u16) -> bool
 // The first free seat from `from` up to, not including, `to`.
 fn first_free(used: &[bool], from: u16, to: u16) -> Seat
     requires { ⌜ (2 ≤ from) × (to < length (now used)) ⌝ }
-    ensures { λ r. ⌜ r ≡ firstFree (usedIn (now (used .entry))) (to - from) from ⌝ }
+    ensures { λ r. ⌜ SeatIs (usedIn (now (used .entry))) from to (firstFree (usedIn (now (used .entry))) (to - from) from) r ⌝ }
 {
     let mut p = from;
     while p < to {
@@ -52,7 +52,7 @@ fn first_free(used: &[bool], from: u16, to: u16) -> Seat
 // The first free seat upward from `start`, and past the last seat from 2 on again.
 fn seat_from(used: &[bool], carbon: u16, start: u16) -> Seat
     requires { ⌜ (2 ≤ start) × (carbon < length (now used)) ⌝ }
-    ensures { λ r. ⌜ r ≡ seatFrom carbon (usedIn (now (used .entry))) start ⌝ }
+    ensures { λ r. ⌜ SeatIs (usedIn (now (used .entry))) 2 carbon (seatFrom carbon (usedIn (now (used .entry))) start) r ⌝ }
 {
     if carbon <= start {
         return first_free(used, 2, carbon);
@@ -142,15 +142,13 @@ fn seats_in_row(carbon: u16, listed: usize, missing: u64) -> bool
 
 // Whether each of the missing bonds finds a seat beside the first `listed` double bonds, which are numbers of the crate `codes`.
 pub fn placeholder_positions(carbon: u16, bonds: &[u64], listed: usize, missing: u64) -> bool
+    requires { ⌜ carbon ≤ maxCarbons ⌝ }
     ensures { λ r. ⌜ Seated carbon (positions (map bondIn (take listed (now (bonds .entry))))) missing r ⌝ }
 {
     if missing == 0 {
         return true;
     }
     if carbon < 4 {
-        return false;
-    }
-    if MAX_CARBONS < carbon {
         return false;
     }
     if seats_in_row(carbon, listed, missing) {

@@ -36,22 +36,12 @@ fn push_repeated(row: u8, times: u32, groups: &mut [u64], count: usize) -> Pushe
     ensures { λ r. ⌜ Pushes groupsAs count (now (groups .entry)) r (now (groups .exit)) (manyTimes times (record { pos = 0; row = row })) ⌝ }
 {
     if MAX_GROUPS < count {
-        return Pushed {
-            refusal: record::OVER_LIMIT,
-            count,
-        };
+        return Pushed::Refused(record::OVER_LIMIT);
     }
     if MAX_GROUPS - count < (times as usize) {
-        return Pushed {
-            refusal: record::OVER_LIMIT,
-            count,
-        };
+        return Pushed::Refused(record::OVER_LIMIT);
     }
-    let so_far = push_copies(Mod { pos: 0, row }, times, groups, count);
-    Pushed {
-        refusal: 0,
-        count: so_far,
-    }
+    Pushed::Read(push_copies(Mod { pos: 0, row }, times, groups, count))
 }
 
 // What a piece of a segment adds.
@@ -64,34 +54,27 @@ fn add_segment(segment: Segment, groups: &mut [u64], rings: &mut [u64], counts: 
     match segment {
         Segment::Cycle(ring) => {
             more.rings = parsed::push_ring(rings, counts.rings, ring);
-            Counted {
-                refusal: 0,
-                counts: more,
-            }
+            Counted::Read(more)
         }
         Segment::Located(group) => {
             more.groups = parsed::push_group(groups, counts.groups, group);
-            Counted {
-                refusal: 0,
-                counts: more,
-            }
+            Counted::Read(more)
         }
         Segment::Repeated { row, times } => {
             let pushed = push_repeated(row, times, groups, counts.groups);
-            more.groups = pushed.count;
-            Counted {
-                refusal: pushed.refusal,
-                counts: more,
+            match pushed {
+                Pushed::Refused(number) => Counted::Refused(number),
+                Pushed::Read(count) => {
+                    more.groups = count;
+                    Counted::Read(more)
+                }
             }
         }
         Segment::Oxygens(n) => {
             more.oxygens = n;
-            Counted {
-                refusal: 0,
-                counts: more,
-            }
+            Counted::Read(more)
         }
-        Segment::Unreadable => parsed::unreadable(counts),
+        Segment::Unreadable => Counted::Refused(record::UNREADABLE),
     }
 }
 
@@ -126,20 +109,20 @@ fn parse_plain_position_list(
     ensures { λ r. ⌜ Collects (on carbon unbondedAs) (gather counts [] (now (groups .entry)) (now (rings .entry))) r [] (now (groups .exit)) (now (rings .exit)) (plainList feature (now (s .entry))) ⌝ }
 {
     if s.len() == 0 {
-        return Counted { refusal: 0, counts };
+        return Counted::Read(counts);
     }
     let mut t = s;
     let mut so_far = counts;
     loop {
         let n = scan::find(t, b',');
         let read = parse_plain_position(&t[0..n], feature, carbon, groups, rings, so_far);
-        if read.refusal != 0 {
+        let Counted::Read(more) = read else {
             return read;
-        }
+        };
         if n == t.len() {
             return read;
         }
-        so_far = read.counts;
+        so_far = more;
         t = &t[n + 1..];
     }
 }
@@ -167,7 +150,7 @@ fn parse_listed_feature(
             rings,
             counts,
         ),
-        Feature::Other => parsed::unreadable(counts),
+        Feature::Other => Counted::Refused(record::UNREADABLE),
     }
 }
 
@@ -185,7 +168,7 @@ fn parse_listed_segment(
     ensures { λ r. ⌜ Collects (on carbon unbondedAs) (gather counts [] (now (groups .entry)) (now (rings .entry))) r [] (now (groups .exit)) (now (rings .exit)) (listedSegment (now (abbr .entry)) (now (s .entry))) ⌝ }
 {
     if !form::ends_in_parenthesis(s) {
-        return parsed::unreadable(counts);
+        return Counted::Refused(record::UNREADABLE);
     }
     let feature = items::feature_of(abbr);
     parse_listed_feature(feature, &s[0..s.len() - 1], carbon, groups, rings, counts)
@@ -209,13 +192,13 @@ fn parse_parts(
         let n = scan::find(t, b',');
         let segment = items::read_part(&t[0..n], carbon);
         let read = add_segment(segment, groups, rings, so_far);
-        if read.refusal != 0 {
+        let Counted::Read(more) = read else {
             return read;
-        }
+        };
         if n == t.len() {
             return read;
         }
-        so_far = read.counts;
+        so_far = more;
         t = &t[n + 1..];
     }
 }
@@ -267,13 +250,13 @@ fn parse_segment(
 {
     let text = form::segment_text(s);
     if text.len() == 0 {
-        return Counted { refusal: 0, counts };
+        return Counted::Read(counts);
     }
     let read = parse_modification_segment(text, carbon, bonds, groups, rings, counts);
-    if read.refusal != 0 {
+    let Counted::Read(more) = read else {
         return read;
-    }
-    parsed::check_counts(read.counts)
+    };
+    parsed::check_counts(more)
 }
 
 // All segments of a chain of so many carbons: what follows a token's bond count and its `(..)` list.
@@ -297,13 +280,13 @@ pub fn parse_segments(
         let from = segment.from;
         let to = segment.to;
         let read = parse_segment(&cursor[from..to], carbon, bonds, groups, rings, so_far);
-        if read.refusal != 0 {
+        let Counted::Read(more) = read else {
             return read;
-        }
+        };
         if to == cursor.len() {
             return read;
         }
-        so_far = read.counts;
+        so_far = more;
         at = segment.next;
     }
 }

@@ -12,7 +12,7 @@ use Rattle.chain.specs.declared.Role.the-variants.{Slot, Acyl, Base}
 use Rattle.chain.specs.Drawing.{carbonAtoms}
 use Rattle.drawable.proofs.Parts.{groups-few}
 use Rattle.drawable.specs.declared.Shape.{Shape}
-use Rattle.drawable.specs.Drawn.{Drawn, Length, noGroup, groupsIn, ringsIn, groupsPart, floatsPart, ringsPart, drawnOf}
+use Rattle.drawable.specs.Drawn.{Drawn, DrawsSome, Length, noGroup, groupsIn, ringsIn, groupsPart, floatsPart, ringsPart, drawnOf}
 use Rattle.record.specs.declared.Mod.{Mod}
 use Rattle.carbons.specs.Tokens.{Rising, Grouped}
 use Rattle.carbons.proofs.Bare.{none-groups}
@@ -20,13 +20,25 @@ use Rattle.carbons.proofs.Fronts.{next-of, none-left}
 use Rattle.carbons.proofs.Loads.{groups-held}
 use Rattle.branches.specs.Text.{rowsIn, RowsPut}
 use Rattle.branches.proofs.Laws.{rows-put}
-use Rattle.fragment.specs.Segment.{Segment}
+use Rattle.fragment.specs.Segment.{DrawsRead, Segment}
 use Rattle.atoms.specs.declared.ChainAtoms.{ChainAtoms}
 use Rattle.ramps.specs.Index.{indices}
 use Rattle.loads.specs.Counts.{Counts}
-use Rattle.atoms.specs.Atoms.{AtomsOf}
+use Rattle.atoms.specs.Atoms.{DrawsFew, AtomsOf}
 use Rattle.template.specs.Written.{headCarbons}
-use Rattle.strand.specs.Strand.{headCount, Indexed, rooms, StrandOf, GroupedShape}
+use Rattle.strand.specs.Strand.{headCount, Indexed, rooms, Carried, StrandOf, GroupedShape}
+
+-- ---- what is some chain in a role is some chain that is drawn, read and numbered
+
+module _ {ρ : Role} {x : Drawn} (w : Carried ρ x) where
+  pub carried-some : DrawsSome x
+  carried-some = record { role = ρ; chain = w .chain; draws = w .carries .draws }
+
+  pub carried-read : DrawsRead x
+  carried-read = record { role = ρ; chain = w .chain; draws = w .carries .draws; readable = w .carries .readable }
+
+  pub carried-few : DrawsFew x
+  carried-few = record { role = ρ; chain = w .chain; draws = w .carries .draws; readable = w .carries .readable; few = w .carries .drawn }
 
 -- ---- the template's carbons
 
@@ -74,7 +86,7 @@ pub strand-laid : {ρ : Role} {first l at used row : ℕ} {x : Drawn} {xs ys zs 
     → StrandOf ρ first l x (rooms xs ys zs) at used row (rooms xs′ ys′ zs′) (record { at = p; used = n .at; rows = q; count = n .count; flexible = n .flexible; floats = n .floats; end = n .end })
 strand-laid {ρ} s i r =
     record {
-      laid = λ d k h. record { text = s .text ρ d (k .draws) (k .readable) h; numbers = i .numbers d (k .draws) (k .readable) (k .drawn); rows = r .rows ρ d (k .draws) };
+      laid = λ d k. record { text = s .text ρ d (k .draws) (k .readable); numbers = i .numbers d (k .draws) (k .readable) (k .drawn); rows = r .rows ρ d (k .draws) };
       sizes = record { text = s .size; index = i .size; rows = r .size };
     }
 

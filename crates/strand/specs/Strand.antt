@@ -66,9 +66,14 @@ pub record Laid (ρ : Role) (d : Chain) (first l : ℕ) (xs : Rooms) (at used ro
   pub numbers : Numbers ρ d first (xs .index) used (ys .index) (s .used) (s .count) (s .flexible) (s .floats) (s .end)
   pub rows : Written (xs .rows) row (rowsIn (floating d)) (ys .rows) (s .rows)
 
--- those of every chain that x carries
+-- x is some chain, where it stands as ρ
+pub record Carried (ρ : Role) (x : Drawn) : Type 0 where
+  pub chain : Chain
+  pub carries : Carries ρ chain x
+
+-- those of every chain that x is there
 pub record StrandOf (ρ : Role) (first l : ℕ) (x : Drawn) (xs : Rooms) (at used row : ℕ) (ys : Rooms) (s : Strand) : Type 0 where
-  pub laid : (d : Chain) → Carries ρ d x → l ≤ 247 → Laid ρ d first l xs at used row ys s
+  pub laid : (d : Chain) → Carries ρ d x → Laid ρ d first l xs at used row ys s
   pub sizes : Sizes xs ys
 
 -- a chain with these numbers and lists is short, and its groups stand in the order of their carbons

@@ -15,8 +15,9 @@ ghost use Rattle.drawable.specs.Drawn.{groupsIn, drawnOf, bondsDrawn, ringsDraw
 ghost use Rattle.carbons.specs.ByCarbon.{BondsBy};
 ghost use Rattle.carbons.specs.Tokens.{tokens, TokensOf, Rising, Grouped};
 ghost use Rattle.loads.specs.Counts.{Counts};
+ghost use Rattle.atoms.specs.Atoms.{DrawsFew};
 ghost use Rattle.template.specs.Written.{headCarbons};
-ghost use Rattle.strand.specs.Strand.{headCount, Indexed, rooms, StrandOf, GroupedShape};
+ghost use Rattle.strand.specs.Strand.{headCount, Indexed, rooms, Carried, StrandOf, GroupedShape};
 
 // A chain that is laid down: the places after its text, its indices and its rows; how many indices it has; and, counted from its first atom, the
 // atoms of its first flexible carbon and of its first floating group, and the atom after its last.
@@ -72,6 +73,7 @@ fn put_indices<'a>(
     bonds: &'a [u8],
     busy: &'a [u8],
 ) -> ChainAtoms
+    requires { ⌜ DrawsFew (drawnOf x (now part)) ⌝ }
     requires { ⌜ TokensOf (drawnOf x (now part)) (tokens from last (now bonds) (now busy)) ⌝ }
     ensures { λ r. ⌜ Indexed role first (drawnOf x (now (part .entry))) (now (index .entry)) at (now (index .exit)) r ⌝ }
 {
@@ -96,6 +98,8 @@ fn put_laden(
     first: u32,
     label: u8,
 ) -> Strand
+    requires { ⌜ Carried role (drawnOf x (now part)) ⌝ }
+    requires { ⌜ label ≤ 247 ⌝ }
     ensures { λ r. ⌜ StrandOf role first label (drawnOf x (now (part .entry))) (rooms (now (out .entry)) (now (index .entry)) (now (rows .entry))) at used row (rooms (now (out .exit)) (now (index .exit)) (now (rows .exit))) r ⌝ }
 {
     let mut bonds = [0u8; CARBON_ROOM];
@@ -210,6 +214,7 @@ fn grouped_indices<'a>(
     part: &'a [u64],
     bonds: &'a [u8],
 ) -> ChainAtoms
+    requires { ⌜ DrawsFew (drawnOf x (now part)) ⌝ }
     requires { ⌜ Grouped (drawnOf x (now part)) ⌝ }
     requires { ⌜ BondsBy (bondsDrawn (drawnOf x (now part))) (ringsDrawn (drawnOf x (now part))) (x .carbon) (now bonds) ⌝ }
     requires { ⌜ (at + (x .carbon + 2) ≤ length (now index)) × (first < 40000) ⌝ }
@@ -236,6 +241,7 @@ fn put_grouped(
     role: Role,
     first: u32,
 ) -> Strand
+    requires { ⌜ Carried role (drawnOf x (now part)) ⌝ }
     requires { ⌜ Grouped (drawnOf x (now part)) × (x .carbon < 96) ⌝ }
     requires { ⌜ (at + (x .carbon * 2 + 260) ≤ length (now out)) × (used + (x .carbon + 2) ≤ length (now index)) × (first < 40000) ⌝ }
     ensures { λ r. ⌜ ((l : ℕ) → StrandOf role first l (drawnOf x (now (part .entry))) (rooms (now (out .entry)) (now (index .entry)) (now (rows .entry))) at used row (rooms (now (out .exit)) (now (index .exit)) (now (rows .exit))) r) ⌝ }
@@ -265,6 +271,7 @@ fn bare_indices(
     x: Shape,
     part: &[u64],
 ) -> ChainAtoms
+    requires { ⌜ DrawsFew (drawnOf x (now part)) ⌝ }
     requires { ⌜ Grouped (drawnOf x (now part)) ⌝ }
     requires { ⌜ (x .«bond_count» ≡ 0) × (x .«group_count» ≡ 0) ⌝ }
     requires { ⌜ (at + (x .carbon + 2) ≤ length (now index)) × (first < 40000) ⌝ }
@@ -290,6 +297,7 @@ fn put_bare(
     role: Role,
     first: u32,
 ) -> Strand
+    requires { ⌜ Carried role (drawnOf x (now part)) ⌝ }
     requires { ⌜ Grouped (drawnOf x (now part)) ⌝ }
     requires { ⌜ (x .«bond_count» ≡ 0) × (x .«group_count» ≡ 0) ⌝ }
     requires { ⌜ (at + (x .carbon * 2 + 260) ≤ length (now out)) × (used + (x .carbon + 2) ≤ length (now index)) × (first < 40000) ⌝ }
@@ -308,7 +316,8 @@ fn put_bare(
     }
 }
 
-// A chain in a role, whose first atom and first ring label are given.
+// A chain in a role, whose first atom and first ring label are given. The numbers and lists have to be those of some chain, and a line has no
+// label from 248 on.
 pub fn put_strand(
     out: &mut [u8],
     index: &mut [u16],
@@ -322,6 +331,8 @@ pub fn put_strand(
     first: u32,
     label: u8,
 ) -> Strand
+    requires { ⌜ Carried role (drawnOf x (now part)) ⌝ }
+    requires { ⌜ label ≤ 247 ⌝ }
     ensures { λ r. ⌜ StrandOf role first label (drawnOf x (now (part .entry))) (rooms (now (out .entry)) (now (index .entry)) (now (rows .entry))) at used row (rooms (now (out .exit)) (now (index .exit)) (now (rows .exit))) r ⌝ }
 {
     if is_grouped(x, part) {

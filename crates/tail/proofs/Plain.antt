@@ -10,8 +10,9 @@ use borrow.Author.Tests.{lt-ltb, le-leb}
 use Rattle.reading.specs.Ascii.{ascii}
 use Rattle.reading.specs.Lexer.{memb, within, organic, marks, pairs}
 use Rattle.tailatom.specs.declared.Found.{Found}
-use Rattle.tailatom.specs.declared.Found.the-variants.{Next, Nothing}
-use Rattle.tailatom.specs.Atom.{PastAtom}
+use Rattle.tailatom.specs.declared.Found.the-variants.{Next}
+use Rattle.tailatom.specs.Atom.{AtomIs}
+use Rattle.tailatom.proofs.Scan.{found-scans}
 use Rattle.ringdigits.specs.Grammar.{Rings, noRings, withAtom, backTo, noneOpen, State, stands, opening, afterBond, whole, closed, letter, branchCloses, branchOpens, goesOn, digitOr, bondOrAtom, atomBegins, step, finished, done, scan, tailAtoms}
 use Rattle.ringdigits.proofs.Scan.{scan-at, scan-end, same-at}
 use Rattle.tail.specs.Contract.{placeOf}
@@ -114,9 +115,9 @@ module _ (s : List ℕ) (i place depth atoms : ℕ) (v : InPlain s i place depth
           within = omega arith;
         }
 
-    module _ (b : getD s i 0 ≡ 91) (f : Found) (a : PastAtom s i f) (p : ℕ) (e : f ≡ Next p) where
+    module _ (b : getD s i 0 ≡ 91) (f : Found) (a : AtomIs s i f) (p : ℕ) (e : f ≡ Next p) where
       bracket-bounds : (i < p) × (p ≤ length s)
-      bracket-bounds = rw e at (a .passed)
+      bracket-bounds = rw e at (a .says)
 
       pub bracket-less : length s - p < length s - i
       bracket-less = omega (arith, bracket-bounds .0, bracket-bounds .1)
@@ -128,7 +129,7 @@ module _ (s : List ℕ) (i place depth atoms : ℕ) (v : InPlain s i place depth
             rings = withAtom (v .rings);
             same = v .same
                 ∙ same-at (stands (placeOf place) (v .stk) (v .rings)) (stands afterBond (v .stk) (v .rings)) s i h (rw b (bracket-step place (v .stk) (v .rings)))
-                ∙ (rw e at (a .same (v .stk) (v .rings)));
+                ∙ (rw e at (found-scans s i (v .within) f (a .is) (v .stk) (v .rings)));
             deep = v .deep;
             count = ap (λ (m : ℕ). m + 1) (v .count);
             none = v .none;

@@ -16,7 +16,8 @@ use Rattle.tailatom.specs.declared.Found.{Found}
 use Rattle.tailatom.specs.declared.Found.the-variants.{Next, Nothing}
 use Rattle.ringdigits.specs.Grammar.{Rings, noRings, withAtom, noneOpen, State, wrong, stands, opening, whole, closed, letter, branchCloses, branchOpens, goesOn, digitOr, bondOrAtom, atomBegins, step, finished, done, scan, tailAtoms}
 use Rattle.ringdigits.specs.Digits.{ringsOf, outcomeOf, PastDigits}
-use Rattle.tailatom.specs.Atom.{PastBond, PastAtom}
+use Rattle.tailatom.specs.Atom.{BondIs, AtomIs}
+use Rattle.tailatom.proofs.Scan.{bond-scans, found-scans}
 use Rattle.ringdigits.proofs.Scan.{scan-at, scan-end, wrong-at, same-at}
 use Rattle.tail.specs.declared.Reached.{Reached}
 use Rattle.tail.specs.Contract.{placeOf, takesDigit, stateOf, Room, Fits, Inside, At, Item, Ringed, Other, GoesOn, Refused, PastMark, RunRead}
@@ -361,12 +362,12 @@ module _ (s : List ℕ) (r : Reached) (v : Other s r) where
   pub mark-before : r .place ≡ 1 → PastMark s r (r .next)
   mark-before e = record { same = λ stk q. rw e refl; least = omega arith; within = v .item .inside .fits .within }
 
-  pub mark-here : (n : ℕ) → (r .place ≡ 1 → ⊥) → PastBond s (r .next) n → PastMark s r n
+  pub mark-here : (n : ℕ) → (r .place ≡ 1 → ⊥) → BondIs s (r .next) n → PastMark s r n
   mark-here n e d =
       record {
         same = λ stk q. same-at (stands (placeOf (r .place)) stk q) (stands opening stk q) s (r .next) (v .item .inside .more)
             (opening-step (r .place) (getD s (r .next) 0) stk q e (v .item .opens) (v .item .closes) (v .takes) (v .single))
-            ∙ d .same stk q;
+            ∙ bond-scans s (r .next) n (v .item .inside .fits .within) (d .is) stk q;
         least = d .least;
         within = d .within;
       }
@@ -383,15 +384,15 @@ module _ (s : List ℕ) (r : Reached) (v : Other s r) where
           fits = record { within = m .within; short = v .item .inside .fits .short; few = omega (arith, v .item .inside .fits .few) };
         }
 
-    module _ (f : Found) (a : PastAtom s from f) where
+    module _ (f : Found) (a : AtomIs s from f) where
       pub other-missing : (r′ : Reached) → f ≡ Nothing → Refused s r′ → (t o j : List ℕ) → GoesOn s r (stateOf r t o j) r′ (stateOf r′ t o j)
       other-missing r′ e w t o j =
           refused-on s r r′ (stateOf r t o j) t o j (v .item .inside) w
-          (m .same t (ringsOf (r .atoms) o j) ∙ (rw e at (a .same t (ringsOf (r .atoms) o j))))
+          (m .same t (ringsOf (r .atoms) o j) ∙ (rw e at (found-scans s from (m .within) f (a .is) t (ringsOf (r .atoms) o j))))
 
       module _ (p : ℕ) (e : f ≡ Next p) where
         bounds-of : (from < p) × (p ≤ length s)
-        bounds-of = rw e at (a .passed)
+        bounds-of = rw e at (a .says)
 
         pub other-fits : r .atoms .last + 1 < 256
         other-fits = omega (arith, bounds-of .0, bounds-of .1, v .item .inside .fits .few, v .item .inside .fits .short, m .least)
@@ -402,7 +403,7 @@ module _ (s : List ℕ) (r : Reached) (v : Other s r) where
             (stateOf (record { next = p; place = 3; atoms = record { last = r .atoms .last + 1; current = r .atoms .last + 1; parent = r .atoms .current } }) t o j)
         other-read t o j =
             record {
-              same = m .same t (ringsOf (r .atoms) o j) ∙ (rw e at (a .same t (ringsOf (r .atoms) o j)));
+              same = m .same t (ringsOf (r .atoms) o j) ∙ (rw e at (found-scans s from (m .within) f (a .is) t (ringsOf (r .atoms) o j)));
               further = omega (arith, bounds-of .0, m .least);
               fits = record {
                 within = bounds-of .1;

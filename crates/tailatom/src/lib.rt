@@ -1,14 +1,14 @@
 // An atom of a tail: the bond before it, and its letters or its bracket (01, Templates and the builder). What a function promises stands in
-// specs/Atom.antt, in terms of the grammar of `ringdigits`.
+// specs/Atom.antt: the place after the bond or the atom that stands at a place.
 ghost use mathlib.Core.Path.{_≡_};
 ghost use Prim.Native.Nat.{_≤_};
 ghost use lib.ListN.{length};
 ghost use Rattle.reading.specs.Lexer.{memb, within, organic, marks, bracketed, pairs};
-ghost use Rattle.tailatom.specs.Atom.{PastBond, PastBracket, PastAtom};
+ghost use Rattle.tailatom.specs.Atom.{BondIs, bracketAt, AtomIs};
 
 const MAX_BRACKET: usize = 16;
 
-// The place after an atom, if there is one.
+// The place after an atom; or nothing, where no atom stands and a tail that needs one is refused, 23.
 pub enum Found {
     Next(usize),
     Nothing,
@@ -86,7 +86,7 @@ fn is_second(a: u8, b: u8) -> bool
 // The place after at most one bond.
 pub fn after_bond(s: &[u8], at: usize) -> usize
     requires { ⌜ at ≤ length (now s) ⌝ }
-    ensures { λ r. ⌜ PastBond (now (s .entry)) at r ⌝ }
+    ensures { λ r. ⌜ BondIs (now (s .entry)) at r ⌝ }
 {
     if at == s.len() {
         return at;
@@ -100,7 +100,7 @@ pub fn after_bond(s: &[u8], at: usize) -> usize
 // The place after a bracket, of which the first byte inside is at `at`.
 fn after_bracket(s: &[u8], at: usize) -> Found
     requires { ⌜ at ≤ length (now s) ⌝ }
-    ensures { λ r. ⌜ PastBracket (now (s .entry)) at r ⌝ }
+    ensures { λ r. ⌜ r ≡ bracketAt (now (s .entry)) at ⌝ }
 {
     let mut i = at;
     while i < s.len() {
@@ -126,7 +126,7 @@ fn after_bracket(s: &[u8], at: usize) -> Found
 // The place after the atom at `at`.
 pub fn after_atom(s: &[u8], at: usize) -> Found
     requires { ⌜ at ≤ length (now s) ⌝ }
-    ensures { λ r. ⌜ PastAtom (now (s .entry)) at r ⌝ }
+    ensures { λ r. ⌜ AtomIs (now (s .entry)) at r ⌝ }
 {
     if at == s.len() {
         return Found::Nothing;

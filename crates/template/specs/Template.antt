@@ -1,10 +1,8 @@
 -- The templates. 01, Templates and the builder: "Slot S is `O` and chain; `O` alone if absent or c = 0." Assumes nothing.
 use Prim.Native.Nat.{ℕ}
 use mathlib.Core.Bool.{Bool, true, false, cond}
-use mathlib.Core.Option.{Option, none, some}
 use mathlib.Core.List.{List, [], _∷_}
 use lib.Dec.{eqb}
-use Rattle.scan.specs.Part.{sameBytes}
 use Rattle.reading.specs.Ascii.{ascii}
 use Rattle.chain.specs.declared.Role.{Role}
 use Rattle.chain.specs.declared.Role.the-variants as role
@@ -34,19 +32,6 @@ elements Cl =
     fixed (ascii "C(COP(=O)(O)OCC(") ∷ slot 2 ∷ fixed (ascii ")C") ∷ slot 1 ∷ fixed (ascii ")(O)COP(=O)(O)OCC(") ∷ slot 4 ∷ fixed (ascii ")C") ∷ slot 3 ∷ []
 elements Sb = fixed (ascii "C(C") ∷ tail ∷ fixed (ascii ")(N)") ∷ chain 1 role.Base ∷ []
 elements Sa = fixed (ascii "C(C") ∷ tail ∷ fixed (ascii ")(N") ∷ chain 2 role.Acyl ∷ fixed (ascii ")") ∷ chain 1 role.Base ∷ []
-
--- the class with a code
-unfoldable pub classOf : List ℕ → Option Class
-unfolding sameBytes ascii
-classOf s =
-    cond (sameBytes s (ascii "FA")) (some Fa)
-    (cond (sameBytes s (ascii "GL1")) (some Gl1)
-    (cond (sameBytes s (ascii "GL2")) (some Gl2)
-    (cond (sameBytes s (ascii "GL3")) (some Gl3)
-    (cond (sameBytes s (ascii "GP")) (some Gp)
-    (cond (sameBytes s (ascii "CL")) (some Cl)
-    (cond (sameBytes s (ascii "SB")) (some Sb)
-    (cond (sameBytes s (ascii "SA")) (some Sa) none)))))))
 
 -- "FA, 1 token", "GL1, GL2, GL3, 1 to 1, 2, 3", "GP, 1 or 2", "CL, 4", "SB, 1; SA, 2": the fewest and the most
 abbrev pub fewest : Class → ℕ

@@ -27,8 +27,25 @@ use Rattle.builder.specs.declared.Builder.{Builder}
 use Rattle.placed.specs.Fragment.{noted, indexList, rowsOf, gathered}
 use Rattle.placed.proofs.Laws.{gathered-append}
 use Rattle.builder.proofs.Pushes.{placed-kept}
-use Rattle.builder.specs.Build.{Rooms, rooms, Sizes, Fresh, placedIn, Counts, Kept, FixedPushed, FitsElement, Pushed}
+use Rattle.builder.specs.Build.{Rooms, rooms, Sizes, Fresh, placedIn, Fits, Kept, Pushing, FixedPushed, StandsAt, SlotFits, BareFits, SlotPushed, BarePushed}
+use Rattle.drawable.specs.Chains.{Chains}
 use Rattle.templates.specs.Templates.{FitsAll, Built, TailOf}
+
+-- ---- an element where the builder stands
+
+-- what it leads to can be kept
+abbrev FitsElement : List ℕ → List Chain → Element → List ℕ → Builder → Type 0
+FitsElement t ds e ns b =
+    Fits (elementAtoms t ds (b .atoms .0) e) (elementVariables ds (b .variables .0) e) (elementLabels ds (b .labels .0) e) (placedIn b ns ++ map noted (elementPlaced ds (b .atoms .0) (b .variables .0) e))
+
+abbrev Pushed : List ℕ → List Chain → Element → Rooms → Builder → Rooms → Builder → Type 0
+Pushed t ds e xs b ys q =
+    Pushing (itemsOf t ds e) (b .labels .0) (elementPlaced ds (b .atoms .0) (b .variables .0) e) xs b ys q (elementAtoms t ds (b .atoms .0) e) (elementVariables ds (b .variables .0) e) (elementLabels ds (b .labels .0) e)
+    (placedIn b (xs .notes) ++ map noted (elementPlaced ds (b .atoms .0) (b .variables .0) e))
+
+-- it is pushed, if it can be kept
+abbrev Step : List ℕ → List Chain → Element → Rooms → Builder → Rooms → Builder → Type 0
+Step t ds e xs b ys q = FitsElement t ds e (xs .notes) b → Pushed t ds e xs b ys q
 
 -- ---- an element leads to no less
 
@@ -72,7 +89,7 @@ placed-more t ds es e =
 
 -- what all elements lead to can be kept: so what the last leads to, and what those before it lead to
 fits-last : (t : List ℕ) (ds : List Chain) (es : List Element) (e : Element) → FitsAll t ds (es ++ e ∷ [])
-    → FitsElement t ds e (atomsFrom t ds 0 es) (variablesFrom ds 0 es) (labelsFrom ds 10 es) (map noted (placedFrom t ds 0 0 es))
+    → Fits (elementAtoms t ds (atomsFrom t ds 0 es) e) (elementVariables ds (variablesFrom ds 0 es) e) (elementLabels ds (labelsFrom ds 10 es) e) (map noted (placedFrom t ds 0 0 es) ++ map noted (elementPlaced ds (atomsFrom t ds 0 es) (variablesFrom ds 0 es) e))
 fits-last t ds es e f = rw (← atoms-snoc t ds es 0 e, ← variables-snoc ds es 0 e, ← labels-snoc ds es 10 e, ← placed-more t ds es e) f
 
 fits-less : (t : List ℕ) (ds : List Chain) (es : List Element) (e : Element) → FitsAll t ds (es ++ e ∷ []) → FitsAll t ds es
@@ -109,7 +126,7 @@ sizes-fixed w = record { text = written-length (w .text); index = refl; rows = r
 
 -- ---- one element more
 
-pub built-none : (t : List ℕ) (ds : List Chain) (xs : Rooms) (b : Builder) → Fresh b → Built t ds [] xs xs b
+built-none : (t : List ℕ) (ds : List Chain) (xs : Rooms) (b : Builder) → Fresh b → Built t ds [] xs xs b
 unfolding atomsFrom variablesFrom labelsFrom placedFrom allItems templatePieces show gathered placedIn
 built-none t ds xs b f =
     record {
@@ -124,19 +141,23 @@ gathered-snoc : {A : Type 0} (g : request.Placed → List A) (t : List ℕ) (ds 
     → gathered g (placedFrom t ds 0 0 (es ++ e ∷ [])) ≡ gathered g (placedFrom t ds 0 0 es) ++ gathered g (elementPlaced ds (atomsFrom t ds 0 es) (variablesFrom ds 0 es) e)
 gathered-snoc g t ds es e = rw (placed-snoc t ds es 0 0 e) (gathered-append g (placedFrom t ds 0 0 es) (elementPlaced ds (atomsFrom t ds 0 es) (variablesFrom ds 0 es) e))
 
-pub built-step : (t : List ℕ) (ds : List Chain) (es : List Element) (e : Element) (rest : List Element) {xs ys zs : Rooms} {b q : Builder} → Short xs
-    → FitsAll t ds (es ++ e ∷ rest)
-    → ((n v l : ℕ) (ps : List Placed) → Counts b (ys .notes) n v l ps → FitsElement t ds e n v l ps → Pushed t ds e n v l ps ys b zs q)
-    → Built t ds es xs ys b → Built t ds (es ++ e ∷ []) xs zs q
-built-step t ds es e rest {xs} {ys} {zs} {b} {q} g f push u =
+-- the next element can be kept, where all can
+next-fits : (t : List ℕ) (ds : List Chain) (es : List Element) (e : Element) (rest : List Element) {xs ys : Rooms} {b : Builder} → FitsAll t ds (es ++ e ∷ rest)
+    → Built t ds es xs ys b → FitsElement t ds e (ys .notes) b
+next-fits t ds es e rest f u =
     let f₁ : FitsAll t ds ((es ++ e ∷ []) ++ rest) = rw (append-assoc es (e ∷ []) rest) f in
-    let f₂ = fits-last t ds es e (fits-front t ds (es ++ e ∷ []) rest f₁) in
-    let p = push (atomsFrom t ds 0 es) (variablesFrom ds 0 es) (labelsFrom ds 10 es) (map noted (placedFrom t ds 0 0 es)) (u .counts) f₂ in
+    rw (u .counts .placed, u .counts .atoms, u .counts .variables, u .counts .labels) (fits-last t ds es e (fits-front t ds (es ++ e ∷ []) rest f₁))
+
+built-step : (t : List ℕ) (ds : List Chain) (es : List Element) (e : Element) (rest : List Element) {xs ys zs : Rooms} {b q : Builder} → Short xs
+    → FitsAll t ds (es ++ e ∷ rest) → Step t ds e ys b zs q → Built t ds es xs ys b → Built t ds (es ++ e ∷ []) xs zs q
+built-step t ds es e rest {xs} {ys} {zs} {b} {q} g f push u =
+    let p = push (next-fits t ds es e rest f u) in
+    let c = u .counts in
     record {
-      text = rw (text-snoc t ds es e 10) (written-append (g .text) (u .text) (p .text));
-      index = rw (gathered-snoc indexList t ds es e) (written-append (g .index) (u .index) (p .index));
-      rows = rw (gathered-snoc rowsOf t ds es e) (written-append (g .rows) (u .rows) (p .rows));
-      counts = rw (atoms-snoc t ds es 0 e, variables-snoc ds es 0 e, labels-snoc ds es 10 e, placed-more t ds es e) (p .counts);
+      text = rw (text-snoc t ds es e 10) (written-append (g .text) (u .text) (rw (c .labels) at (p .text)));
+      index = rw (gathered-snoc indexList t ds es e) (written-append (g .index) (u .index) (rw (c .atoms, c .variables) at (p .index)));
+      rows = rw (gathered-snoc rowsOf t ds es e) (written-append (g .rows) (u .rows) (rw (c .atoms, c .variables) at (p .rows)));
+      counts = rw (atoms-snoc t ds es 0 e, variables-snoc ds es 0 e, labels-snoc ds es 10 e, placed-more t ds es e) (rw (c .placed, c .atoms, c .variables, c .labels) at (p .counts));
     }
 
 -- ---- texts of the template's own
@@ -155,58 +176,94 @@ pub record Own (s : List ℕ) (k : ℕ) : Type 0 where
 written-kept : (xs : List ℕ) {a b : ℕ} → Kept a b → Written xs a [] xs b
 written-kept xs {a} k = rw (k .is) (written-nil xs a (k .small))
 
-pub fixed-pushed : (t : List ℕ) (ds : List Chain) {s : List ℕ} {k : ℕ} {xs ys is rs ns : List ℕ} {b q : Builder} → Own s k → FixedPushed s k xs b ys q
-    → (n v l : ℕ) (ps : List Placed) → Counts b ns n v l ps → FitsElement t ds (fixed s) n v l ps → Pushed t ds (fixed s) n v l ps (rooms xs is rs ns) b (rooms ys is rs ns) q
+fixed-pushed : (t : List ℕ) (ds : List Chain) {s : List ℕ} {k : ℕ} {xs ys is rs ns : List ℕ} {b q : Builder} → Own s k → FixedPushed s k xs b ys q
+    → Step t ds (fixed s) (rooms xs is rs ns) b (rooms ys is rs ns) q
 unfolding elementAtoms elementVariables elementLabels elementPlaced chainIn itemsOf gathered
-fixed-pushed t ds {s = s} {is = is} {rs = rs} {ns = ns} {b = b} {q = q} o w n v l ps c f =
+fixed-pushed t ds {s = s} {is = is} {rs = rs} {ns = ns} {b = b} {q = q} o w f =
     record {
-      text = rw (pieces-own (fixedPieces s) l, o .shown) (w .text);
+      text = rw (pieces-own (fixedPieces s) (b .labels .0), o .shown) (w .text);
       index = written-kept is (w .used);
       rows = written-kept rs (w .rows);
       counts =
           record {
-            atoms = omega (arith, w .atoms, c .atoms, o .size, f .atoms);
-            variables = ap (λ (a : Variables). a .0) (w .variables) ∙ c .variables;
-            labels = ap (λ (a : Labels). a .0) (w .labels) ∙ c .labels;
-            placed = placed-kept ns q b (w .count) ∙ (c .placed ∙ sym (append-nil ps));
+            atoms = omega (arith, w .atoms, o .size, f .atoms);
+            variables = ap (λ (a : Variables). a .0) (w .variables);
+            labels = ap (λ (a : Labels). a .0) (w .labels);
+            placed = placed-kept ns q b (w .count) ∙ sym (append-nil (placedIn b ns));
           };
     }
 
-pub tail-pushed : {t : List ℕ} (ds : List Chain) {k : ℕ} {xs ys is rs ns : List ℕ} {b q : Builder} → TailOf t k → FixedPushed t k xs b ys q
-    → (n v l : ℕ) (ps : List Placed) → Counts b ns n v l ps → FitsElement t ds tail n v l ps → Pushed t ds tail n v l ps (rooms xs is rs ns) b (rooms ys is rs ns) q
+tail-pushed : {t : List ℕ} (ds : List Chain) {k : ℕ} {xs ys is rs ns : List ℕ} {b q : Builder} → TailOf t k → FixedPushed t k xs b ys q
+    → Step t ds tail (rooms xs is rs ns) b (rooms ys is rs ns) q
 unfolding elementAtoms elementVariables elementLabels elementPlaced chainIn itemsOf templatePieces itemPieces gathered
-tail-pushed {t} ds {is = is} {rs = rs} {ns = ns} {b = b} {q = q} o w n v l ps c f =
+tail-pushed {t} ds {is = is} {rs = rs} {ns = ns} {b = b} {q = q} o w f =
     record {
       text = rw (append-nil (tailPart t .pieces), o .shown) (w .text);
       index = written-kept is (w .used);
       rows = written-kept rs (w .rows);
       counts =
           record {
-            atoms = omega (arith, w .atoms, c .atoms, o .size, f .atoms);
-            variables = ap (λ (a : Variables). a .0) (w .variables) ∙ c .variables;
-            labels = ap (λ (a : Labels). a .0) (w .labels) ∙ c .labels;
-            placed = placed-kept ns q b (w .count) ∙ (c .placed ∙ sym (append-nil ps));
+            atoms = omega (arith, w .atoms, o .size, f .atoms);
+            variables = ap (λ (a : Variables). a .0) (w .variables);
+            labels = ap (λ (a : Labels). a .0) (w .labels);
+            placed = placed-kept ns q b (w .count) ∙ sym (append-nil (placedIn b ns));
           };
     }
 
+-- ---- slots and chains
+
+module _ (t : List ℕ) (ds : List Chain) {x : Chains} where
+  slot-pushed : {sn : ℕ} {xs ys : Rooms} {b q : Builder} → StandsAt Slot (nonempty sn ds) x sn → SlotPushed x sn xs b ys q → Step t ds (slot sn) xs b ys q
+  unfolding elementAtoms elementVariables elementLabels elementPlaced chainIn itemsOf
+  slot-pushed {sn} s w f = w .pushed (nonempty sn ds) (record { stands = s; fits = f })
+
+  chain-pushed : {sn : ℕ} {r : Role} {xs ys : Rooms} {b q : Builder} → StandsAt r (nonempty sn ds) x sn → BarePushed x sn r xs b ys q → Step t ds (chain sn r) xs b ys q
+  unfolding elementAtoms elementVariables elementLabels elementPlaced chainIn itemsOf
+  chain-pushed {sn} s w f = w .pushed (nonempty sn ds) (record { stands = s; fits = f })
+
+  slot-fits : {sn : ℕ} {ns : List ℕ} {b : Builder} → StandsAt Slot (nonempty sn ds) x sn → FitsElement t ds (slot sn) ns b → SlotFits x sn ns b
+  unfolding elementAtoms elementVariables elementLabels elementPlaced chainIn
+  slot-fits {sn} s f = record { chain = nonempty sn ds; fitting = record { stands = s; fits = f } }
+
+  chain-fits : {sn : ℕ} {r : Role} {ns : List ℕ} {b : Builder} → StandsAt r (nonempty sn ds) x sn → FitsElement t ds (chain sn r) ns b → BareFits x sn r ns b
+  unfolding elementAtoms elementVariables elementLabels elementPlaced chainIn
+  chain-fits {sn} s f = record { chain = nonempty sn ds; fitting = record { stands = s; fits = f } }
+
 -- ---- elements pushed one after the other
 
--- a push of an element, whatever numbers the builder has before it
-abbrev pub Step : List ℕ → List Chain → Element → Rooms → Builder → Rooms → Builder → Type 0
-Step t ds e xs b ys q = (n v l : ℕ) (ps : List Placed) → Counts b (xs .notes) n v l ps → FitsElement t ds e n v l ps → Pushed t ds e n v l ps xs b ys q
+-- the elements es are pushed, those of rest are still to come, and what all of them lead to can be kept
+pub record Along (t : List ℕ) (ds : List Chain) (es rest : List Element) (xs ys : Rooms) (b : Builder) : Type 0 where
+  pub short : Short xs
+  pub fits : FitsAll t ds (es ++ rest)
+  pub built : Built t ds es xs ys b
 
-pub data Steps (t : List ℕ) (ds : List Chain) : List Element → Rooms → Builder → Rooms → Builder → Type 0 where
-  done : (xs : Rooms) (b : Builder) → Steps t ds [] xs b xs b
-  then : {e : Element} {es : List Element} {xs ys zs : Rooms} {b p q : Builder} → Step t ds e xs b ys p → Steps t ds es ys p zs q → Steps t ds (e ∷ es) xs b zs q
+pub at-first : {t : List ℕ} {ds : List Chain} {es : List Element} {xs : Rooms} {b : Builder} → Short xs → Fresh b → FitsAll t ds es → Along t ds [] es xs xs b
+at-first {t} {ds} {xs = xs} {b = b} g z f = record { short = g; fits = f; built = built-none t ds xs b z }
 
-steps-from : (t : List ℕ) (ds : List Chain) (before es : List Element) {xs ys zs : Rooms} {b q : Builder} → Short xs → FitsAll t ds (before ++ es)
-    → Built t ds before xs ys b → Steps t ds es ys b zs q → Built t ds (before ++ es) xs zs q
-steps-from t ds before [] g f u (done xs b) = rw (append-nil before) u
-steps-from t ds before (e ∷ es) g f u (then s r) =
-    let f₁ : FitsAll t ds ((before ++ e ∷ []) ++ es) = rw (append-assoc before (e ∷ []) es) f in
-    rw (← append-assoc before (e ∷ []) es) (steps-from t ds (before ++ e ∷ []) es g f₁ (built-step t ds before e es g f s u) r)
+module _ {t : List ℕ} {ds : List Chain} {es rest : List Element} {xs : Rooms} {b q : Builder} where
+  one-more : {e : Element} {ys zs : Rooms} → Along t ds es (e ∷ rest) xs ys b → Step t ds e ys b zs q → Along t ds (es ++ e ∷ []) rest xs zs q
+  one-more {e} w s =
+      record { short = w .short; fits = rw (append-assoc es (e ∷ []) rest) (w .fits); built = built-step t ds es e rest (w .short) (w .fits) s (w .built) }
 
--- the whole template
-pub steps-built : {t : List ℕ} {ds : List Chain} {es : List Element} {xs zs : Rooms} {b q : Builder} → Short xs → Fresh b → FitsAll t ds es
-    → Steps t ds es xs b zs q → Built t ds es xs zs q
-steps-built {t} {ds} {es} {xs} {zs} {b} {q} g z f r = steps-from t ds [] es g f (built-none t ds xs b z) r
+  pub then-fixed : {s : List ℕ} {k : ℕ} {ys zs is rs ns : List ℕ} → Along t ds es (fixed s ∷ rest) xs (rooms ys is rs ns) b → Own s k → FixedPushed s k ys b zs q
+      → Along t ds (es ++ fixed s ∷ []) rest xs (rooms zs is rs ns) q
+  then-fixed w o p = one-more w (fixed-pushed t ds o p)
+
+  pub then-tail : {k : ℕ} {ys zs is rs ns : List ℕ} → Along t ds es (tail ∷ rest) xs (rooms ys is rs ns) b → TailOf t k → FixedPushed t k ys b zs q
+      → Along t ds (es ++ tail ∷ []) rest xs (rooms zs is rs ns) q
+  then-tail w o p = one-more w (tail-pushed ds o p)
+
+  module _ {x : Chains} {sn : ℕ} {ys zs : Rooms} where
+    pub then-slot : Along t ds es (slot sn ∷ rest) xs ys b → StandsAt Slot (nonempty sn ds) x sn → SlotPushed x sn ys b zs q → Along t ds (es ++ slot sn ∷ []) rest xs zs q
+    then-slot w s p = one-more w (slot-pushed t ds s p)
+
+    pub then-chain : {r : Role} → Along t ds es (chain sn r ∷ rest) xs ys b → StandsAt r (nonempty sn ds) x sn → BarePushed x sn r ys b zs q → Along t ds (es ++ chain sn r ∷ []) rest xs zs q
+    then-chain w s p = one-more w (chain-pushed t ds s p)
+
+-- THE NEXT PUSH MAY BE MADE
+module _ {t : List ℕ} {ds : List Chain} {es rest : List Element} {xs ys : Rooms} {b : Builder} {x : Chains} {sn : ℕ} where
+  pub next-slot : Along t ds es (slot sn ∷ rest) xs ys b → StandsAt Slot (nonempty sn ds) x sn → SlotFits x sn (ys .notes) b
+  next-slot w s = slot-fits t ds s (next-fits t ds es (slot sn) rest (w .fits) (w .built))
+
+  pub next-chain : {r : Role} → Along t ds es (chain sn r ∷ rest) xs ys b → StandsAt r (nonempty sn ds) x sn → BareFits x sn r (ys .notes) b
+  next-chain {r} w s = chain-fits t ds s (next-fits t ds es (chain sn r) rest (w .fits) (w .built))

@@ -36,17 +36,35 @@ pub record BuiltBy (ts : List ℕ) (n v l : ℕ) (cs : List request.Placed) (xs 
 abbrev pub Built : List ℕ → List Chain → List Element → Rooms → Rooms → Builder → Type 0
 Built t ds es xs ys b = BuiltBy (show (templatePieces 10 (allItems t ds es))) (atomsFrom t ds 0 es) (variablesFrom ds 0 es) (labelsFrom ds 10 es) (placedFrom t ds 0 0 es) xs ys b
 
--- a template without a tail
+-- the chains ds stand in their roles, and what a template with the tail t leads to can be kept
+pub record Fills (t : List ℕ) (es : List Element) (ρ : ℕ → Role) (x : Chains) (ds : List Chain) : Type 0 where
+  pub stood : Stood ρ ds x
+  pub fits : FitsAll t ds es
+
+-- ---- a template without a tail
+
+-- some chains fill it
+pub record FilledTailless (es : List Element) (ρ : ℕ → Role) (x : Chains) : Type 0 where
+  pub tail : List ℕ
+  pub chains : List Chain
+  pub fills : Fills tail es ρ x chains
+
+-- what is left by every chains that fill it
 pub record Tailless (es : List Element) (ρ : ℕ → Role) (x : Chains) (xs ys : Rooms) (b : Builder) : Type 0 where
   pub sizes : Sizes xs ys
-  pub built : (t : List ℕ) (ds : List Chain) → Stood ρ ds x → FitsAll t ds es → Built t ds es xs ys b
+  pub built : (t : List ℕ) (ds : List Chain) → Fills t es ρ x ds → Built t ds es xs ys b
+
+-- ---- a template with a tail
 
 -- the tail reads by itself, and has k atoms
 pub record TailOf (t : List ℕ) (k : ℕ) : Type 0 where
   pub shown : show (tailPart t .pieces) ≡ t
   pub size : tailPart t .size ≡ k
 
--- a template with a tail
-pub record Tailed (t : List ℕ) (k : ℕ) (es : List Element) (ρ : ℕ → Role) (x : Chains) (xs ys : Rooms) (b : Builder) : Type 0 where
+pub record FilledTailed (t : List ℕ) (es : List Element) (ρ : ℕ → Role) (x : Chains) : Type 0 where
+  pub chains : List Chain
+  pub fills : Fills t es ρ x chains
+
+pub record Tailed (t : List ℕ) (es : List Element) (ρ : ℕ → Role) (x : Chains) (xs ys : Rooms) (b : Builder) : Type 0 where
   pub sizes : Sizes xs ys
-  pub built : (ds : List Chain) → TailOf t k → Stood ρ ds x → FitsAll t ds es → Built t ds es xs ys b
+  pub built : (ds : List Chain) → Fills t es ρ x ds → Built t ds es xs ys b

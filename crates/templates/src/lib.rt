@@ -9,8 +9,8 @@ ghost use Rattle.template.specs.declared.Class.the-variants.{Fa, Gp, Cl, Sb, Sa
 ghost use Rattle.template.specs.Template.{elements, glycerol, roleOf};
 ghost use Rattle.shapes.specs.Shapes.{chainsKept};
 ghost use Rattle.builder.specs.Build.{rooms};
-ghost use Rattle.templates.specs.Templates.{allSlots, Tailless, Tailed};
-ghost use Rattle.templates.specs.Classes.{ClassBuilt};
+ghost use Rattle.templates.specs.Templates.{allSlots, FilledTailless, Tailless, TailOf, FilledTailed, Tailed};
+ghost use Rattle.templates.specs.Classes.{Classed, ClassBuilt};
 
 // FA: `O`, chain.
 fn fa_smiles(
@@ -22,6 +22,7 @@ fn fa_smiles(
     shapes: &[u64; SHAPE_ROOM],
     lists: &[u64],
 ) -> Builder
+    requires { ⌜ FilledTailless (elements Fa) (roleOf Fa) (chainsKept count (now shapes) (now lists)) ⌝ }
     ensures { λ r. ⌜ Tailless (elements Fa) (roleOf Fa) (chainsKept count (now (shapes .entry)) (now (lists .entry))) (rooms (now (out .entry)) (now (index .entry)) (now (rows .entry)) (now (notes .entry))) (rooms (now (out .exit)) (now (index .exit)) (now (rows .exit)) (now (notes .exit))) r ⌝ }
 {
     let a = Builder::new();
@@ -39,6 +40,7 @@ fn glycerolipid_smiles(
     shapes: &[u64; SHAPE_ROOM],
     lists: &[u64],
 ) -> Builder
+    requires { ⌜ FilledTailless glycerol allSlots (chainsKept count (now shapes) (now lists)) ⌝ }
     ensures { λ r. ⌜ Tailless glycerol allSlots (chainsKept count (now (shapes .entry)) (now (lists .entry))) (rooms (now (out .entry)) (now (index .entry)) (now (rows .entry)) (now (notes .entry))) (rooms (now (out .exit)) (now (index .exit)) (now (rows .exit)) (now (notes .exit))) r ⌝ }
 {
     let a = Builder::new();
@@ -62,7 +64,9 @@ fn gpl_smiles(
     shapes: &[u64; SHAPE_ROOM],
     lists: &[u64],
 ) -> Builder
-    ensures { λ r. ⌜ Tailed (now (tail .entry)) «tail_atoms» (elements Gp) (roleOf Gp) (chainsKept count (now (shapes .entry)) (now (lists .entry))) (rooms (now (out .entry)) (now (index .entry)) (now (rows .entry)) (now (notes .entry))) (rooms (now (out .exit)) (now (index .exit)) (now (rows .exit)) (now (notes .exit))) r ⌝ }
+    requires { ⌜ TailOf (now tail) «tail_atoms» ⌝ }
+    requires { ⌜ FilledTailed (now tail) (elements Gp) (roleOf Gp) (chainsKept count (now shapes) (now lists)) ⌝ }
+    ensures { λ r. ⌜ Tailed (now (tail .entry)) (elements Gp) (roleOf Gp) (chainsKept count (now (shapes .entry)) (now (lists .entry))) (rooms (now (out .entry)) (now (index .entry)) (now (rows .entry)) (now (notes .entry))) (rooms (now (out .exit)) (now (index .exit)) (now (rows .exit)) (now (notes .exit))) r ⌝ }
 {
     let a = Builder::new();
     let b = a.push_fixed(out, b"C(C", 2);
@@ -83,6 +87,7 @@ fn cl_smiles(
     shapes: &[u64; SHAPE_ROOM],
     lists: &[u64],
 ) -> Builder
+    requires { ⌜ FilledTailless (elements Cl) (roleOf Cl) (chainsKept count (now shapes) (now lists)) ⌝ }
     ensures { λ r. ⌜ Tailless (elements Cl) (roleOf Cl) (chainsKept count (now (shapes .entry)) (now (lists .entry))) (rooms (now (out .entry)) (now (index .entry)) (now (rows .entry)) (now (notes .entry))) (rooms (now (out .exit)) (now (index .exit)) (now (rows .exit)) (now (notes .exit))) r ⌝ }
 {
     let a = Builder::new();
@@ -108,7 +113,9 @@ fn sphingoid_smiles(
     shapes: &[u64; SHAPE_ROOM],
     lists: &[u64],
 ) -> Builder
-    ensures { λ r. ⌜ Tailed (now (tail .entry)) «tail_atoms» (elements Sb) (roleOf Sb) (chainsKept count (now (shapes .entry)) (now (lists .entry))) (rooms (now (out .entry)) (now (index .entry)) (now (rows .entry)) (now (notes .entry))) (rooms (now (out .exit)) (now (index .exit)) (now (rows .exit)) (now (notes .exit))) r ⌝ }
+    requires { ⌜ TailOf (now tail) «tail_atoms» ⌝ }
+    requires { ⌜ FilledTailed (now tail) (elements Sb) (roleOf Sb) (chainsKept count (now shapes) (now lists)) ⌝ }
+    ensures { λ r. ⌜ Tailed (now (tail .entry)) (elements Sb) (roleOf Sb) (chainsKept count (now (shapes .entry)) (now (lists .entry))) (rooms (now (out .entry)) (now (index .entry)) (now (rows .entry)) (now (notes .entry))) (rooms (now (out .exit)) (now (index .exit)) (now (rows .exit)) (now (notes .exit))) r ⌝ }
 {
     let a = Builder::new();
     let b = a.push_fixed(out, b"C(C", 2);
@@ -129,7 +136,9 @@ fn acyl_sphingoid_smiles(
     shapes: &[u64; SHAPE_ROOM],
     lists: &[u64],
 ) -> Builder
-    ensures { λ r. ⌜ Tailed (now (tail .entry)) «tail_atoms» (elements Sa) (roleOf Sa) (chainsKept count (now (shapes .entry)) (now (lists .entry))) (rooms (now (out .entry)) (now (index .entry)) (now (rows .entry)) (now (notes .entry))) (rooms (now (out .exit)) (now (index .exit)) (now (rows .exit)) (now (notes .exit))) r ⌝ }
+    requires { ⌜ TailOf (now tail) «tail_atoms» ⌝ }
+    requires { ⌜ FilledTailed (now tail) (elements Sa) (roleOf Sa) (chainsKept count (now shapes) (now lists)) ⌝ }
+    ensures { λ r. ⌜ Tailed (now (tail .entry)) (elements Sa) (roleOf Sa) (chainsKept count (now (shapes .entry)) (now (lists .entry))) (rooms (now (out .entry)) (now (index .entry)) (now (rows .entry)) (now (notes .entry))) (rooms (now (out .exit)) (now (index .exit)) (now (rows .exit)) (now (notes .exit))) r ⌝ }
 {
     let a = Builder::new();
     let b = a.push_fixed(out, b"C(C", 2);
@@ -153,6 +162,7 @@ pub fn class_smiles(
     shapes: &[u64; SHAPE_ROOM],
     lists: &[u64],
 ) -> Builder
+    requires { ⌜ Classed class (now tail) «tail_atoms» (chainsKept count (now shapes) (now lists)) ⌝ }
     ensures { λ r. ⌜ ClassBuilt class (now (tail .entry)) «tail_atoms» (chainsKept count (now (shapes .entry)) (now (lists .entry))) (rooms (now (out .entry)) (now (index .entry)) (now (rows .entry)) (now (notes .entry))) (rooms (now (out .exit)) (now (index .exit)) (now (rows .exit)) (now (notes .exit))) r ⌝ }
 {
     match class {

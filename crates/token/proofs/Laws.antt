@@ -9,7 +9,7 @@ use mir.Val.{Fits}
 use mathlib.Core.Path.{_≡_, refl, sym, ap, _∙_}
 use mathlib.Core.Bool.{Bool, true, false, not, cond}
 use mathlib.Core.List.{List, [], _∷_, map}
-use lib.ListN.{length, take, drop, getD}
+use lib.ListN.{length, take, drop, getD, length-map, length-take}
 use lib.Dec.{eqb, leb}
 use borrow.Author.Tests.{lt-ltb, le-ltb, eq-eqb, ne-eqb, not-true, not-false}
 use Rattle.scan.specs.Part.{trimmed, indexOf, startsWith, sameBytes, Place}
@@ -20,31 +20,35 @@ use Rattle.scan.proofs.Laws.{to-end, starts-length}
 use Rattle.record.specs.declared.ChainPrefix.{ChainPrefix}
 use Rattle.record.specs.declared.ChainPrefix.the-variants.{Acyl}
 use Rattle.record.specs.declared.DbPos.{DbPos}
-use Rattle.record.specs.Chain.{Chain, Outcome, Read, Refused, andThen, countsOf, withUnlocated, maxCarbons, maxBonds, maxGroups, maxRings}
-use Rattle.record.proofs.Laws.{counts-within}
+use Rattle.record.specs.Chain.{Chain, Outcome, andThen, countsOf, withUnlocated, maxBonds, maxGroups, maxRings}
 use Rattle.codes.specs.Codes.{bondIn}
-use Rattle.parsed.specs.declared.ParsedChain.{ParsedChain}
-use Rattle.parsed.specs.declared.Parsed.{Parsed}
 use Rattle.parsed.specs.declared.Counts.{Counts}
 use Rattle.parsed.specs.declared.Counted.{Counted}
+use Rattle.parsed.specs.declared.Counted.the-variants.{Read as Counted·Read, Refused as Counted·Refused}
 use Rattle.parsed.specs.declared.Pushed.{Pushed}
-use Rattle.parsed.specs.Parsed.{Keeps, Holds, Stands, bondsAs, carbonAs, gather, allAs, on, Fills, Pushes, Collects, Judges}
-use Rattle.parsed.proofs.Laws.{keeps-count, keeps-all, holds-none, stands-read, stands-refused, fills-same, fills-stop, fills-then}
-use Rattle.seats.specs.Seats.{seated, positions, Seated}
+use Rattle.parsed.specs.declared.Pushed.the-variants.{Read as Pushed·Read, Refused as Pushed·Refused}
+use Rattle.parsed.specs.Parsed.{Keeps, answered, Stands, bondsAs, carbonAs, gather, allAs, on, Pushes, Collects, Judges, checked}
+use Rattle.parsed.proofs.Laws.{keeps-within, keeps-all, holds-none, checked-judges, checked-read, stands-read, stands-refused, fills-refused, fills-same, fills-stop, fills-then}
+use Rattle.seats.specs.Seats.{positions, Seated}
 use Rattle.positions.specs.Positions.{bondList}
 use Rattle.opening.specs.declared.Branch.{Branch}
 use Rattle.opening.specs.declared.Opening.{Opening}
+use Rattle.opening.specs.declared.Start.{Start}
 use Rattle.opening.specs.declared.Started.{Started}
-use Rattle.opening.specs.Opening.{carbonsOf, Opened, startedAs, Starts}
-use Rattle.opening.proofs.Laws.{carbons-few}
+use Rattle.opening.specs.declared.Started.the-variants.{Read as Started·Read, Refused as Started·Refused}
+use Rattle.opening.specs.Opening.{carbonsOf, Opened, startAs, Starts}
 use Rattle.segment.specs.Segment.{segments}
 use Rattle.segment.proofs.Laws.{segments-none}
 use Rattle.token.specs.declared.Missing.{Missing}
 use Rattle.token.specs.declared.Missing.the-variants.{Seated as Missing·Seated, Unseated}
 use Rattle.token.specs.Token.{missingOf, bareOxygens, finished, restOf, countedList, listedOf, afterCount, bondsOf, namedChain, emptyText, trimmedOf, printable, allPrintable, tokenOf}
+use Rattle.token.specs.declared.Ending.{Ending}
 use Rattle.token.specs.declared.Ended.{Ended}
+use Rattle.token.specs.declared.Ended.the-variants.{Read as Ended·Read, Refused as Ended·Refused}
+use Rattle.token.specs.declared.ReadChain.{ReadChain}
 use Rattle.token.specs.declared.ReadToken.{ReadToken}
-use Rattle.token.specs.Lent.{MissingIs, Bare, endingAs, Finishes, listedAs, tell, tellingAs, Begun, Ends, EndsBegun, tokenAs, Tells, noToken, tokenIn}
+use Rattle.token.specs.declared.ReadToken.the-variants.{Read as ReadToken·Read, Refused as ReadToken·Refused}
+use Rattle.token.specs.Lent.{bondsIn, Bare, endingAs, Finishes, listedAs, FewBonds, ListIs, tell, tellingAs, told, Ends, emptyChain, endedAs, Tells, tokenIn}
 
 -- ---- bytes
 
@@ -73,27 +77,31 @@ module _ (A : Bool) where
 
 -- ---- the missing bonds
 
-module _ (carbon : ℕ) (bs : List ℕ) (n declared : ℕ) where
-  pub given-many : declared < n → MissingIs carbon bs n declared Unseated
+pub bonds-long : (n : ℕ) (bs : List ℕ) → n ≤ length bs → length (bondsIn n bs) ≡ n
+bonds-long n bs l = omega (arith, length-map (take n bs) bondIn, length-take n bs)
+
+module _ (carbon : ℕ) (bs : List ℕ) (n declared : ℕ) (l : n ≤ length bs) where
+  pub given-many : declared < n → Unseated ≡ missingOf carbon (bondsIn n bs) declared
   unfolding missingOf
-  given-many h = record { is = λ l k c b. rw (lt-ltb declared (length l) (omega (arith, keeps-count k b))) }
+  given-many h = rw (bonds-long n bs l, lt-ltb declared n h)
 
   module _ (s : Bool) (g : n ≤ declared) (w : Seated carbon (positions (map bondIn (take n bs))) (declared - n) s) where
-    same : (l : List DbPos) → Keeps bondIn maxBonds bs n l → carbon ≤ maxCarbons → length l ≤ maxBonds → missingOf carbon l declared ≡ cond s (Missing·Seated (declared - n)) Unseated
+    same : missingOf carbon (bondsIn n bs) declared ≡ cond s (Missing·Seated (declared - n)) Unseated
     unfolding missingOf
-    same l k c b =
-        let m : length l ≡ n = sym (keeps-count k b) in
-        let e : s ≡ seated carbon (positions l) (declared - n) = rw (keeps-all k b) at (w .is c) in
-        rw (m, le-ltb declared n g, ← e)
+    same = rw (bonds-long n bs l, le-ltb declared n g, ← w .is)
 
-    pub not-seated : not s ≡ true → MissingIs carbon bs n declared Unseated
-    not-seated z = record { is = λ l k c b. sym (same l k c b ∙ rw (not-true s z)) }
+    pub not-seated : not s ≡ true → Unseated ≡ missingOf carbon (bondsIn n bs) declared
+    not-seated z = sym (same ∙ rw (not-true s z))
 
-    pub all-seated : not s ≡ false → MissingIs carbon bs n declared (Missing·Seated (declared - n))
-    all-seated z = record { is = λ l k c b. sym (same l k c b ∙ rw (not-false s z)) }
+    pub all-seated : not s ≡ false → Missing·Seated (declared - n) ≡ missingOf carbon (bondsIn n bs) declared
+    all-seated z = sym (same ∙ rw (not-false s z))
 
     pub seated-fits : not s ≡ false → Fits w16 (declared - n)
     seated-fits z = record { fits = omega (arith, w .few (not-false s z)) }
+
+-- the double bonds that an array keeps within the limit are the list's
+bonds-kept : (bs : List ℕ) (n : ℕ) (l : List DbPos) → Keeps bondIn maxBonds bs n l → n ≤ maxBonds → bondsIn n bs ≡ l
+bonds-kept bs n l k h = keeps-all k (keeps-within k h)
 
 -- ---- an oxygen count that stands alone
 
@@ -131,14 +139,16 @@ unfolding restOf
 rest-empty m d = rw (segments-none d)
 
 module _ (m : Missing) (c : Counts) where
-  pub finish-unseated : m ≡ Unseated → Finishes c (record { refusal = 11; unlocated = 0; counts = c }) (finished m)
-  finish-unseated e = rw e (record { gives = λ x. record { stands = λ d k. (refl, omega arith) } })
+  pub finish-unseated : m ≡ Unseated → Finishes c (Ended·Refused 11) (finished m)
+  finish-unseated e = fills-refused 11 (record { unlocated = 0; counts = c }) (finished m) (λ x d k. rw e)
 
   module _ (n : ℕ) (e : m ≡ Missing·Seated n) (b : Bool) (w : Bare c b) where
-    pub finish-bare : b ≡ true → Finishes c (record { refusal = 11; unlocated = 0; counts = c }) (finished m)
-    finish-bare t = rw e (record { gives = λ x. record { stands = λ d k. rw (sym (w .is (endingAs x (record { unlocated = 0; counts = c })) d k) ∙ t) (refl, omega arith) } })
+    pub finish-bare : b ≡ true → Finishes c (Ended·Refused 11) (finished m)
+    finish-bare t =
+        fills-refused {put = endingAs} 11 (record { unlocated = 0; counts = c }) (finished m)
+        (λ x d k. rw (e, sym (w .is (endingAs x (record { unlocated = 0; counts = c })) d k) ∙ t))
 
-    pub finish-read : b ≡ false → Finishes c (record { refusal = 0; unlocated = n; counts = c }) (finished m)
+    pub finish-read : b ≡ false → Finishes c (Ended·Read (record { unlocated = n; counts = c })) (finished m)
     unfolding withUnlocated
     finish-read t =
         rw e
@@ -147,141 +157,164 @@ module _ (m : Missing) (c : Counts) where
               record {
                 stands = λ d k.
                     rw (sym (w .is (endingAs x (record { unlocated = 0; counts = c })) d k) ∙ t)
-                    (refl, record { prefix = k .prefix; written = k .written; carbon = k .carbon; branched = k .branched; unlocated = refl; oxygens = k .oxygens; bonds = k .bonds; groups = k .groups; rings = k .rings });
+                    (record { prefix = k .prefix; written = k .written; carbon = k .carbon; branched = k .branched; unlocated = refl; oxygens = k .oxygens; bonds = k .bonds; groups = k .groups; rings = k .rings });
               };
         })
 
 module _ (m : Missing) (s : List ℕ) (carbon : ℕ) (k : Counts) (bs gs rs : List ℕ) where
-  ended : (q : Counts) (ys hs zs : List ℕ) (r : Ended) → Finishes q r (finished m) → Fills (on carbon tellingAs) (tell 0 q ys hs zs) (record { refusal = r .refusal; state = tell (r .unlocated) (r .counts) ys hs zs }) (finished m)
-  ended q ys hs zs r w = record { gives = λ x. w .gives (tellingAs (carbonAs x carbon) (tell 0 q ys hs zs)) }
+  last : (q : Counts) (ys hs zs : List ℕ) (r : Ended) → Finishes q r (finished m) → Ends carbon q ys hs zs r ys hs zs (finished m)
+  last q ys hs zs (Ended·Read e) w = record { gives = λ x. w .gives (tellingAs (carbonAs x carbon) (tell 0 q ys hs zs)) }
+  last q ys hs zs (Ended·Refused n) w = record { gives = λ x. w .gives (tellingAs (carbonAs x carbon) (tell 0 q ys hs zs)) }
 
   -- without segments
   pub rest-none : (r : Ended) → length s ≡ 0 → Finishes k r (finished m) → Ends carbon k bs gs rs r bs gs rs (restOf m s)
   rest-none r h w = go s h
     where
       go : (s : List ℕ) → length s ≡ 0 → Ends carbon k bs gs rs r bs gs rs (restOf m s)
-      go [] h = fills-same (ended k bs gs rs r w) (λ x d u. sym (rest-empty m d))
+      go [] h = fills-same (last k bs gs rs r w) (λ x d u. sym (rest-empty m d))
       go (x ∷ s) h = absurd (omega arith)
 
   module _ (p : Counted) (ys hs zs : List ℕ) (w : Collects (on carbon allAs) (gather k bs gs rs) p ys hs zs (segments s)) where
-    read : Fills (on carbon tellingAs) (tell 0 k bs gs rs) (record { refusal = p .refusal; state = tell 0 (p .counts) ys hs zs }) (segments s)
-    read = record { gives = λ x. w .gives (tellingAs x (tell 0 k bs gs rs)) }
-
-    pub rest-refused : (p .refusal ≡ 0 → ⊥) → Ends carbon k bs gs rs (record { refusal = p .refusal; unlocated = 0; counts = p .counts }) ys hs zs (restOf m s)
+    pub rest-refused : (n : ℕ) → p ≡ Counted·Refused n → Ends carbon k bs gs rs (Ended·Refused n) ys hs zs (restOf m s)
     unfolding restOf
-    rest-refused n = fills-stop (finished m) read n
+    rest-refused n e =
+        let v : Collects (on carbon allAs) (gather k bs gs rs) (Counted·Refused n) ys hs zs (segments s) = rw e at w in
+        fills-stop (finished m) (record { gives = λ x. v .gives (tellingAs x (tell 0 k bs gs rs)) })
 
-    pub rest-read : (r : Ended) → p .refusal ≡ 0 → Finishes (p .counts) r (finished m) → Ends carbon k bs gs rs r ys hs zs (restOf m s)
+    pub rest-read : (q : Counts) (r : Ended) → p ≡ Counted·Read q → Finishes q r (finished m) → Ends carbon k bs gs rs r ys hs zs (restOf m s)
     unfolding restOf
-    rest-read r e v = fills-then read e (ended (p .counts) ys hs zs r v)
+    rest-read q r e f =
+        let v : Collects (on carbon allAs) (gather k bs gs rs) (Counted·Read q) ys hs zs (segments s) = rw e at w in
+        fills-then {e = tell 0 q ys hs zs} (record { gives = λ x. v .gives (tellingAs x (tell 0 k bs gs rs)) }) (last q ys hs zs r f)
 
 -- ---- the position list
 
 module _ (s : List ℕ) (k : Counts) (bs : List ℕ) (p : Pushed) (ys : List ℕ) (w : Pushes bondsAs (k .bonds) bs p ys (bondList s)) where
-  list : Fills listedAs (gather k bs [] []) (record { refusal = p .refusal; state = gather (record { bonds = p .count; groups = k .groups; rings = k .rings; oxygens = k .oxygens }) ys [] [] }) (bondList s)
-  list = record { gives = λ x. w .gives (listedAs x (gather k bs [] [])) }
-
-  pub list-refused : (p .refusal ≡ 0 → ⊥)
-      → Collects listedAs (gather k bs [] []) (record { refusal = p .refusal; counts = record { bonds = p .count; groups = k .groups; rings = k .rings; oxygens = k .oxygens } }) ys [] [] (countedList s)
+  pub list-refused : (n : ℕ) → p ≡ Pushed·Refused n → ListIs s k bs (Counted·Refused n) ys
   unfolding countedList
-  list-refused n = fills-stop countsOf list n
+  list-refused n e =
+      let v : Pushes bondsAs (k .bonds) bs (Pushed·Refused n) ys (bondList s) = rw e at w in
+      record { collects = fills-stop countsOf (record { gives = λ x. v .gives (listedAs x (gather k bs [] [])) }); few = tt }
 
-  pub list-read : (r : Counted) → p .refusal ≡ 0 → Judges (record { bonds = p .count; groups = k .groups; rings = k .rings; oxygens = k .oxygens }) r countsOf → Collects listedAs (gather k bs [] []) r ys [] [] (countedList s)
-  unfolding countedList
-  list-read r e v =
-      let q : Counts = record { bonds = p .count; groups = k .groups; rings = k .rings; oxygens = k .oxygens } in
-      fills-then list e (record { gives = λ x. v .gives (listedAs x (gather q ys [] [])) })
+  module _ (n : ℕ) (e : p ≡ Pushed·Read n) where
+    more : Counts
+    more = record { bonds = n; groups = k .groups; rings = k .rings; oxygens = k .oxygens }
 
-list-few : (s : List ℕ) (d e : Chain) → countedList s d ≡ Read e → length (e .bonds) ≤ maxBonds
-unfolding countedList
-list-few s d e h = go (bondList s d) h
-  where
-    go : (o : Outcome) → andThen o countsOf ≡ Read e → length (e .bonds) ≤ maxBonds
-    go (Read f) h = counts-within f e h .0
-    go (Refused n) h = let z : _≡_ {A = ℕ} 0 1 = cc in absurd (omega arith)
+    listed-counts : (r : Counted) → r ≡ checked more → Collects listedAs (gather more ys [] []) r ys [] [] countsOf
+    unfolding more
+    listed-counts r h = go r (rw (← h) at (checked-judges more))
+      where
+        go : (r : Counted) → Judges more r countsOf → Collects listedAs (gather more ys [] []) r ys [] [] countsOf
+        go (Counted·Read q) v = record { gives = λ x. v .gives (listedAs x (gather more ys [] [])) }
+        go (Counted·Refused m) v = record { gives = λ x. v .gives (listedAs x (gather more ys [] [])) }
+
+    listed-few : (r : Counted) → r ≡ checked more → FewBonds r
+    listed-few (Counted·Read q) h = checked-read more q h .1
+    listed-few (Counted·Refused m) h = tt
+
+    pub list-read : (r : Counted) → r ≡ checked (record { bonds = n; groups = k .groups; rings = k .rings; oxygens = k .oxygens }) → ListIs s k bs r ys
+    unfolding countedList more
+    list-read r h =
+        let v : Pushes bondsAs (k .bonds) bs (Pushed·Read n) ys (bondList s) = rw e at w in
+        record {
+          collects = fills-then {e = gather more ys [] []} (record { gives = λ x. v .gives (listedAs x (gather k bs [] [])) }) (listed-counts r h);
+          few = listed-few r h;
+        }
 
 module _ (declared : ℕ) (s : List ℕ) (carbon : ℕ) (k : Counts) (bs gs rs : List ℕ) (n : ℕ) (f : Place s (indexOf 41 s) n) where
-  pub list-open : n ≡ length s → EndsBegun carbon k bs gs rs (record { refusal = 11; unlocated = 0; counts = k }) bs gs rs (listedOf declared s)
+  pub list-open : n ≡ length s → Ends carbon k bs gs rs (Ended·Refused 11) bs gs rs (listedOf declared s)
   unfolding listedOf
-  list-open h = record { stands = λ x d u b. rw (eq-eqb (indexOf 41 s) (length s) (sym (f .is) ∙ h)) (refl, omega arith) }
+  list-open h = fills-refused 11 (tell 0 k bs gs rs) (listedOf declared s) (λ x d u. rw (eq-eqb (indexOf 41 s) (length s) (sym (f .is) ∙ h)))
 
-  module _ (h : n ≡ length s → ⊥) (p : Counted) (ys : List ℕ) (w : Collects listedAs (gather k bs [] []) p ys [] [] (countedList (take (n - 0) s))) where
+  module _ (h : n ≡ length s → ⊥) (p : Counted) (ys : List ℕ) (w : ListIs (take (n - 0) s) k bs p ys) where
     closed : eqb (indexOf 41 s) (length s) ≡ false
     closed = ne-eqb (indexOf 41 s) (length s) (λ e. h (f .is ∙ e))
 
     part : take (n - 0) s ≡ take (indexOf 41 s) s
     part = rw (sub-zero n, f .is)
 
-    -- the list's answer, whatever the record
-    after : ParsedChain → Parsed
-    after x = record { refusal = p .refusal; chain = tellingAs (carbonAs x carbon) (tell 0 (p .counts) ys gs rs) }
+    -- what follows the list, where it is read
+    whole : (d : Chain) → listedOf declared s d ≡ andThen (countedList (take (n - 0) s) d) (λ e. restOf (missingOf (d .carbon) (e .bonds) declared) (drop (n + 1) s) e)
+    unfolding listedOf
+    whole d = rw (closed, ← part, ← f .is)
 
-    listed : (x : ParsedChain) (d : Chain) → Holds (tellingAs (carbonAs x carbon) (tell 0 k bs gs rs)) d → Stands (after x) (countedList (take (n - 0) s) d)
-    unfolding after
-    listed x d u = w .gives (tellingAs (carbonAs x carbon) (tell 0 k bs gs rs)) .stands d u
+    pub listed-refused : (m : ℕ) → p ≡ Counted·Refused m → Ends carbon k bs gs rs (Ended·Refused m) ys gs rs (listedOf declared s)
+    listed-refused m e =
+        let v : ListIs (take (n - 0) s) k bs (Counted·Refused m) ys = rw e at w in
+        fills-refused {put = on carbon tellingAs} m (tell 0 k bs gs rs) (listedOf declared s)
+        (λ x d u.
+        whole d ∙ rw (stands-refused m (countedList (take (n - 0) s) d) (v .collects .gives (tellingAs (carbonAs x carbon) (tell 0 k bs gs rs)) .stands d u)))
 
-    pub listed-refused : (p .refusal ≡ 0 → ⊥) → EndsBegun carbon k bs gs rs (record { refusal = p .refusal; unlocated = 0; counts = p .counts }) ys gs rs (listedOf declared s)
-    unfolding listedOf after
-    listed-refused z = record { stands = λ x d u b. rw (closed, ← part) (stands-refused (after x) (countedList (take (n - 0) s) d) _ (listed x d u) z) }
+    module _ (q : Counts) (e : p ≡ Counted·Read q) where
+      pub listed-few-bonds : q .bonds ≤ maxBonds
+      listed-few-bonds = let v : ListIs (take (n - 0) s) k bs (Counted·Read q) ys = rw e at w in v .few
 
-    pub listed-read : (m : Missing) (r : Ended) (xs hs zs : List ℕ) → p .refusal ≡ 0 → MissingIs carbon ys (p .counts .bonds) declared m
-        → Ends carbon (p .counts) ys gs rs r xs hs zs (restOf m (take (length s - (n + 1)) (drop (n + 1) s))) → EndsBegun carbon k bs gs rs r xs hs zs (listedOf declared s)
-    unfolding listedOf after
-    listed-read m r xs hs zs z v e =
-        record {
-          stands = λ x d u b.
-              let q = stands-read (after x) (countedList (take (n - 0) s) d) (listed x d u) z in
-              let g : m ≡ missingOf (d .carbon) (q .0 .bonds) declared = v .is (q .0 .bonds) (q .2 .bonds) (omega (arith, b .few, u .carbon)) (list-few _ d (q .0) (q .1)) ∙ ap (λ (i : ℕ). missingOf i (q .0 .bonds) declared) (u .carbon) in
-              let t : take (length s - (n + 1)) (drop (n + 1) s) ≡ drop (n + 1) s = to-end (n + 1) s in
-              rw (closed, ← part, q .1, ← g, ← f .is, ← t) (e .gives x .stands (q .0) (q .2));
-        }
+      pub listed-read : (m : Missing) (r : Ended) (xs hs zs : List ℕ) → m ≡ missingOf carbon (bondsIn (q .bonds) ys) declared
+          → Ends carbon q ys gs rs r xs hs zs (restOf m (take (length s - (n + 1)) (drop (n + 1) s))) → Ends carbon k bs gs rs r xs hs zs (listedOf declared s)
+      listed-read m r xs hs zs g t =
+          record {
+            gives = λ x.
+                record {
+                  stands = λ d u.
+                      let v : ListIs (take (n - 0) s) k bs (Counted·Read q) ys = rw e at w in
+                      let z = stands-read (tellingAs (carbonAs x carbon) (tell 0 q ys gs rs)) (countedList (take (n - 0) s) d) (v .collects .gives (tellingAs (carbonAs x carbon) (tell 0 k bs gs rs)) .stands d u) in
+                      let b : bondsIn (q .bonds) ys ≡ z .0 .bonds = bonds-kept ys (q .bonds) (z .0 .bonds) (z .2 .bonds) listed-few-bonds in
+                      let c : m ≡ missingOf (d .carbon) (z .0 .bonds) declared = g ∙ ap (λ (l : List DbPos). missingOf carbon l declared) b ∙ ap (λ (i : ℕ). missingOf i (z .0 .bonds) declared) (u .carbon) in
+                      let y : take (length s - (n + 1)) (drop (n + 1) s) ≡ drop (n + 1) s = to-end (n + 1) s in
+                      rw (whole d, z .1, ← c, ← y) (t .gives x .stands (z .0) (z .2));
+                };
+          }
 
 -- ---- from the bond count on
-
-bare-few : (l : List DbPos) → l ≡ [] → length l ≤ maxBonds
-bare-few l e = rw e (omega arith)
 
 module _ (declared : ℕ) (s : List ℕ) (carbon : ℕ) (k : Counts) (bs gs rs : List ℕ) (b : Bool) (e : b ≡ startsWith (40 ∷ []) s) where
   pub list-room : b ≡ true → 1 ≤ length s
   list-room t = starts-length (40 ∷ []) s (sym e ∙ t)
 
   module _ (r : Ended) (ys hs zs : List ℕ) where
-    pub with-list : b ≡ true → EndsBegun carbon k bs gs rs r ys hs zs (listedOf declared (take (length s - 1) (drop 1 s))) → EndsBegun carbon k bs gs rs r ys hs zs (afterCount declared s)
+    pub with-list : b ≡ true → Ends carbon k bs gs rs r ys hs zs (listedOf declared (take (length s - 1) (drop 1 s))) → Ends carbon k bs gs rs r ys hs zs (afterCount declared s)
     unfolding afterCount
-    with-list t w = record { stands = λ x d u g. rw (sym e ∙ t, ← to-end 1 s) (w .stands x d u g) }
+    with-list t w = fills-same w (λ x d u. sym (rw (sym e ∙ t, to-end 1 s)))
 
-    pub without-list : (m : Missing) → b ≡ false → MissingIs carbon bs (k .bonds) declared m → Ends carbon k bs gs rs r ys hs zs (restOf m s) → EndsBegun carbon k bs gs rs r ys hs zs (afterCount declared s)
+    pub without-list : (m : Missing) → b ≡ false → k .bonds ≤ 32 → m ≡ missingOf carbon (bondsIn (k .bonds) bs) declared → Ends carbon k bs gs rs r ys hs zs (restOf m s) → Ends carbon k bs gs rs r ys hs zs (afterCount declared s)
     unfolding afterCount
-    without-list m t v w =
-        record {
-          stands = λ x d u g.
-              let q : m ≡ missingOf (d .carbon) (d .bonds) declared = v .is (d .bonds) (u .bonds) (omega (arith, g .few, u .carbon)) (bare-few (d .bonds) (g .bare)) ∙ ap (λ (i : ℕ). missingOf i (d .bonds) declared) (u .carbon) in
-              rw (sym e ∙ t, ← q) (w .gives x .stands d u);
-        }
+    without-list m t l v w =
+        fills-same w
+        (λ x d u.
+        let q : m ≡ missingOf (d .carbon) (d .bonds) declared = v ∙ rw (bonds-kept bs (k .bonds) (d .bonds) (u .bonds) l, u .carbon) in
+        sym (rw (sym e ∙ t, ← q)))
 
 module _ (s : List ℕ) (carbon : ℕ) (k : Counts) (bs gs rs : List ℕ) (n : ℕ) (f : Place s (digitRun s) n) (v : Number) (e : v ≡ digitsUpTo 4294967295 (take (n - 0) s)) where
   run : v ≡ digitsUpTo 4294967295 (take (digitRun s) s)
   run = rw (sub-zero n, f .is) at e
 
-  pub no-count : v ≡ Unreadable → EndsBegun carbon k bs gs rs (record { refusal = 11; unlocated = 0; counts = k }) bs gs rs (bondsOf s)
+  pub no-count : v ≡ Unreadable → Ends carbon k bs gs rs (Ended·Refused 11) bs gs rs (bondsOf s)
   unfolding bondsOf
-  no-count g = record { stands = λ x d u b. rw (sym run ∙ g) (refl, omega arith) }
+  no-count g = fills-refused 11 (tell 0 k bs gs rs) (bondsOf s) (λ x d u. rw (sym run ∙ g))
 
-  pub count-read : (m : ℕ) (r : Ended) (ys hs zs : List ℕ) → v ≡ Value m → EndsBegun carbon k bs gs rs r ys hs zs (afterCount m (take (length s - n) (drop n s))) → EndsBegun carbon k bs gs rs r ys hs zs (bondsOf s)
+  pub count-read : (m : ℕ) (r : Ended) (ys hs zs : List ℕ) → v ≡ Value m → Ends carbon k bs gs rs r ys hs zs (afterCount m (take (length s - n) (drop n s))) → Ends carbon k bs gs rs r ys hs zs (bondsOf s)
   unfolding bondsOf
-  count-read m r ys hs zs g w = record { stands = λ x d u b. rw (sym run ∙ g, ← f .is, ← to-end n s) (w .stands x d u b) }
+  count-read m r ys hs zs g w = fills-same w (λ x d u. sym (rw (sym run ∙ g, ← f .is, to-end n s)))
 
 -- ---- the token
 
--- a refusal stands for itself, whatever is beside it
-stands-number : (q r : Parsed) (o : Outcome) → Stands q o → (q .refusal ≡ 0 → ⊥) → r .refusal ≡ q .refusal → Stands r o
-stands-number q r (Read d) w n e = absurd (n (w .0))
-stands-number q r (Refused m) w n e = (e ∙ w .0, w .1)
+module _ (s : Start) (e : Ended) where
+  pub end-refused : (n : ℕ) → e ≡ Ended·Refused n → ReadToken·Refused n ≡ endedAs s e
+  end-refused n f = rw f
+
+  pub end-read : (g : Ending) → e ≡ Ended·Read g
+      → ReadToken·Read (record { prefix = s .prefix; written = s .written; carbon = s .carbon; branched = s .branched; unlocated = g .unlocated; counts = g .counts }) ≡ endedAs s e
+  end-read g f = rw f
+
+-- a start and what was read from the bond count on stand for an outcome as a token
+pub with-start : (s : Start) (e : Ended) (bs gs rs : List ℕ) (o : Outcome) → Stands (answered (tellingAs (carbonAs (startAs s bs gs rs) (s .carbon))) (told e bs gs rs)) o → Tells (endedAs s e) bs gs rs o
+with-start s (Ended·Read e) bs gs rs o w = record { stands = w }
+with-start s (Ended·Refused n) bs gs rs o w = record { stands = w }
 
 module _ (p : ChainPrefix) (b : Branch) (s bs gs rs : List ℕ) (n : ℕ) (f : Place s (indexOf 58 s) n) where
-  pub no-colon : (r : ReadToken) → n ≡ length s → r ≡ noToken 11 → Tells r bs gs rs (namedChain p b s)
+  pub no-colon : n ≡ length s → Tells (ReadToken·Refused 11) bs gs rs (namedChain p b s)
   unfolding namedChain
-  no-colon r h e = record { stands = rw (eq-eqb (indexOf 58 s) (length s) (sym (f .is) ∙ h)) (ap (λ (z : ReadToken). z .refusal) e, omega arith) }
+  no-colon h = record { stands = rw (eq-eqb (indexOf 58 s) (length s) (sym (f .is) ∙ h)) refl }
 
   module _ (h : n ≡ length s → ⊥) (q : Started) (w : Starts q gs (carbonsOf p b (take (n - 0) s))) where
     colon : eqb (indexOf 58 s) (length s) ≡ false
@@ -290,66 +323,60 @@ module _ (p : ChainPrefix) (b : Branch) (s bs gs rs : List ℕ) (n : ℕ) (f : P
     text : take (n - 0) s ≡ take (indexOf 58 s) s
     text = rw (sub-zero n, f .is)
 
-    begun : Parsed
-    begun = record { refusal = q .refusal; chain = startedAs q bs gs rs }
+    pub carbons-refused : (m : ℕ) → q ≡ Started·Refused m → Tells (ReadToken·Refused m) bs gs rs (namedChain p b s)
+    unfolding namedChain
+    carbons-refused m e =
+        let v : Starts (Started·Refused m) gs (carbonsOf p b (take (n - 0) s)) = rw e at w in
+        record { stands = rw (colon, ← text, stands-refused m (carbonsOf p b (take (n - 0) s)) (v .stands bs rs)) refl }
 
-    pub carbons-refused : (r : ReadToken) → (q .refusal ≡ 0 → ⊥) → r ≡ noToken (q .refusal) → Tells r bs gs rs (namedChain p b s)
-    unfolding namedChain begun
-    carbons-refused r z e =
-        record {
-          stands = rw (colon, ← text)
-              (stands-number begun (record { refusal = r .refusal; chain = tokenAs r bs gs rs }) (andThen (carbonsOf p b (take (n - 0) s)) _)
-              (stands-refused begun (carbonsOf p b (take (n - 0) s)) _ (w .stands bs rs) z) z (ap (λ (z : ReadToken). z .refusal) e));
-        }
-
-    pub carbons-then : (r : Ended) (ys hs zs : List ℕ) → q .refusal ≡ 0
-        → EndsBegun (q .carbon) (record { bonds = 0; groups = q .groups; rings = 0; oxygens = 0 }) bs gs rs r ys hs zs (bondsOf (take (length s - (n + 1)) (drop (n + 1) s)))
-        → Tells (record { refusal = r .refusal; prefix = q .prefix; written = q .written; carbon = q .carbon; branched = q .branched; unlocated = r .unlocated; counts = r .counts }) ys hs zs (namedChain p b s)
-    unfolding namedChain begun
-    carbons-then r ys hs zs z v =
-        let g = stands-read begun (carbonsOf p b (take (n - 0) s)) (w .stands bs rs) z in
+    pub carbons-then : (a : Start) (e : Ended) (r : ReadToken) (ys hs zs : List ℕ) → q ≡ Started·Read a
+        → Ends (a .carbon) (record { bonds = 0; groups = a .groups; rings = 0; oxygens = 0 }) bs gs rs e ys hs zs (bondsOf (take (length s - (n + 1)) (drop (n + 1) s)))
+        → r ≡ endedAs a e → Tells r ys hs zs (namedChain p b s)
+    unfolding namedChain
+    carbons-then a e r ys hs zs z v i =
+        let y : Starts (Started·Read a) gs (carbonsOf p b (take (n - 0) s)) = rw z at w in
+        let g = stands-read (startAs a bs gs rs) (carbonsOf p b (take (n - 0) s)) (y .stands bs rs) in
         let t : take (length s - (n + 1)) (drop (n + 1) s) ≡ drop (n + 1) s = to-end (n + 1) s in
-        let few = carbons-few p b (take (n - 0) s) (g .0) (g .1) in
-        record { stands = rw (colon, ← text, g .1, ← f .is, ← t) (v .stands (startedAs q bs gs rs) (g .0) (g .2) (record { few = few .0; bare = few .1 })) }
+        rw (i, colon, ← text, g .1, ← f .is, ← t) (with-start a e ys hs zs _ (v .gives (startAs a bs gs rs) .stands (g .0) (g .2)))
 
 module _ (t : List ℕ) (a : Bool) (e : a ≡ sameBytes t emptyText) where
-  pub empty-chain : (r : ReadToken) (bs gs rs : List ℕ) → a ≡ true → r ≡ noToken 0 → Tells r bs gs rs (trimmedOf t)
+  pub empty-token : (r : ReadChain) (bs gs rs : List ℕ) → a ≡ true → r ≡ emptyChain → Tells (ReadToken·Read r) bs gs rs (trimmedOf t)
   unfolding trimmedOf
-  empty-chain r bs gs rs h k = rw k (record { stands = rw (sym e ∙ h) (refl, holds-none Acyl 0 0 false bs gs rs) })
+  empty-token r bs gs rs h k = rw k (record { stands = rw (sym e ∙ h) (holds-none Acyl 0 0 false bs gs rs) })
 
   pub opened-chain : (o : Opening) (r : ReadToken) (bs gs rs : List ℕ) → a ≡ false → Opened t o → Tells r bs gs rs (namedChain (o .prefix) (o .branch) (take (length t - o .carbons) (drop (o .carbons) t))) → Tells r bs gs rs (trimmedOf t)
   unfolding trimmedOf
   opened-chain o r bs gs rs h w s = record { stands = rw (sym e ∙ h, ← w .is, ← to-end (o .carbons) t) (s .stands) }
 
-module _ (s : List ℕ) (r : ReadToken) (bs gs rs : List ℕ) where
-  pub token-long : 255 < length s → r ≡ noToken 31 → Tells r bs gs rs (tokenOf s)
+module _ (s bs gs rs : List ℕ) where
+  pub token-long : 255 < length s → Tells (ReadToken·Refused 31) bs gs rs (tokenOf s)
   unfolding tokenOf
-  token-long h k = record { stands = rw (lt-ltb 255 (length s) h) (ap (λ (z : ReadToken). z .refusal) k, omega arith) }
+  token-long h = record { stands = rw (lt-ltb 255 (length s) h) refl }
 
   module _ (h : length s ≤ 255) (b : Bool) (e : b ≡ allPrintable s) where
-    pub token-bytes : not b ≡ true → r ≡ noToken 31 → Tells r bs gs rs (tokenOf s)
+    pub token-bytes : not b ≡ true → Tells (ReadToken·Refused 31) bs gs rs (tokenOf s)
     unfolding tokenOf
-    token-bytes n k = record { stands = rw (le-ltb 255 (length s) h, sym e ∙ not-true b n) (ap (λ (z : ReadToken). z .refusal) k, omega arith) }
+    token-bytes n = record { stands = rw (le-ltb 255 (length s) h, sym e ∙ not-true b n) refl }
 
-    pub token-read : (t : List ℕ) → not b ≡ false → t ≡ trimmed s → Tells r bs gs rs (trimmedOf t) → Tells r bs gs rs (tokenOf s)
+    pub token-read : (t : List ℕ) (r : ReadToken) → not b ≡ false → t ≡ trimmed s → Tells r bs gs rs (trimmedOf t) → Tells r bs gs rs (tokenOf s)
     unfolding tokenOf
-    token-read t n g w = record { stands = rw (le-ltb 255 (length s) h, sym e ∙ not-false b n, ← g) (w .stands) }
+    token-read t r n g w = record { stands = rw (le-ltb 255 (length s) h, sym e ∙ not-false b n, ← g) (w .stands) }
 
 -- ---- in arrays of any length
 
-module _ (b g n : ℕ) (s : List ℕ) (r : ReadToken) (bs gs rs : List ℕ) where
-  pub bonds-short : b < 32 → r ≡ noToken 31 → Tells r bs gs rs (tokenIn b g n s)
+module _ (b g n : ℕ) (s bs gs rs : List ℕ) where
+  pub bonds-short : b < 32 → Tells (ReadToken·Refused 31) bs gs rs (tokenIn b g n s)
   unfolding tokenIn
-  bonds-short h k = record { stands = rw (lt-ltb b maxBonds h) (ap (λ (z : ReadToken). z .refusal) k, omega arith) }
+  bonds-short h = record { stands = rw (lt-ltb b maxBonds h) refl }
 
-  pub groups-short : 32 ≤ b → g < 16 → r ≡ noToken 31 → Tells r bs gs rs (tokenIn b g n s)
+  pub groups-short : 32 ≤ b → g < 16 → Tells (ReadToken·Refused 31) bs gs rs (tokenIn b g n s)
   unfolding tokenIn
-  groups-short u h k = record { stands = rw (le-ltb b maxBonds u, lt-ltb g maxGroups h) (ap (λ (z : ReadToken). z .refusal) k, omega arith) }
+  groups-short u h = record { stands = rw (le-ltb b maxBonds u, lt-ltb g maxGroups h) refl }
 
-  pub rings-short : 32 ≤ b → 16 ≤ g → n < 8 → r ≡ noToken 31 → Tells r bs gs rs (tokenIn b g n s)
+  pub rings-short : 32 ≤ b → 16 ≤ g → n < 8 → Tells (ReadToken·Refused 31) bs gs rs (tokenIn b g n s)
   unfolding tokenIn
-  rings-short u v h k = record { stands = rw (le-ltb b maxBonds u, le-ltb g maxGroups v, lt-ltb n maxRings h) (ap (λ (z : ReadToken). z .refusal) k, omega arith) }
+  rings-short u v h = record { stands = rw (le-ltb b maxBonds u, le-ltb g maxGroups v, lt-ltb n maxRings h) refl }
 
-  pub token-in : 32 ≤ b → 16 ≤ g → 8 ≤ n → Tells r bs gs rs (tokenOf s) → Tells r bs gs rs (tokenIn b g n s)
+  pub token-in : (r : ReadToken) → 32 ≤ b → 16 ≤ g → 8 ≤ n → Tells r bs gs rs (tokenOf s) → Tells r bs gs rs (tokenIn b g n s)
   unfolding tokenIn
-  token-in u v w k = record { stands = rw (le-ltb b maxBonds u, le-ltb g maxGroups v, le-ltb n maxRings w) (k .stands) }
+  token-in r u v w k = record { stands = rw (le-ltb b maxBonds u, le-ltb g maxGroups v, le-ltb n maxRings w) (k .stands) }

@@ -46,10 +46,11 @@ use Rattle.token.specs.declared.Missing.{Missing}
 use Rattle.token.specs.declared.Missing.the-variants.{Seated as Missing·Seated, Unseated}
 use Rattle.token.specs.declared.Ended.{Ended}
 use Rattle.token.specs.declared.ReadToken.{ReadToken}
-use Rattle.token.specs.Lent.{MissingIs, Ends, Tells, noToken}
+use Rattle.token.specs.declared.ReadToken.the-variants.{Read as ReadToken·Read, Refused as ReadToken·Refused}
+use Rattle.token.specs.Lent.{bondsIn, Ends, endedAs, Tells}
 use Rattle.segment.proofs.Laws.{segments-none}
-use Rattle.token.proofs.Laws.{rest-empty}
-use Rattle.token.specs.Short.{Numbered, Passed, HeadAt, Headed, bonded, bondsIn, listLeft, SpotOf, Spotted, Listing, mayFollow, Follows, Lists, laden, groupsIn, Grouped, ringsIn, RingFirst, Starts, Plain, PlainIn}
+use Rattle.token.proofs.Laws.{rest-empty, with-start}
+use Rattle.token.specs.Short.{Numbered, Passed, HeadAt, Headed, bonded, listLeft, SpotOf, Spotted, Listing, mayFollow, Follows, Lists, laden, groupsIn, Grouped, ringsIn, RingFirst, Starts, Plain, PlainIn}
 
 -- ---- the bytes that are passed
 
@@ -659,9 +660,6 @@ keeps-in n bs h l =
     let a : min n 32 ≡ n = omega arith in
     record { counted = omega (arith, length-map (take n bs) bondIn, length-take n bs); kept = rw a (sym (take-all 32 (bondsIn n bs) (omega (arith, bonds-few n bs)))) }
 
-bonds-few-in : (n : ℕ) (bs : List ℕ) → n ≤ 32 → length (bondsIn n bs) ≤ 32
-bonds-few-in n bs h = omega (arith, bonds-few n bs)
-
 keeps-groups : (n : ℕ) (gs : List ℕ) → n ≤ 16 → n ≤ length gs → Keeps groupIn maxGroups gs n (groupsIn n gs)
 keeps-groups n gs h l =
     let a : min n 16 ≡ n = omega arith in
@@ -675,20 +673,17 @@ keeps-rings n rs h l =
     record { counted = omega (arith, length-map (take n rs) ringIn, length-take n rs); kept = rw a (sym (take-all 8 (ringsIn n rs) (omega arith))) }
 
 module _ (p : ChainPrefix) (w : ℕ) (m : Missing) (n g c : ℕ) where
-  pub plain-unseated : (r : ReadToken) → m ≡ Unseated → r ≡ noToken 11 → Plain p w m n g c r
-  plain-unseated r e f = rw (e, f) (record { tells = λ bs gs rs h l i j x y. record { stands = (refl, omega arith) } })
+  pub plain-unseated : m ≡ Unseated → Plain p w m n g c (ReadToken·Refused 11)
+  plain-unseated e = rw e (record { tells = λ bs gs rs h l i j x y. record { stands = refl } })
 
-  pub plain-seated : (k : ℕ) → m ≡ Missing·Seated k → Plain p w m n g c (record { refusal = 0; prefix = p; written = w; carbon = w; branched = false; unlocated = k; counts = record { bonds = n; groups = g; rings = c; oxygens = 0 } })
+  pub plain-seated : (k : ℕ) → m ≡ Missing·Seated k → Plain p w m n g c (ReadToken·Read (record { prefix = p; written = w; carbon = w; branched = false; unlocated = k; counts = record { bonds = n; groups = g; rings = c; oxygens = 0 } }))
   unfolding bareOxygens withUnlocated
   plain-seated k e =
       rw e
       (record {
         tells = λ bs gs rs h l i j x y.
             record {
-              stands = (
-                refl,
-                record { prefix = refl; written = refl; carbon = refl; branched = refl; unlocated = refl; oxygens = refl; bonds = keeps-in n bs h l; groups = keeps-groups g gs i j; rings = keeps-rings c rs x y },
-              );
+              stands = record { prefix = refl; written = refl; carbon = refl; branched = refl; unlocated = refl; oxygens = refl; bonds = keeps-in n bs h l; groups = keeps-groups g gs i j; rings = keeps-rings c rs x y };
             };
       })
 
@@ -701,23 +696,21 @@ all-given w n bs l =
 
 module _ (p : ChainPrefix) (w declared n g c : ℕ) (bs : List ℕ) (r : ReadToken) where
   pub plain-all : declared ≡ n → Plain p w (Missing·Seated 0) n g c r → PlainIn p w declared n g c bs r
-  plain-all e k = rw e (record { tells = λ gs rs a h l i j x y. rw (all-given w n bs l) (k .tells bs gs rs h l i j x y) })
+  plain-all e k = rw e (record { tells = λ gs rs h l i j x y. rw (all-given w n bs l) (k .tells bs gs rs h l i j x y) })
 
-  pub plain-in : (m : Missing) → MissingIs w bs n declared m → Plain p w m n g c r → PlainIn p w declared n g c bs r
-  plain-in m v k = record { tells = λ gs rs a h l i j x y. rw (← v .is (bondsIn n bs) (keeps-in n bs h l) a (bonds-few-in n bs h)) (k .tells bs gs rs h l i j x y) }
+  pub plain-in : (m : Missing) → m ≡ missingOf w (bondsIn n bs) declared → Plain p w m n g c r → PlainIn p w declared n g c bs r
+  plain-in m v k = record { tells = λ gs rs h l i j x y. rw (← v) (k .tells bs gs rs h l i j x y) }
 
-pub segments-end : (u : Usual) (s bs gs rs : List ℕ) (m : Missing) (r : Ended) (ys hs zs : List ℕ) → u .carbon ≤ 255 → u .count ≤ 32 → u .groups ≤ 16 → u .rings ≤ 8 → 32 ≤ length bs → 16 ≤ length gs → 8 ≤ length rs
-    → MissingIs (u .carbon) bs (u .count) (u .declared) m → Ends (u .carbon) (record { bonds = u .count; groups = u .groups; rings = u .rings; oxygens = 0 }) bs gs rs r ys hs zs (restOf m s)
-    → Tells (record { refusal = r .refusal; prefix = u .prefix; written = u .carbon; carbon = u .carbon; branched = false; unlocated = r .unlocated; counts = r .counts }) ys hs zs
-    (restOf (missingOf (u .carbon) (bondsIn (u .count) bs) (u .declared)) s (laden (u .prefix) (u .carbon) (bondsIn (u .count) bs) (groupsIn (u .groups) gs) (ringsIn (u .rings) rs)))
-segments-end u s bs gs rs m r ys hs zs a h g c l o q v e =
+pub segments-end : (u : Usual) (s bs gs rs : List ℕ) (m : Missing) (e : Ended) (r : ReadToken) (ys hs zs : List ℕ) → u .count ≤ 32 → u .groups ≤ 16 → u .rings ≤ 8 → 32 ≤ length bs → 16 ≤ length gs → 8 ≤ length rs
+    → m ≡ missingOf (u .carbon) (bondsIn (u .count) bs) (u .declared) → Ends (u .carbon) (record { bonds = u .count; groups = u .groups; rings = u .rings; oxygens = 0 }) bs gs rs e ys hs zs (restOf m s)
+    → r ≡ endedAs (record { prefix = u .prefix; written = u .carbon; carbon = u .carbon; branched = false; groups = u .groups }) e
+    → Tells r ys hs zs (restOf (missingOf (u .carbon) (bondsIn (u .count) bs) (u .declared)) s (laden (u .prefix) (u .carbon) (bondsIn (u .count) bs) (groupsIn (u .groups) gs) (ringsIn (u .rings) rs)))
+segments-end u s bs gs rs m e r ys hs zs h g c l o q v w f =
     let x : ParsedChain = record { prefix = u .prefix; written = u .carbon; carbon = u .carbon; branched = false; unlocated = 0; oxygens = 0; «bond_count» = u .count; bonds = bs; «group_count» = u .groups; groups = gs; «ring_count» = u .rings; rings = rs } in
-    let k = keeps-in (u .count) bs h (omega arith) in
-    rw (← v .is (bondsIn (u .count) bs) k a (bonds-few-in (u .count) bs h))
-    (record {
-      stands = e .gives x .stands (laden (u .prefix) (u .carbon) (bondsIn (u .count) bs) (groupsIn (u .groups) gs) (ringsIn (u .rings) rs))
-          (record { prefix = refl; written = refl; carbon = refl; branched = refl; unlocated = refl; oxygens = refl; bonds = k; groups = keeps-groups (u .groups) gs g (omega arith); rings = keeps-rings (u .rings) rs c (omega arith) });
-    })
+    rw (f, ← v)
+    (with-start (record { prefix = u .prefix; written = u .carbon; carbon = u .carbon; branched = false; groups = u .groups }) e ys hs zs _
+    (w .gives x .stands (laden (u .prefix) (u .carbon) (bondsIn (u .count) bs) (groupsIn (u .groups) gs) (ringsIn (u .rings) rs))
+    (record { prefix = refl; written = refl; carbon = refl; branched = refl; unlocated = refl; oxygens = refl; bonds = keeps-in (u .count) bs h (omega arith); groups = keeps-groups (u .groups) gs g (omega arith); rings = keeps-rings (u .rings) rs c (omega arith) })))
 
 module _ (s ys hs zs : List ℕ) (u : Usual) (r : ReadToken) (w : (u .rest ≡ 0 → ⊥) → Starts s ys hs zs u) (n : u .rest ≡ 0 → ⊥) where
   pub token-plain : u .rest ≡ length s → PlainIn (u .prefix) (u .carbon) (u .declared) (u .count) (u .groups) (u .rings) ys r → Tells r ys hs zs (tokenOf s)
@@ -725,7 +718,7 @@ module _ (s ys hs zs : List ℕ) (u : Usual) (r : ReadToken) (w : (u .rest ≡ 0
       let q = w n in
       let v : drop (u .rest) s ≡ [] = rw e (drop-length s) in
       let z : tokenOf s ≡ finished (missingOf (u .carbon) (bondsIn (u .count) ys) (u .declared)) (laden (u .prefix) (u .carbon) (bondsIn (u .count) ys) (groupsIn (u .groups) hs) (ringsIn (u .rings) zs)) = (rw v at (q .says)) ∙ rest-empty _ _ in
-      rw z (k .tells hs zs (q .few) (q .listed) (q .stored) (q .grown) (q .kept) (q .closed) (q .held))
+      rw z (k .tells hs zs (q .listed) (q .stored) (q .grown) (q .kept) (q .closed) (q .held))
 
   pub token-segments : (bs gs rs : List ℕ)
       → Tells r bs gs rs (restOf (missingOf (u .carbon) (bondsIn (u .count) ys) (u .declared)) (take (length s - u .rest) (drop (u .rest) s)) (laden (u .prefix) (u .carbon) (bondsIn (u .count) ys) (groupsIn (u .groups) hs) (ringsIn (u .rings) zs)))

@@ -32,7 +32,7 @@ use Rattle.token.specs.declared.Item.{Item}
 use Rattle.token.specs.declared.Usual.{Usual}
 use Rattle.token.specs.declared.ReadToken.{ReadToken}
 use Rattle.token.specs.Token.{missingOf, finished, restOf, listedOf, afterCount, trimmedOf, allPrintable, tokenOf}
-use Rattle.token.specs.Lent.{Tells}
+use Rattle.token.specs.Lent.{bondsIn, Tells}
 
 -- the bytes of s before v are printable, and no space
 pub record Passed (s v : List ℕ) : Type 0 where
@@ -68,10 +68,6 @@ pub record Headed (s : List ℕ) (r : Head) : Type 0 where
 -- a chain with these double bonds and nothing else
 abbrev pub bonded : ChainPrefix → ℕ → List DbPos → Chain
 bonded p w l = record { prefix = p; written = w; carbon = w; branched = false; unlocated = 0; oxygens = 0; bonds = l; groups = []; rings = [] }
-
--- the double bonds of an array
-abbrev pub bondsIn : ℕ → List ℕ → List DbPos
-bondsIn n xs = map bondIn (take n xs)
 
 -- what is left of a list after a comma
 unfoldable pub listLeft : ℕ → List ℕ → Chain → Outcome
@@ -257,5 +253,5 @@ pub record Plain (p : ChainPrefix) (w : ℕ) (m : Missing) (n k j : ℕ) (r : Re
       → Tells r bs gs rs (finished m (laden p w (bondsIn n bs) (groupsIn k gs) (ringsIn j rs)))
 
 pub record PlainIn (p : ChainPrefix) (w declared n k j : ℕ) (bs : List ℕ) (r : ReadToken) : Type 0 where
-  pub tells : (gs rs : List ℕ) → w ≤ maxCarbons → n ≤ maxBonds → n ≤ length bs → k ≤ maxGroups → k ≤ length gs → j ≤ maxRings → j ≤ length rs
+  pub tells : (gs rs : List ℕ) → n ≤ maxBonds → n ≤ length bs → k ≤ maxGroups → k ≤ length gs → j ≤ maxRings → j ≤ length rs
       → Tells r bs gs rs (finished (missingOf w (bondsIn n bs) declared) (laden p w (bondsIn n bs) (groupsIn k gs) (ringsIn j rs)))

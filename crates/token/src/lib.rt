@@ -4,8 +4,11 @@
 use features::Feature;
 use features::Segment;
 use opening::Branch;
+use opening::Start;
+use opening::Started;
 use parsed::Counted;
 use parsed::Counts;
+use parsed::Pushed;
 use record::ChainPrefix;
 use record::DbPos;
 use record::Geometry;
@@ -16,16 +19,14 @@ use record::Mod;
 use scan::Number;
 ghost use mathlib.Core.Path.{_≡_};
 ghost use mathlib.Core.Bool.{cond, true, false};
-ghost use mathlib.Core.List.{[]};
 ghost use mathlib.Core.Logic.{_⊎_};
 ghost use Prim.Native.Nat.{_≤_, _-_};
 ghost use lib.ListN.{length};
 ghost use Rattle.record.specs.Chain.{maxCarbons, maxBonds, maxGroups, maxRings};
-ghost use Rattle.parsed.specs.Parsed.{Collects, gather};
 ghost use Rattle.scan.specs.Number.{isDigit};
-ghost use Rattle.token.specs.Token.{printable, allPrintable, maxBytes, missingOf, finished, restOf, countedList, listedOf, afterCount, bondsOf, namedChain, trimmedOf, tokenOf};
-ghost use Rattle.token.specs.Lent.{MissingIs, Bare, Finishes, listedAs, Ends, EndsBegun, Tells, noToken, tokenIn};
-ghost use Rattle.token.specs.Short.{Numbered, HeadAt, Headed, bondsIn, SpotOf, Spotted, Listing, Lists, Follows, isPlain, PlainRun, Leads, Itemed, laden, groupsIn, Grouped, Sized, Spanned, Enclosed, ringsIn, RingFirst, Starts, Plain, PlainIn};
+ghost use Rattle.token.specs.Token.{printable, allPrintable, maxBytes, missingOf, finished, restOf, listedOf, afterCount, bondsOf, namedChain, trimmedOf, tokenOf};
+ghost use Rattle.token.specs.Lent.{bondsIn, Bare, Finishes, ListIs, Ends, emptyChain, endedAs, Tells, tokenIn};
+ghost use Rattle.token.specs.Short.{Numbered, HeadAt, Headed, SpotOf, Spotted, Listing, Lists, Follows, isPlain, PlainRun, Leads, Itemed, laden, groupsIn, Grouped, Sized, Spanned, Enclosed, ringsIn, RingFirst, Starts, Plain, PlainIn};
 
 // The longest token.
 const MAX_BYTES: usize = 255;
@@ -69,7 +70,9 @@ pub enum Missing {
 
 // The bonds missing beside the first n, which are those of the `(..)` list.
 fn missing_bonds(carbon: u16, bonds: &[u64], n: usize, declared: u64) -> Missing
-    ensures { λ r. ⌜ MissingIs carbon (now (bonds .entry)) n declared r ⌝ }
+    requires { ⌜ carbon ≤ maxCarbons ⌝ }
+    requires { ⌜ n ≤ length (now bonds) ⌝ }
+    ensures { λ r. ⌜ r ≡ missingOf carbon (bondsIn n (now (bonds .entry))) declared ⌝ }
 {
     let given = n as u64;
     if declared < given {
@@ -94,11 +97,16 @@ fn bare_oxygens(counts: Counts) -> bool
     counts.rings == 0
 }
 
-// What is known from the bond count on: the number of double bonds without a position, and the counts; or a refusal by its number (0: none).
-pub struct Ended {
-    pub refusal: u16,
+// What is known from the bond count on: the number of double bonds without a position, and the counts.
+pub struct Ending {
     pub unlocated: u16,
     pub counts: Counts,
+}
+
+// What is known from the bond count on, or the number by which the token is refused.
+pub enum Ended {
+    Read(Ending),
+    Refused(u16),
 }
 
 // What is judged after the segments.
@@ -106,24 +114,15 @@ fn finish(missing: Missing, counts: Counts) -> Ended
     ensures { λ r. ⌜ Finishes counts r (finished missing) ⌝ }
 {
     let Missing::Seated(n) = missing else {
-        return Ended {
-            refusal: record::UNREADABLE,
-            unlocated: 0,
-            counts,
-        };
+        return Ended::Refused(record::UNREADABLE);
     };
     if bare_oxygens(counts) {
-        return Ended {
-            refusal: record::UNREADABLE,
-            unlocated: 0,
-            counts,
-        };
+        return Ended::Refused(record::UNREADABLE);
     }
-    Ended {
-        refusal: 0,
+    Ended::Read(Ending {
         unlocated: n,
         counts,
-    }
+    })
 }
 
 // The segments, if there are any, and what is judged after them.
@@ -145,32 +144,26 @@ fn parse_rest(
         return finish(missing, counts);
     }
     let read = segment::parse_segments(s, carbon, bonds, groups, rings, counts);
-    let more = read.counts;
-    if read.refusal != 0 {
-        return Ended {
-            refusal: read.refusal,
-            unlocated: 0,
-            counts: more,
-        };
+    match read {
+        Counted::Refused(number) => Ended::Refused(number),
+        Counted::Read(more) => finish(missing, more),
     }
-    finish(missing, more)
 }
 
 // The `(..)` list, and its count.
 fn parse_list(s: &[u8], bonds: &mut [u64], counts: Counts) -> Counted
     requires { ⌜ maxBonds ≤ length (now bonds) ⌝ }
-    ensures { λ r. ⌜ Collects listedAs (gather counts (now (bonds .entry)) [] []) r (now (bonds .exit)) [] [] (countedList (now (s .entry))) ⌝ }
+    ensures { λ r. ⌜ ListIs (now (s .entry)) counts (now (bonds .entry)) r (now (bonds .exit)) ⌝ }
 {
     let listed = positions::parse_position_list(s, bonds, counts.bonds);
-    let mut more = counts;
-    more.bonds = listed.count;
-    if listed.refusal != 0 {
-        return Counted {
-            refusal: listed.refusal,
-            counts: more,
-        };
+    match listed {
+        Pushed::Refused(number) => Counted::Refused(number),
+        Pushed::Read(count) => {
+            let mut more = counts;
+            more.bonds = count;
+            parsed::check_counts(more)
+        }
     }
-    parsed::check_counts(more)
 }
 
 // What follows the `(` of the position list.
@@ -183,30 +176,24 @@ fn parse_listed(
     rings: &mut [u64],
     counts: Counts,
 ) -> Ended
+    requires { ⌜ carbon ≤ maxCarbons ⌝ }
     requires { ⌜ maxBonds ≤ length (now bonds) ⌝ }
     requires { ⌜ maxGroups ≤ length (now groups) ⌝ }
     requires { ⌜ maxRings ≤ length (now rings) ⌝ }
-    ensures { λ r. ⌜ EndsBegun carbon counts (now (bonds .entry)) (now (groups .entry)) (now (rings .entry)) r (now (bonds .exit)) (now (groups .exit)) (now (rings .exit)) (listedOf declared (now (s .entry))) ⌝ }
+    ensures { λ r. ⌜ Ends carbon counts (now (bonds .entry)) (now (groups .entry)) (now (rings .entry)) r (now (bonds .exit)) (now (groups .exit)) (now (rings .exit)) (listedOf declared (now (s .entry))) ⌝ }
 {
     let n = scan::find(s, b')');
     if n == s.len() {
-        return Ended {
-            refusal: record::UNREADABLE,
-            unlocated: 0,
-            counts,
-        };
+        return Ended::Refused(record::UNREADABLE);
     }
     let listed = parse_list(&s[0..n], bonds, counts);
-    let more = listed.counts;
-    if listed.refusal != 0 {
-        return Ended {
-            refusal: listed.refusal,
-            unlocated: 0,
-            counts: more,
-        };
+    match listed {
+        Counted::Refused(number) => Ended::Refused(number),
+        Counted::Read(more) => {
+            let missing = missing_bonds(carbon, bonds, more.bonds, declared);
+            parse_rest(missing, &s[n + 1..], carbon, bonds, groups, rings, more)
+        }
     }
-    let missing = missing_bonds(carbon, bonds, more.bonds, declared);
-    parse_rest(missing, &s[n + 1..], carbon, bonds, groups, rings, more)
 }
 
 // What follows the bond count: a position list straight after, or none.
@@ -219,10 +206,12 @@ fn parse_after_count(
     rings: &mut [u64],
     counts: Counts,
 ) -> Ended
+    requires { ⌜ carbon ≤ maxCarbons ⌝ }
+    requires { ⌜ counts .bonds ≤ maxBonds ⌝ }
     requires { ⌜ maxBonds ≤ length (now bonds) ⌝ }
     requires { ⌜ maxGroups ≤ length (now groups) ⌝ }
     requires { ⌜ maxRings ≤ length (now rings) ⌝ }
-    ensures { λ r. ⌜ EndsBegun carbon counts (now (bonds .entry)) (now (groups .entry)) (now (rings .entry)) r (now (bonds .exit)) (now (groups .exit)) (now (rings .exit)) (afterCount declared (now (s .entry))) ⌝ }
+    ensures { λ r. ⌜ Ends carbon counts (now (bonds .entry)) (now (groups .entry)) (now (rings .entry)) r (now (bonds .exit)) (now (groups .exit)) (now (rings .exit)) (afterCount declared (now (s .entry))) ⌝ }
 {
     if scan::starts_with(s, b"(") {
         return parse_listed(declared, &s[1..], carbon, bonds, groups, rings, counts);
@@ -240,25 +229,22 @@ fn parse_bonds(
     rings: &mut [u64],
     counts: Counts,
 ) -> Ended
+    requires { ⌜ carbon ≤ maxCarbons ⌝ }
+    requires { ⌜ counts .bonds ≤ maxBonds ⌝ }
     requires { ⌜ maxBonds ≤ length (now bonds) ⌝ }
     requires { ⌜ maxGroups ≤ length (now groups) ⌝ }
     requires { ⌜ maxRings ≤ length (now rings) ⌝ }
-    ensures { λ r. ⌜ EndsBegun carbon counts (now (bonds .entry)) (now (groups .entry)) (now (rings .entry)) r (now (bonds .exit)) (now (groups .exit)) (now (rings .exit)) (bondsOf (now (s .entry))) ⌝ }
+    ensures { λ r. ⌜ Ends carbon counts (now (bonds .entry)) (now (groups .entry)) (now (rings .entry)) r (now (bonds .exit)) (now (groups .exit)) (now (rings .exit)) (bondsOf (now (s .entry))) ⌝ }
 {
     let n = scan::digit_run(s);
     let Number::Value(declared) = scan::read_digits(&s[0..n], 4294967295) else {
-        return Ended {
-            refusal: record::UNREADABLE,
-            unlocated: 0,
-            counts,
-        };
+        return Ended::Refused(record::UNREADABLE);
     };
     parse_after_count(declared, &s[n..], carbon, bonds, groups, rings, counts)
 }
 
-// A token that was read, but for the arrays; or a refusal by its number (0: read), and then the rest says nothing.
-pub struct ReadToken {
-    pub refusal: u16,
+// A chain that was read, but for its arrays.
+pub struct ReadChain {
     pub prefix: ChainPrefix,
     pub written: u16,
     pub carbon: u16,
@@ -267,24 +253,48 @@ pub struct ReadToken {
     pub counts: Counts,
 }
 
-impl ReadToken {
-    // An empty chain, or a refusal.
-    fn empty(refusal: u16) -> ReadToken
-        ensures { λ r. ⌜ r ≡ noToken refusal ⌝ }
-    {
-        ReadToken {
-            refusal,
-            prefix: ChainPrefix::Acyl,
-            written: 0,
-            carbon: 0,
-            branched: false,
-            unlocated: 0,
-            counts: Counts {
-                bonds: 0,
-                groups: 0,
-                rings: 0,
-                oxygens: 0,
-            },
+// What a token says: a chain, or the number by which it is refused.
+pub enum ReadToken {
+    Read(ReadChain),
+    Refused(u16),
+}
+
+// An empty chain.
+fn empty_chain() -> ReadChain
+    ensures { λ r. ⌜ r ≡ emptyChain ⌝ }
+{
+    ReadChain {
+        prefix: ChainPrefix::Acyl,
+        written: 0,
+        carbon: 0,
+        branched: false,
+        unlocated: 0,
+        counts: Counts {
+            bonds: 0,
+            groups: 0,
+            rings: 0,
+            oxygens: 0,
+        },
+    }
+}
+
+// A chain that was started, with what was read from its bond count on.
+fn with_end(start: Start, ended: Ended) -> ReadToken
+    ensures { λ r. ⌜ r ≡ endedAs start ended ⌝ }
+{
+    match ended {
+        Ended::Refused(number) => ReadToken::Refused(number),
+        Ended::Read(ending) => {
+            let prefix = start.prefix;
+            let counts = ending.counts;
+            ReadToken::Read(ReadChain {
+                prefix,
+                written: start.written,
+                carbon: start.carbon,
+                branched: start.branched,
+                unlocated: ending.unlocated,
+                counts,
+            })
         }
     }
 }
@@ -305,29 +315,21 @@ fn parse_named(
 {
     let n = scan::find(s, b':');
     if n == s.len() {
-        return ReadToken::empty(record::UNREADABLE);
+        return ReadToken::Refused(record::UNREADABLE);
     }
     let started = opening::parse_carbons(&s[0..n], prefix, branch, groups);
-    if started.refusal != 0 {
-        return ReadToken::empty(started.refusal);
-    }
-    let counts = Counts {
-        bonds: 0,
-        groups: started.groups,
-        rings: 0,
-        oxygens: 0,
-    };
-    let ended = parse_bonds(&s[n + 1..], started.carbon, bonds, groups, rings, counts);
-    let kept = started.prefix;
-    let more = ended.counts;
-    ReadToken {
-        refusal: ended.refusal,
-        prefix: kept,
-        written: started.written,
-        carbon: started.carbon,
-        branched: started.branched,
-        unlocated: ended.unlocated,
-        counts: more,
+    match started {
+        Started::Refused(number) => ReadToken::Refused(number),
+        Started::Read(start) => {
+            let counts = Counts {
+                bonds: 0,
+                groups: start.groups,
+                rings: 0,
+                oxygens: 0,
+            };
+            let ended = parse_bonds(&s[n + 1..], start.carbon, bonds, groups, rings, counts);
+            with_end(start, ended)
+        }
     }
 }
 
@@ -339,7 +341,7 @@ fn parse_trimmed(t: &[u8], bonds: &mut [u64], groups: &mut [u64], rings: &mut [u
     ensures { λ r. ⌜ Tells r (now (bonds .exit)) (now (groups .exit)) (now (rings .exit)) (trimmedOf (now (t .entry))) ⌝ }
 {
     if scan::same(t, b"0:0") {
-        return ReadToken::empty(0);
+        return ReadToken::Read(empty_chain());
     }
     let opening = opening::read_opening(t);
     let prefix = opening.prefix;
@@ -357,7 +359,7 @@ fn read_any(s: &[u8], bonds: &mut [u64], groups: &mut [u64], rings: &mut [u64]) 
     ensures { λ r. ⌜ Tells r (now (bonds .exit)) (now (groups .exit)) (now (rings .exit)) (tokenOf (now (s .entry))) ⌝ }
 {
     if !all_printable(s) {
-        return ReadToken::empty(record::OVER_LIMIT);
+        return ReadToken::Refused(record::OVER_LIMIT);
     }
     parse_trimmed(scan::trim(s), bonds, groups, rings)
 }
@@ -921,11 +923,10 @@ fn plain_chain(usual: Usual, missing: Missing) -> ReadToken
     ensures { λ r. ⌜ Plain (usual .prefix) (usual .carbon) missing (usual .count) (usual .groups) (usual .rings) r ⌝ }
 {
     let Missing::Seated(n) = missing else {
-        return ReadToken::empty(record::UNREADABLE);
+        return ReadToken::Refused(record::UNREADABLE);
     };
     let prefix = usual.prefix;
-    ReadToken {
-        refusal: 0,
+    ReadToken::Read(ReadChain {
         prefix,
         written: usual.carbon,
         carbon: usual.carbon,
@@ -937,11 +938,13 @@ fn plain_chain(usual: Usual, missing: Missing) -> ReadToken
             rings: usual.rings,
             oxygens: 0,
         },
-    }
+    })
 }
 
 // The same, where the bonds are yet to be seated: none are missing where all have a position.
 fn end_plain(usual: Usual, bonds: &[u64]) -> ReadToken
+    requires { ⌜ usual .carbon ≤ maxCarbons ⌝ }
+    requires { ⌜ usual .count ≤ length (now bonds) ⌝ }
     ensures { λ r. ⌜ PlainIn (usual .prefix) (usual .carbon) (usual .declared) (usual .count) (usual .groups) (usual .rings) (now (bonds .entry)) r ⌝ }
 {
     if usual.declared == usual.count as u64 {
@@ -978,16 +981,14 @@ fn end_segments(
         oxygens: 0,
     };
     let ended = parse_rest(missing, s, carbon, bonds, groups, rings, counts);
-    let more = ended.counts;
-    ReadToken {
-        refusal: ended.refusal,
+    let start = Start {
         prefix,
         written: carbon,
         carbon,
         branched: false,
-        unlocated: ended.unlocated,
-        counts: more,
-    }
+        groups: usual.groups,
+    };
+    with_end(start, ended)
 }
 
 // A token, into arrays with room for all that it may say. Nearly every token starts in one way, and has no segments.
@@ -998,7 +999,7 @@ fn read_token(s: &[u8], bonds: &mut [u64], groups: &mut [u64], rings: &mut [u64]
     ensures { λ r. ⌜ Tells r (now (bonds .exit)) (now (groups .exit)) (now (rings .exit)) (tokenOf (now (s .entry))) ⌝ }
 {
     if MAX_BYTES < s.len() {
-        return ReadToken::empty(record::OVER_LIMIT);
+        return ReadToken::Refused(record::OVER_LIMIT);
     }
     let usual = read_usual(s, bonds, groups, rings);
     let from = usual.rest;
@@ -1016,13 +1017,13 @@ pub fn parse_token(s: &[u8], bonds: &mut [u64], groups: &mut [u64], rings: &mut 
     ensures { λ r. ⌜ Tells r (now (bonds .exit)) (now (groups .exit)) (now (rings .exit)) (tokenIn (length (now (bonds .entry))) (length (now (groups .entry))) (length (now (rings .entry))) (now (s .entry))) ⌝ }
 {
     if bonds.len() < MAX_BONDS {
-        return ReadToken::empty(record::OVER_LIMIT);
+        return ReadToken::Refused(record::OVER_LIMIT);
     }
     if groups.len() < MAX_GROUPS {
-        return ReadToken::empty(record::OVER_LIMIT);
+        return ReadToken::Refused(record::OVER_LIMIT);
     }
     if rings.len() < MAX_RINGS {
-        return ReadToken::empty(record::OVER_LIMIT);
+        return ReadToken::Refused(record::OVER_LIMIT);
     }
     read_token(s, bonds, groups, rings)
 }

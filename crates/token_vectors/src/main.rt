@@ -12,6 +12,7 @@ use record::MAX_BONDS;
 use record::MAX_RINGS;
 use record::Mod;
 use record::Ring;
+use token::ReadToken;
 
 // One byte past the longest token: a longer line answers as its first 256 bytes do.
 const LINE: usize = 256;
@@ -145,29 +146,32 @@ fn put_answer(out: &mut [u8], token: &[u8]) -> usize {
     let mut groups = [0u64; GROUP_ROOM];
     let mut rings = [0u64; MAX_RINGS];
     let read = token::parse_token(token, &mut bonds, &mut groups, &mut rings);
-    let refusal = read.refusal;
-    if refusal != 0 {
-        let p = emit::put_number(out, 0, refusal as u32);
-        return emit::put_byte(out, p, b'\n');
+    match read {
+        ReadToken::Refused(number) => {
+            let p = emit::put_number(out, 0, number as u32);
+            emit::put_byte(out, p, b'\n')
+        }
+        ReadToken::Read(said) => {
+            let prefix = said.prefix;
+            let counts = said.counts;
+            let chain = ParsedChain {
+                prefix,
+                written: said.written,
+                carbon: said.carbon,
+                branched: said.branched,
+                unlocated: said.unlocated,
+                oxygens: counts.oxygens,
+                bond_count: counts.bonds,
+                bonds,
+                group_count: counts.groups,
+                groups,
+                ring_count: counts.rings,
+                rings,
+            };
+            let q = put_record(out, 0, chain);
+            emit::put_byte(out, q, b'\n')
+        }
     }
-    let prefix = read.prefix;
-    let counts = read.counts;
-    let chain = ParsedChain {
-        prefix,
-        written: read.written,
-        carbon: read.carbon,
-        branched: read.branched,
-        unlocated: read.unlocated,
-        oxygens: counts.oxygens,
-        bond_count: counts.bonds,
-        bonds,
-        group_count: counts.groups,
-        groups,
-        ring_count: counts.rings,
-        rings,
-    };
-    let q = put_record(out, 0, chain);
-    emit::put_byte(out, q, b'\n')
 }
 
 fn write_answer(out: &mut [u8], token: &[u8]) {

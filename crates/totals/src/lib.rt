@@ -2,7 +2,7 @@
 use drawable::Shape;
 ghost use mathlib.Core.Path.{_≡_};
 ghost use lib.ListN.{length};
-ghost use Rattle.drawable.specs.Drawn.{groupsIn, ringsIn, floatsPart, ringsPart, drawnOf, Says};
+ghost use Rattle.drawable.specs.Drawn.{groupsIn, ringsIn, floatsPart, ringsPart, drawnOf, Says, DrawsSome};
 ghost use Rattle.totals.specs.Sum.{sumOf};
 ghost use Rattle.totals.specs.Totals.{FiguresOf};
 
@@ -18,6 +18,7 @@ pub struct Figures {
 
 // What the variables of a chain add up to. Most chains have none: then what remains of them is not looked for.
 fn sum(x: Shape, part: &[u64]) -> u16
+    requires { ⌜ DrawsSome (drawnOf x (now part)) ⌝ }
     ensures { λ r. ⌜ Says (drawnOf x (now (part .entry))) r sumOf ⌝ }
 {
     let n = x.unlocated;
@@ -52,6 +53,7 @@ fn ring_len(part: &[u64], count: usize) -> u16
 }
 
 pub fn figures_of(x: Shape, part: &[u64]) -> Figures
+    requires { ⌜ DrawsSome (drawnOf x (now part)) ⌝ }
     ensures { λ r. ⌜ FiguresOf (drawnOf x (now (part .entry))) r ⌝ }
 {
     let total = sum(x, part);

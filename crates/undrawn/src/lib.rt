@@ -6,7 +6,7 @@ ghost use mathlib.Core.Path.{_≡_};
 ghost use mathlib.Core.Bool.{cond};
 ghost use Rattle.chain.specs.Lists.{anyOf};
 ghost use Rattle.chain.specs.Refusals.{groupOnCarbonyl, tailTooShort, noSite, drawRefusal};
-ghost use Rattle.drawable.specs.Drawn.{groupsIn, groupAt, drawnOf, Says};
+ghost use Rattle.drawable.specs.Drawn.{groupsIn, groupAt, drawnOf, Says, DrawsSome};
 
 // A located group at C1 of an acyl chain.
 pub const GROUP_ON_CARBONYL: u16 = 12;
@@ -55,6 +55,7 @@ fn group_on_carbonyl(x: Shape, part: &[u64]) -> bool
 
 // 14: a flexible tail too short for its double bonds.
 fn tail_too_short(x: Shape, part: &[u64]) -> bool
+    requires { ⌜ DrawsSome (drawnOf x (now part)) ⌝ }
     ensures { λ r. ⌜ Says (drawnOf x (now (part .entry))) r tailTooShort ⌝ }
 {
     let unlocated = x.unlocated as u32;
@@ -77,6 +78,7 @@ fn site_skip(acyl: bool) -> u32
 
 // 15: an unlocated group with no site.
 fn no_site(x: Shape, part: &[u64]) -> bool
+    requires { ⌜ DrawsSome (drawnOf x (now part)) ⌝ }
     ensures { λ r. ⌜ Says (drawnOf x (now (part .entry))) r noSite ⌝ }
 {
     if drawable::groups_len(drawable::floats_part(part), x.float_count) == 0 {
@@ -89,6 +91,7 @@ fn no_site(x: Shape, part: &[u64]) -> bool
 
 // 12 to 15, in order; 0 where none is due.
 pub fn draw_refusal(x: Shape, part: &[u64]) -> u16
+    requires { ⌜ DrawsSome (drawnOf x (now part)) ⌝ }
     ensures { λ r. ⌜ Says (drawnOf x (now (part .entry))) r drawRefusal ⌝ }
 {
     if group_on_carbonyl(x, part) {

@@ -39,7 +39,7 @@ returns c =
     let busy = c .before .before .before .before .before in
     let bonds = busy .before .before .before .before .before in
     let start = bonds .before .before .before .before .before .before .before in
-    tokens-are _ (omega (arith, start .pre .1 .1)) (bonds .before .before .before .rings-part .ensures) (bonds .before .bonds-part .ensures) (bonds .marked-bonds .ensures) (busy .before .groups-part .ensures) (busy .busy-carbons .ensures) (c .before .before .from-one .ensures) (c .before .literal-end .ensures) (c .in-room .ensures)
+    tokens-are _ (omega (arith, start .pre .1 .1 .1 .1)) (bonds .before .before .before .rings-part .ensures) (bonds .before .bonds-part .ensures) (bonds .marked-bonds .ensures) (busy .before .groups-part .ensures) (busy .busy-carbons .ensures) (c .before .before .from-one .ensures) (c .before .literal-end .ensures) (c .in-room .ensures)
 
 pub chain-tokens-spec : {M : Type 1} → statement M
 chain-tokens-spec =

@@ -19,7 +19,7 @@ returns : tie.Need-returns
 returns c = short-drawn (c .before .before .is-short .ensures) (c .before .if1 .taken) (c .refused .ensures)
 
 draw-one-requires : tie.Need-draw-one-requires
-draw-one-requires c κs = (c .before .before .if2 .taken, long-slices (c .before .before .before .before .is-short .ensures) (c .before .before .before .if1 .left))
+draw-one-requires c κs = (search needs, (c .before .before .if2 .taken, long-slices (c .before .before .before .before .is-short .ensures) (c .before .before .before .if1 .left)))
 
 same-length-3 : tie.Need-same-length-3
 same-length-3 c = search needs
@@ -34,7 +34,7 @@ are-slight-requires : tie.Need-are-slight-requires
 are-slight-requires c κs = search needs
 
 draw-slight-requires : tie.Need-draw-slight-requires
-draw-slight-requires c κs = (c .before .before .before .are-slight .ensures (c .before .before .if3 .taken), long-slices (c .before .before .before .before .before .before .is-short .ensures) (c .before .before .before .before .before .if1 .left))
+draw-slight-requires c κs = (search needs, (c .before .before .before .are-slight .ensures (c .before .before .if3 .taken), long-slices (c .before .before .before .before .before .before .is-short .ensures) (c .before .before .before .before .before .if1 .left)))
 
 same-length-5 : tie.Need-same-length-5
 same-length-5 c = search needs
@@ -46,7 +46,7 @@ returns-3 : tie.Need-returns-3
 returns-3 c = search needs
 
 draw-long-requires : tie.Need-draw-long-requires
-draw-long-requires c κs = long-slices (c .before .before .before .before .before .before .is-short .ensures) (c .before .before .before .before .before .if1 .left)
+draw-long-requires c κs = (search needs, long-slices (c .before .before .before .before .before .before .is-short .ensures) (c .before .before .before .before .before .if1 .left))
 
 same-length-7 : tie.Need-same-length-7
 same-length-7 c = search needs

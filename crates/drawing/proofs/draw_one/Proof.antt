@@ -1,4 +1,4 @@
-use Rattle.drawing.proofs.Draw.{drawn-one}
+use Rattle.drawing.proofs.Draw.{one-writable, drawn-one}
 use native.Mathlib.Omega.{arith}
 use mathlib.Core.Path.{refl}
 use borrow.Author.Needs.{needs}
@@ -9,7 +9,7 @@ slice-aggregate-build-line : tie.Need-slice-aggregate-build-line
 slice-aggregate-build-line c = search needs
 
 build-line-requires : tie.Need-build-line-requires
-build-line-requires c κs = search needs
+build-line-requires c κs = search one-writable
 
 lists-by-sn-requires : tie.Need-lists-by-sn-requires
 lists-by-sn-requires c κs = search needs
@@ -24,7 +24,7 @@ returns : tie.Need-returns
 returns c =
     let built = c .before .before .before .before .before .before .before .before .before in
     let start = built .before .before .before .before .before .before .before .before .before in
-    drawn-one _ (start .pre .0) (built .build-line .ensures) refl (omega (arith, start .good .0 .1)) (start .pre .1) (c .lists-by-sn .ensures)
+    drawn-one _ (start .pre .1 .0) (built .build-line .ensures) refl (omega (arith, start .good .0 .1)) (start .pre .1 .1) (c .lists-by-sn .ensures)
 
 pub draw-one-spec : {M : Type 1} → statement M
 draw-one-spec =

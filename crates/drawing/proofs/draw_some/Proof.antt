@@ -1,4 +1,4 @@
-use Rattle.drawing.proofs.Draw.{drawn-some}
+use Rattle.drawing.proofs.Draw.{some-writable, drawn-some}
 use native.Mathlib.Omega.{arith}
 use mathlib.Core.Path.{refl}
 use borrow.Author.Needs.{needs}
@@ -9,7 +9,7 @@ slice-aggregate-build-line : tie.Need-slice-aggregate-build-line
 slice-aggregate-build-line c = search needs
 
 build-line-requires : tie.Need-build-line-requires
-build-line-requires c κs = search needs
+build-line-requires c κs = search some-writable
 
 lists-by-sn-requires : tie.Need-lists-by-sn-requires
 lists-by-sn-requires c κs = search needs
@@ -32,7 +32,7 @@ returns c =
     let listed = written .before .before .before .before in
     let built = listed .before .before .before .before .before .before .before .before .before in
     let start = built .before .before .before .before .before .before .before .before .before .before in
-    drawn-some _ (built .build-line .ensures) (start .pre .0) refl (omega (arith, start .good .0 .1)) (start .pre .1) (listed .lists-by-sn .ensures) (written .write-indices .ensures)
+    drawn-some _ (built .build-line .ensures) (start .pre .1 .0) refl (omega (arith, start .good .0 .1)) (start .pre .1 .1) (listed .lists-by-sn .ensures) (written .write-indices .ensures)
 
 pub draw-some-spec : {M : Type 1} → statement M
 draw-some-spec =

@@ -6,9 +6,6 @@ use Rattle.fragment.proofs.build_chain_segment.Tie as tie
 shared-slice-read-bond : tie.Need-shared-slice-read-bond
 shared-slice-read-bond c = search needs
 
-in-labels-requires : tie.Need-in-labels-requires
-in-labels-requires c κs = search needs
-
 groups-part-requires : tie.Need-groups-part-requires
 groups-part-requires c κs = search needs
 
@@ -17,9 +14,8 @@ rings-part-requires c κs = search needs
 
 assemble-range-requires : tie.Need-assemble-range-requires
 assemble-range-requires c κs =
-    let label = c .before .before .before in
-    let start = label .before .before .before .before .before .before in
-    range-ready _ _ _ _ _ _ _ (start .pre) (c .before .groups-part .ensures) (c .rings-part .ensures) (label .in-labels .ensures)
+    let start = c .before .before .before .before .before .before .before .before in
+    range-ready _ _ _ _ _ _ _ (start .pre .1 .1) (c .before .groups-part .ensures) (c .rings-part .ensures) (start .pre .1 .0)
 
 put-flexible-requires : tie.Need-put-flexible-requires
 put-flexible-requires c κs = search needs
@@ -38,7 +34,6 @@ build-chain-segment-spec =
     tie.close
     (tie.spec
     shared-slice-read-bond
-    in-labels-requires
     groups-part-requires
     rings-part-requires
     assemble-range-requires

@@ -42,15 +42,15 @@ sub-rest c =
     let groups = c .before .before .before .before in
     let one = groups .before .before .before .before .before .before in
     let start = one .before .before .before .before .before .before in
-    carbon-within _ _ _ (start .pre .0) (one .before .before .carbonyl-atoms .ensures) (groups .before .groups-part .ensures) (start .pre .1 .1 .0) (start .pre .1 .1 .1) (start .good .0 .0) (one .put-one .ensures) _ (groups .number-groups .ensures)
+    carbon-within _ _ _ (start .pre .1 .0) (one .before .before .carbonyl-atoms .ensures) (groups .before .groups-part .ensures) (start .pre .1 .1 .1 .0) (start .pre .1 .1 .1 .1) (start .good .0 .0) (one .put-one .ensures) _ (groups .number-groups .ensures)
 
 fill-requires : tie.Need-fill-requires
 fill-requires c κs =
     let groups = c .before .before .before .before .before in
     let one = groups .before .before .before .before .before .before in
     let start = one .before .before .before .before .before .before in (
-      rest-room _ _ _ (start .pre .0) (one .before .before .carbonyl-atoms .ensures) (groups .before .groups-part .ensures) (start .pre .1 .1 .0) (start .pre .1 .1 .1) (start .good .0 .0) (one .put-one .ensures) _ (groups .number-groups .ensures),
-      rest-small _ _ _ (start .pre .0) (one .before .before .carbonyl-atoms .ensures) (groups .before .groups-part .ensures) (start .pre .1 .1 .0) (start .pre .1 .1 .1) (start .good .0 .0) (one .put-one .ensures) _ (groups .number-groups .ensures),
+      rest-room _ _ _ (start .pre .1 .0) (one .before .before .carbonyl-atoms .ensures) (groups .before .groups-part .ensures) (start .pre .1 .1 .1 .0) (start .pre .1 .1 .1 .1) (start .good .0 .0) (one .put-one .ensures) _ (groups .number-groups .ensures),
+      rest-small _ _ _ (start .pre .1 .0) (one .before .before .carbonyl-atoms .ensures) (groups .before .groups-part .ensures) (start .pre .1 .1 .1 .0) (start .pre .1 .1 .1 .1) (start .good .0 .0) (one .put-one .ensures) _ (groups .number-groups .ensures),
     )
 
 cast-next : tie.Need-cast-next
@@ -61,20 +61,20 @@ add-next c =
     let groups = c .before .before .before .before .before .before .before .before .before in
     let one = groups .before .before .before .before .before .before in
     let start = one .before .before .before .before .before .before in
-    record { fits = rest-small _ _ _ (start .pre .0) (one .before .before .carbonyl-atoms .ensures) (groups .before .groups-part .ensures) (start .pre .1 .1 .0) (start .pre .1 .1 .1) (start .good .0 .0) (one .put-one .ensures) _ (groups .number-groups .ensures) }
+    record { fits = rest-small _ _ _ (start .pre .1 .0) (one .before .before .carbonyl-atoms .ensures) (groups .before .groups-part .ensures) (start .pre .1 .1 .1 .0) (start .pre .1 .1 .1 .1) (start .good .0 .0) (one .put-one .ensures) _ (groups .number-groups .ensures) }
 
 sub-next : tie.Need-sub-next
 sub-next c =
     let groups = c .before .before .before .before .before .before .before .before .before in
     let one = groups .before .before .before .before .before .before in
     let start = one .before .before .before .before .before .before in
-    rest-grows _ _ _ (start .pre .0) (one .before .before .carbonyl-atoms .ensures) (groups .before .groups-part .ensures) (start .pre .1 .1 .0) (start .pre .1 .1 .1) (start .good .0 .0) (one .put-one .ensures) _ (groups .number-groups .ensures)
+    rest-grows _ _ _ (start .pre .1 .0) (one .before .before .carbonyl-atoms .ensures) (groups .before .groups-part .ensures) (start .pre .1 .1 .1 .0) (start .pre .1 .1 .1 .1) (start .good .0 .0) (one .put-one .ensures) _ (groups .number-groups .ensures)
 
 sub-t18 : tie.Need-sub-t18
-sub-t18 c = chain-some _ _ (c .before .before .before .before .before .before .before .before .before .before .before .before .before .before .before .before .before .before .before .before .before .before .pre .0)
+sub-t18 c = chain-some _ _ (c .before .before .before .before .before .before .before .before .before .before .before .before .before .before .before .before .before .before .before .before .before .before .pre .1 .0)
 
 add-t19 : tie.Need-add-t19
-add-t19 c = record { fits = omega (arith, chain-room _ _ (c .before .before .before .before .before .before .before .before .before .before .before .before .before .before .before .before .before .before .before .before .before .before .pre .0)) }
+add-t19 c = record { fits = omega (arith, chain-room _ _ (c .before .before .before .before .before .before .before .before .before .before .before .before .before .before .before .before .before .before .before .before .before .before .pre .1 .0)) }
 
 same-length : tie.Need-same-length
 same-length c = search needs
@@ -84,7 +84,7 @@ returns c =
     let groups = c .before .before .before .before .before .before .before .before .before .before in
     let one = groups .before .before .before .before .before .before in
     let start = one .before .before .before .before .before .before in
-    grouped-numbered _ _ _ (start .pre .0) (one .before .before .carbonyl-atoms .ensures) (groups .before .groups-part .ensures) (start .pre .1 .1 .0) (start .pre .1 .1 .1) (start .good .0 .0) (one .put-one .ensures) _ (groups .number-groups .ensures) (start .pre .1 .0) (c .before .before .before .before .fill .ensures) (omega arith)
+    grouped-numbered _ _ _ (start .pre .1 .0) (one .before .before .carbonyl-atoms .ensures) (groups .before .groups-part .ensures) (start .pre .1 .1 .1 .0) (start .pre .1 .1 .1 .1) (start .good .0 .0) (one .put-one .ensures) _ (groups .number-groups .ensures) (start .pre .1 .1 .0) (c .before .before .before .before .fill .ensures) (omega arith)
 
 pub number-grouped-spec : {M : Type 1} → statement M
 number-grouped-spec =

@@ -33,14 +33,16 @@ put-doubles-requires c κs =
     let second = c .before .before .before .before .before .before in
     let first = second .before .before .before .before in
     let start = first .before .before .before .before .before .before .before .before in
-    let room = plain-room _ _ (start .pre .0) _ _ (start .pre .1 .1) (first .put-carbon .ensures) (second .put-carbonyl .ensures) in
+    let room = plain-room _ _ (start .pre .1 .0) _ _ (start .pre .1 .1 .1) (first .put-carbon .ensures) (second .put-carbonyl .ensures) in
     (omega arith, omega arith, omega arith, omega arith, room)
 
 same-length : tie.Need-same-length
 same-length c = search needs
 
 returns : tie.Need-returns
-returns c = search plain-done
+returns c =
+    let start = c .before .before .before .before .before .before .before .before .before .before .before .before .before .before .before .before .before .before .before .before .before in
+    search (plain-done, start .pre .1 .0, start .pre .1 .1 .0)
 
 groups-part-requires : tie.Need-groups-part-requires
 groups-part-requires c κs = search needs
@@ -53,15 +55,17 @@ put-stretches-requires c κs =
     let second = c .before .before .before .before .before .before in
     let first = second .before .before .before .before in
     let start = first .before .before .before .before .before .before .before .before in
-    let rising = grouped-rising _ _ (start .pre .0) (c .groups-part .ensures) in
-    let room = grouped-room _ _ (start .pre .0) (c .groups-part .ensures) _ _ (start .pre .1 .1) (first .put-carbon .ensures) (second .put-carbonyl .ensures) in
+    let rising = grouped-rising _ _ (start .pre .1 .0) (c .groups-part .ensures) in
+    let room = grouped-room _ _ (start .pre .1 .0) (c .groups-part .ensures) _ _ (start .pre .1 .1 .1) (first .put-carbon .ensures) (second .put-carbonyl .ensures) in
     (rising, ((omega arith, omega arith, omega arith, omega arith), room))
 
 same-length-2 : tie.Need-same-length-2
 same-length-2 c = search needs
 
 returns-2 : tie.Need-returns-2
-returns-2 c = search grouped-done
+returns-2 c =
+    let start = c .before .before .before .before .before .before .before .before .before .before .before .before .before .before .before .before .before .before .before .before .before in
+    search (grouped-done, start .pre .1 .0, start .pre .1 .1 .0)
 
 pub build-grouped-spec : {M : Type 1} → statement M
 build-grouped-spec =

@@ -12,17 +12,11 @@ enum-known-known c = search needs
 enum-told : tie.Need-enum-told
 enum-told c = search needs
 
-refused-requires : tie.Need-refused-requires
-refused-requires c κs = search needs
-
 returns : tie.Need-returns
 returns c = search class-unknown
 
 wrong-count-requires : tie.Need-wrong-count-requires
 wrong-count-requires c κs = search needs
-
-refused-requires-2 : tie.Need-refused-requires-2
-refused-requires-2 c κs = search needs
 
 returns-2 : tie.Need-returns-2
 returns-2 c = search class-count
@@ -43,10 +37,8 @@ judge-spec =
     class-of-requires
     enum-known-known
     enum-told
-    refused-requires
     returns
     wrong-count-requires
-    refused-requires-2
     returns-2
     judge-tokens-requires
     same-length

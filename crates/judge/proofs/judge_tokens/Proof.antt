@@ -7,7 +7,7 @@ use Rattle.token.specs.Request.{tokensOf}
 use Rattle.drawable.specs.Chains.{itemsOf}
 use Rattle.shapes.specs.Shapes.{shapesIn}
 use Rattle.judge.proofs.Laws.{Met, met-first, met-next, met-clear}
-use Rattle.judge.proofs.Judging.{tokens-judged}
+use Rattle.judge.proofs.Judging.{token-refused, tokens-judged}
 use borrow.Author.Needs.{needs}
 use Rattle.judge.proofs.judge_tokens.Statement.{statement}
 use Rattle.judge.proofs.judge_tokens.Tie as tie
@@ -45,11 +45,23 @@ part-look-end c = search needs
 look-requires : tie.Need-look-requires Inv-loop μ-loop
 look-requires c κs = search needs
 
+add-place : tie.Need-add-place Inv-loop μ-loop
+add-place c = search needs
+
+enum-known-seen : tie.Need-enum-known-seen Inv-loop μ-loop
+enum-known-seen c = search needs
+
+same-length : tie.Need-same-length Inv-loop μ-loop
+same-length c = search needs
+
+returns : tie.Need-returns Inv-loop μ-loop
+returns c = search token-refused
+
+enum-known-seen-2 : tie.Need-enum-known-seen-2 Inv-loop μ-loop
+enum-known-seen-2 c = search needs
+
 keep-shape-requires : tie.Need-keep-shape-requires Inv-loop μ-loop
 keep-shape-requires c κs = search needs
-
-add-i : tie.Need-add-i Inv-loop μ-loop
-add-i c = search needs
 
 nothing-due-requires : tie.Need-nothing-due-requires Inv-loop μ-loop
 nothing-due-requires c κs = search needs
@@ -58,8 +70,7 @@ loop-less : tie.Need-loop-less Inv-loop μ-loop
 loop-less c = search needs
 
 loop-again : tie.Need-loop-again Inv-loop μ-loop
-loop-again c =
-    (met-clear _ _ _ _ _ _ _ _ _ _ _ _ _ _ (c .before .before .before .before .before .before .before .before .before .before .before .loop .inv .3) (c .before .before .before .before .before .before .before .before .before .before .loop-test .taken) (c .before .before .before .before .before .before .before .before .before .before .before .loop .inv .2) (c .before .before .before .before .before .lists .given .0) (c .before .before .before .before .before .before .look .ensures) (c .before .nothing-due .ensures) (c .if1 .taken) (c .before .before .keep-shape .ensures) (c .before .before .before .before .before .before .before .before .before .before .before .loop .inv .0), omega arith, search needs, search needs, search needs)
+loop-again c = (search met-clear, omega arith, search needs, search needs, search needs)
 
 join-requires : tie.Need-join-requires Inv-loop μ-loop
 join-requires c κs = search needs
@@ -68,8 +79,7 @@ loop-less-2 : tie.Need-loop-less-2 Inv-loop μ-loop
 loop-less-2 c = search needs
 
 loop-again-2 : tie.Need-loop-again-2 Inv-loop μ-loop
-loop-again-2 c =
-    (met-next _ _ _ _ _ _ _ _ _ _ _ _ _ _ (c .before .before .before .before .before .before .before .before .before .before .before .before .loop .inv .3) (c .before .before .before .before .before .before .before .before .before .before .before .loop-test .taken) (c .before .before .before .before .before .before .before .before .before .before .before .before .loop .inv .2) (c .before .before .before .before .before .before .lists .given .0) (c .before .before .before .before .before .before .before .look .ensures) (c .join .ensures) (c .before .before .before .keep-shape .ensures) (c .before .before .before .before .before .before .before .before .before .before .before .before .loop .inv .0), omega arith, search needs, search needs, search needs)
+loop-again-2 c = (search met-next, omega arith, search needs, search needs, search needs)
 
 tail-atoms-requires : tie.Need-tail-atoms-requires Inv-loop μ-loop
 tail-atoms-requires c κs = search needs
@@ -80,11 +90,14 @@ wrong-tail-requires c κs = search needs
 due-requires : tie.Need-due-requires Inv-loop μ-loop
 due-requires c κs = search needs
 
-same-length : tie.Need-same-length Inv-loop μ-loop
-same-length c = search needs
+or-drawable-requires : tie.Need-or-drawable-requires Inv-loop μ-loop
+or-drawable-requires c κs = search needs
 
-returns : tie.Need-returns Inv-loop μ-loop
-returns c = search tokens-judged
+same-length-2 : tie.Need-same-length-2 Inv-loop μ-loop
+same-length-2 c = search needs
+
+returns-2 : tie.Need-returns-2 Inv-loop μ-loop
+returns-2 c = search tokens-judged
 
 pub judge-tokens-spec : {M : Type 1} → statement M
 judge-tokens-spec =
@@ -101,8 +114,12 @@ judge-tokens-spec =
     part-look-start
     part-look-end
     look-requires
+    add-place
+    enum-known-seen
+    same-length
+    returns
+    enum-known-seen-2
     keep-shape-requires
-    add-i
     nothing-due-requires
     loop-less
     loop-again
@@ -112,5 +129,6 @@ judge-tokens-spec =
     tail-atoms-requires
     wrong-tail-requires
     due-requires
-    same-length
-    returns)
+    or-drawable-requires
+    same-length-2
+    returns-2)

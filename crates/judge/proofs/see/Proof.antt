@@ -1,5 +1,6 @@
 use native.Mathlib.Omega.{arith}
-use Rattle.judge.proofs.Laws.{looked}
+use Rattle.fitted.proofs.Drawing.{fits-some}
+use Rattle.judge.proofs.Laws.{looked-refused, looked}
 use borrow.Author.Needs.{needs}
 use Rattle.judge.proofs.see.Statement.{statement}
 use Rattle.judge.proofs.see.Tie as tie
@@ -16,6 +17,12 @@ part-parse-token-end c = search needs
 parse-token-requires : tie.Need-parse-token-requires
 parse-token-requires c κs = search needs
 
+enum-known-read : tie.Need-enum-known-read
+enum-known-read c = search needs
+
+enum-known-read-2 : tie.Need-enum-known-read-2
+enum-known-read-2 c = search needs
+
 drawn-as-requires : tie.Need-drawn-as-requires
 drawn-as-requires c κs = search needs
 
@@ -23,26 +30,29 @@ kind-refusal-requires : tie.Need-kind-refusal-requires
 kind-refusal-requires c κs = search needs
 
 place-refusal-requires : tie.Need-place-refusal-requires
-place-refusal-requires c κs = search needs
+place-refusal-requires c κs = fits-some (c .before .before .before .before .drawn-as .ensures)
 
 draw-refusal-requires : tie.Need-draw-refusal-requires
-draw-refusal-requires c κs = search needs
+draw-refusal-requires c κs = fits-some (c .before .before .before .before .before .before .drawn-as .ensures)
 
 same-length : tie.Need-same-length
 same-length c = search needs
 
 returns : tie.Need-returns
 returns c =
-    looked _ _ _ _ _ _ (c .before .before .before .before .before .before .before .before .before .before .before .before .before .before .before .before .before .before .before .before .before .before .args .part .now) _ _ _ _ _ _ _
-    (c .before .before .before .before .before .before .before .before .before .before .before .before .before .before .before .before .before .before .before .before .before .before .pre)
-    (c .before .before .before .before .before .before .before .before .before .before .before .before .before .before .before .part .given .0)
-    (omega (arith, c .before .before .before .before .before .before .before .before .before .before .before .before .before .before .before .before .before .before .before .parse-token-arg .given))
-    (omega (arith, c .before .before .before .before .before .before .before .before .before .before .before .before .before .before .before .before .before .before .parse-token-arg2 .given))
-    (c .before .before .before .before .before .before .before .before .before .before .before .before .before .before .before .before .parse-token .ensures)
-    (c .before .before .before .before .before .before .before .drawn-as .ensures)
-    (c .before .before .before .before .kind-refusal .ensures)
-    (c .before .before .place-refusal .ensures)
-    (c .draw-refusal .ensures)
+    let token = c .before .before .before .before .before in
+    let start = token .before .before .before .before .before .before in
+    looked-refused _ _ _ _ _ _ (start .args .part .now) _ _ (start .pre) (omega (arith, token .before .before .before .parse-token-arg .given)) (omega (arith, token .before .before .parse-token-arg2 .given)) (token .parse-token .ensures) _ _ (search needs)
+
+same-length-2 : tie.Need-same-length-2
+same-length-2 c = search needs
+
+returns-2 : tie.Need-returns-2
+returns-2 c =
+    let token = c .before .before .before .before .before .before .before .before .before .before .before .before .before .before .before .before .before .before .before in
+    let start = token .before .before .before .before .before .before in
+    looked _ _ _ _ _ _ (start .args .part .now) _ _ (start .pre) (omega (arith, token .before .before .before .parse-token-arg .given)) (omega (arith, token .before .before .parse-token-arg2 .given)) (token .parse-token .ensures) (c .before .before .before .before .before .before .before .before .before .before .before .before .before .before .before .read2 .given .0 .0) _ _ _ _ _
+    (c .before .before .before .before .before .before .before .before .before .before .before .before .before .before .before .before .before .before .part .given .0) (c .before .before .before .before .before .before .before .before .before .before .before .before .before .before .before .read2 .given .1) (c .before .before .before .before .before .before .before .drawn-as .ensures) (c .before .before .before .before .kind-refusal .ensures) (c .before .before .place-refusal .ensures) (c .draw-refusal .ensures)
 
 pub see-spec : {M : Type 1} → statement M
 see-spec =
@@ -52,9 +62,13 @@ see-spec =
     part-parse-token-start
     part-parse-token-end
     parse-token-requires
+    enum-known-read
+    enum-known-read-2
     drawn-as-requires
     kind-refusal-requires
     place-refusal-requires
     draw-refusal-requires
     same-length
-    returns)
+    returns
+    same-length-2
+    returns-2)

@@ -1,10 +1,10 @@
 use borrow.Author.Needs.{needs}
-use Rattle.lines.proofs.Following.{line-built}
+use Rattle.lines.proofs.Following.{few-sites, line-classed, line-built}
 use Rattle.lines.proofs.build_line.Statement.{statement}
 use Rattle.lines.proofs.build_line.Tie as tie
 
 class-smiles-requires : tie.Need-class-smiles-requires
-class-smiles-requires c κs = search needs
+class-smiles-requires c κs = search line-classed
 
 by-sn-requires : tie.Need-by-sn-requires
 by-sn-requires c κs = search needs
@@ -13,7 +13,7 @@ sites-by-sn-requires : tie.Need-sites-by-sn-requires
 sites-by-sn-requires c κs = search needs
 
 finish-requires : tie.Need-finish-requires
-finish-requires c κs = search needs
+finish-requires c κs = search few-sites
 
 same-length : tie.Need-same-length
 same-length c = search needs

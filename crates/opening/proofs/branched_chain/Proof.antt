@@ -6,9 +6,6 @@ use Rattle.opening.proofs.branched_chain.Tie as tie
 add-if1 : tie.Need-add-if1
 add-if1 c = search needs
 
-refused-requires : tie.Need-refused-requires
-refused-requires c κs = search needs
-
 returns : tie.Need-returns
 returns c = search too-few
 
@@ -35,7 +32,6 @@ branched-chain-spec =
     tie.close
     (tie.spec
     add-if1
-    refused-requires
     returns
     sub-carbon
     sub-t8

@@ -12,17 +12,11 @@ enum-known-n c = search needs
 enum-told : tie.Need-enum-told
 enum-told c = search needs
 
-refused-requires : tie.Need-refused-requires
-refused-requires c κs = search needs
-
 returns : tie.Need-returns
 returns c = search carbons-unreadable
 
 cast-if1 : tie.Need-cast-if1
 cast-if1 c = search needs
-
-refused-requires-2 : tie.Need-refused-requires-2
-refused-requires-2 c κs = search needs
 
 returns-2 : tie.Need-returns-2
 returns-2 c = search carbons-over
@@ -46,10 +40,8 @@ parse-carbons-spec =
     read-number-requires
     enum-known-n
     enum-told
-    refused-requires
     returns
     cast-if1
-    refused-requires-2
     returns-2
     cast-start-chain
     start-chain-requires

@@ -24,9 +24,6 @@ enum-known-n c = search needs
 enum-told : tie.Need-enum-told
 enum-told c = search needs
 
-unreadable-requires : tie.Need-unreadable-requires
-unreadable-requires c κs = search needs
-
 returns : tie.Need-returns
 returns c = search bonds-unreadable
 
@@ -74,7 +71,6 @@ parse-ring-bond-count-spec =
     ring-count-requires
     enum-known-n
     enum-told
-    unreadable-requires
     returns
     push-ring-requires
     same-length

@@ -6,9 +6,6 @@ use Rattle.ring.proofs.parse_ring_list.Tie as tie
 position-count-requires : tie.Need-position-count-requires
 position-count-requires c κs = search needs
 
-unreadable-requires : tie.Need-unreadable-requires
-unreadable-requires c κs = search needs
-
 returns : tie.Need-returns
 returns c = search list-many
 
@@ -21,14 +18,20 @@ cast-parse-ring-bonds-2 c = search needs
 parse-ring-bonds-requires : tie.Need-parse-ring-bonds-requires
 parse-ring-bonds-requires c κs = search needs
 
+enum-known-listed : tie.Need-enum-known-listed
+enum-known-listed c = search needs
+
+enum-known-listed-2 : tie.Need-enum-known-listed-2
+enum-known-listed-2 c = search needs
+
+push-ring-requires : tie.Need-push-ring-requires
+push-ring-requires c κs = search needs
+
 same-length : tie.Need-same-length
 same-length c = search needs
 
 returns-2 : tie.Need-returns-2
 returns-2 c = search list-refused
-
-push-ring-requires : tie.Need-push-ring-requires
-push-ring-requires c κs = search needs
 
 same-length-2 : tie.Need-same-length-2
 same-length-2 c = search needs
@@ -44,14 +47,15 @@ parse-ring-list-spec =
     tie.close
     (tie.spec
     position-count-requires
-    unreadable-requires
     returns
     cast-parse-ring-bonds
     cast-parse-ring-bonds-2
     parse-ring-bonds-requires
+    enum-known-listed
+    enum-known-listed-2
+    push-ring-requires
     same-length
     returns-2
-    push-ring-requires
     same-length-2
     same-length-3
     returns-3)

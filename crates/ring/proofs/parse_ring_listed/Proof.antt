@@ -7,9 +7,6 @@ use Rattle.ring.proofs.parse_ring_listed.Tie as tie
 ends-in-parenthesis-requires : tie.Need-ends-in-parenthesis-requires
 ends-in-parenthesis-requires c κs = search needs
 
-unreadable-requires : tie.Need-unreadable-requires
-unreadable-requires c κs = search needs
-
 returns : tie.Need-returns
 returns c = search ring-open
 
@@ -42,7 +39,6 @@ parse-ring-listed-spec =
     tie.close
     (tie.spec
     ends-in-parenthesis-requires
-    unreadable-requires
     returns
     sub-parse-ring-list
     sub-parse-ring-list-2

@@ -21,9 +21,6 @@ enum-known-start c = search needs
 enum-told : tie.Need-enum-told
 enum-told c = search needs
 
-unreadable-requires : tie.Need-unreadable-requires
-unreadable-requires c κs = search needs
-
 returns : tie.Need-returns
 returns c = search start-unreadable
 
@@ -47,9 +44,6 @@ enum-known-end c = search needs
 
 enum-told-2 : tie.Need-enum-told-2
 enum-told-2 c = search needs
-
-unreadable-requires-2 : tie.Need-unreadable-requires-2
-unreadable-requires-2 c κs = search needs
 
 returns-2 : tie.Need-returns-2
 returns-2 c = search end-unreadable
@@ -88,7 +82,6 @@ parse-ring-segment-spec =
     trimmed-number-requires
     enum-known-start
     enum-told
-    unreadable-requires
     returns
     add-trimmed-number
     sub-trimmed-number-2
@@ -97,7 +90,6 @@ parse-ring-segment-spec =
     trimmed-number-requires-2
     enum-known-end
     enum-told-2
-    unreadable-requires-2
     returns-2
     add-parse-ring-size
     sub-parse-ring-size

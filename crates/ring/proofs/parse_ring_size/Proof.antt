@@ -24,9 +24,6 @@ enum-known-size c = search needs
 enum-told : tie.Need-enum-told
 enum-told c = search needs
 
-unreadable-requires : tie.Need-unreadable-requires
-unreadable-requires c κs = search needs
-
 returns : tie.Need-returns
 returns c = search size-unreadable
 
@@ -35,9 +32,6 @@ ring-of-requires c κs = search needs
 
 enum-known-ring : tie.Need-enum-known-ring
 enum-known-ring c = search needs
-
-unreadable-requires-2 : tie.Need-unreadable-requires-2
-unreadable-requires-2 c κs = search needs
 
 returns-2 : tie.Need-returns-2
 returns-2 c = search size-wrong
@@ -68,11 +62,9 @@ parse-ring-size-spec =
     trimmed-number-requires
     enum-known-size
     enum-told
-    unreadable-requires
     returns
     ring-of-requires
     enum-known-ring
-    unreadable-requires-2
     returns-2
     after-place-requires
     parse-ring-bond-count-requires

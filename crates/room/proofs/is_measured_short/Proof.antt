@@ -1,6 +1,6 @@
 use native.Mathlib.Omega.{arith}
 use mathlib.Core.Path.{refl}
-use Rattle.room.proofs.Laws.{short-line, short-index}
+use Rattle.room.proofs.Laws.{readied-writable, short-line, short-index}
 use borrow.Author.Needs.{needs}
 use Rattle.room.proofs.is_measured_short.Statement.{statement}
 use Rattle.room.proofs.is_measured_short.Tie as tie
@@ -15,7 +15,7 @@ slice-aggregate-build-line-3 : tie.Need-slice-aggregate-build-line-3
 slice-aggregate-build-line-3 c = search needs
 
 build-line-requires : tie.Need-build-line-requires
-build-line-requires c κs = search needs
+build-line-requires c κs = search readied-writable
 
 returns : tie.Need-returns
 returns c = short-line (c .before .before .before .before .before .build-line .ensures) refl refl (c .if1 .taken)

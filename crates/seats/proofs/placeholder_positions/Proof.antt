@@ -1,4 +1,4 @@
-use Rattle.seats.proofs.Laws.{seats-none, seats-short, seats-large, seats-row, seats-found, first-low, marked-room}
+use Rattle.seats.proofs.Laws.{seats-none, seats-short, seats-row, seats-found, first-low, marked-room}
 use borrow.Author.Needs.{needs}
 use Rattle.seats.proofs.placeholder_positions.Statement.{statement}
 use Rattle.seats.proofs.placeholder_positions.Tie as tie
@@ -9,14 +9,11 @@ returns c = search seats-none
 returns-2 : tie.Need-returns-2
 returns-2 c = search seats-short
 
-returns-3 : tie.Need-returns-3
-returns-3 c = search seats-large
-
 seats-in-row-requires : tie.Need-seats-in-row-requires
 seats-in-row-requires c κs = search needs
 
-returns-4 : tie.Need-returns-4
-returns-4 c = search seats-row
+returns-3 : tie.Need-returns-3
+returns-3 c = search seats-row
 
 no-marks-requires : tie.Need-no-marks-requires
 no-marks-requires c κs = search needs
@@ -36,8 +33,8 @@ slice-aggregate-take-seats c = search needs
 take-seats-requires : tie.Need-take-seats-requires
 take-seats-requires c κs = (search first-low, search needs, search needs, search marked-room)
 
-returns-5 : tie.Need-returns-5
-returns-5 c = search seats-found
+returns-4 : tie.Need-returns-4
+returns-4 c = search seats-found
 
 pub placeholder-positions-spec : {M : Type 1} → statement M
 placeholder-positions-spec =
@@ -45,13 +42,12 @@ placeholder-positions-spec =
     (tie.spec
     returns
     returns-2
-    returns-3
     seats-in-row-requires
-    returns-4
+    returns-3
     no-marks-requires
     slice-aggregate-mark-listed
     mark-listed-requires
     first-start-requires
     slice-aggregate-take-seats
     take-seats-requires
-    returns-5)
+    returns-4)

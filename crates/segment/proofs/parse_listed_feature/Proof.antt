@@ -18,9 +18,6 @@ parse-plain-position-list-requires-2 c κs = search needs
 enum-told-3 : tie.Need-enum-told-3
 enum-told-3 c = search needs
 
-unreadable-requires : tie.Need-unreadable-requires
-unreadable-requires c κs = search needs
-
 same-length : tie.Need-same-length
 same-length c = search needs
 
@@ -51,7 +48,6 @@ parse-listed-feature-spec =
     enum-told-2
     parse-plain-position-list-requires-2
     enum-told-3
-    unreadable-requires
     same-length
     same-length-2
     returns

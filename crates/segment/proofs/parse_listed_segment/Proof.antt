@@ -7,9 +7,6 @@ use Rattle.segment.proofs.parse_listed_segment.Tie as tie
 ends-in-parenthesis-requires : tie.Need-ends-in-parenthesis-requires
 ends-in-parenthesis-requires c κs = search needs
 
-unreadable-requires : tie.Need-unreadable-requires
-unreadable-requires c κs = search needs
-
 returns : tie.Need-returns
 returns c = search listed-open
 
@@ -45,7 +42,6 @@ parse-listed-segment-spec =
     tie.close
     (tie.spec
     ends-in-parenthesis-requires
-    unreadable-requires
     returns
     feature-of-requires
     sub-parse-listed-feature

@@ -40,6 +40,12 @@ read-part-requires c κs = search needs
 add-segment-requires : tie.Need-add-segment-requires Inv-loop μ-loop
 add-segment-requires c κs = search needs
 
+enum-known-read : tie.Need-enum-known-read Inv-loop μ-loop
+enum-known-read c = search needs
+
+enum-told : tie.Need-enum-told Inv-loop μ-loop
+enum-told c = search needs
+
 same-length : tie.Need-same-length Inv-loop μ-loop
 same-length c = search needs
 
@@ -89,6 +95,8 @@ parse-parts-spec =
     part-read-part-end
     read-part-requires
     add-segment-requires
+    enum-known-read
+    enum-told
     same-length
     same-length-2
     returns

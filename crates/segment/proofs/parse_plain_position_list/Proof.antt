@@ -6,8 +6,9 @@ use lib.ListN.{length}
 use Rattle.form.specs.Parts.{partsAt}
 use Rattle.parsed.specs.Parsed.{gather, unbondedAs, on}
 use Rattle.positions.specs.Each.{each}
-use Rattle.positions.proofs.Each.{Onward, each-none, each-start, each-stop, each-last, each-more}
+use Rattle.positions.proofs.Each.{Onward, each-none, each-start}
 use Rattle.segment.specs.Segment.{listedAt, plainList}
+use Rattle.segment.proofs.Laws.{turn-stop, turn-last, turn-more}
 use borrow.Author.Needs.{needs}
 use Rattle.segment.proofs.parse_plain_position_list.Statement.{statement}
 use Rattle.segment.proofs.parse_plain_position_list.Tie as tie
@@ -41,6 +42,12 @@ part-parse-plain-position-end c = search needs
 parse-plain-position-requires : tie.Need-parse-plain-position-requires Inv-loop μ-loop
 parse-plain-position-requires c κs = search needs
 
+enum-known-read : tie.Need-enum-known-read Inv-loop μ-loop
+enum-known-read c = search needs
+
+enum-told : tie.Need-enum-told Inv-loop μ-loop
+enum-told c = search needs
+
 same-length : tie.Need-same-length Inv-loop μ-loop
 same-length c = search needs
 
@@ -48,7 +55,7 @@ same-length-2 : tie.Need-same-length-2 Inv-loop μ-loop
 same-length-2 c = search needs
 
 returns-2 : tie.Need-returns-2 Inv-loop μ-loop
-returns-2 c = search each-stop
+returns-2 c = search turn-stop
 
 same-length-3 : tie.Need-same-length-3 Inv-loop μ-loop
 same-length-3 c = search needs
@@ -57,7 +64,7 @@ same-length-4 : tie.Need-same-length-4 Inv-loop μ-loop
 same-length-4 c = search needs
 
 returns-3 : tie.Need-returns-3 Inv-loop μ-loop
-returns-3 c = search each-last
+returns-3 c = search turn-last
 
 add-t : tie.Need-add-t Inv-loop μ-loop
 add-t c = search needs
@@ -75,7 +82,7 @@ loop-less : tie.Need-loop-less Inv-loop μ-loop
 loop-less c = search needs
 
 loop-again : tie.Need-loop-again Inv-loop μ-loop
-loop-again c = (search each-more, search needs, search needs, search needs)
+loop-again c = (search turn-more, search needs, search needs, search needs)
 
 pub parse-plain-position-list-spec : {M : Type 1} → statement M
 parse-plain-position-list-spec =
@@ -90,6 +97,8 @@ parse-plain-position-list-spec =
     part-parse-plain-position-start
     part-parse-plain-position-end
     parse-plain-position-requires
+    enum-known-read
+    enum-told
     same-length
     same-length-2
     returns-2

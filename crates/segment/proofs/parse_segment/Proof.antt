@@ -12,6 +12,12 @@ returns c = search segment-empty
 parse-modification-segment-requires : tie.Need-parse-modification-segment-requires
 parse-modification-segment-requires c κs = search needs
 
+enum-known-read : tie.Need-enum-known-read
+enum-known-read c = search needs
+
+enum-told : tie.Need-enum-told
+enum-told c = search needs
+
 same-length : tie.Need-same-length
 same-length c = search needs
 
@@ -46,6 +52,8 @@ parse-segment-spec =
     segment-text-requires
     returns
     parse-modification-segment-requires
+    enum-known-read
+    enum-told
     same-length
     same-length-2
     same-length-3

@@ -38,6 +38,12 @@ part-parse-segment-end c = search part-within
 parse-segment-requires : tie.Need-parse-segment-requires Inv-loop μ-loop
 parse-segment-requires c κs = search needs
 
+enum-known-read : tie.Need-enum-known-read Inv-loop μ-loop
+enum-known-read c = search needs
+
+enum-told : tie.Need-enum-told Inv-loop μ-loop
+enum-told c = search needs
+
 same-length : tie.Need-same-length Inv-loop μ-loop
 same-length c = search needs
 
@@ -80,6 +86,8 @@ parse-segments-spec =
     part-parse-segment-start
     part-parse-segment-end
     parse-segment-requires
+    enum-known-read
+    enum-told
     same-length
     same-length-2
     same-length-3

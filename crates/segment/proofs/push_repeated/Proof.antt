@@ -19,4 +19,5 @@ returns-3 : tie.Need-returns-3
 returns-3 c = search many-fit
 
 pub push-repeated-spec : {M : Type 1} → statement M
-push-repeated-spec = tie.close (tie.spec returns returns-2 push-copies-requires same-length returns-3)
+push-repeated-spec =
+    tie.close (tie.spec returns returns-2 push-copies-requires same-length returns-3)

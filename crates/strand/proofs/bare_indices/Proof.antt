@@ -10,7 +10,7 @@ put-heads-requires : tie.Need-put-heads-requires
 put-heads-requires c κs = search needs
 
 number-bare-requires : tie.Need-number-bare-requires
-number-bare-requires c κs = search needs
+number-bare-requires c κs = (search needs, (search needs, (search needs, search needs)))
 
 add-count : tie.Need-add-count
 add-count c = search needs

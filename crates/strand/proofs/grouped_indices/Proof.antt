@@ -13,7 +13,7 @@ number-grouped-requires : tie.Need-number-grouped-requires
 number-grouped-requires c κs =
     let heads = c .before .before .before in
     let start = heads .before .before .before .before .before .before in
-    (start .pre .0, (start .pre .1 .0, (grouped-heads _ (heads .before .before .head-count .ensures) (start .pre .1 .1 .0) (heads .put-heads .ensures), start .pre .1 .1 .1)))
+    (start .pre .0, (start .pre .1 .0, (start .pre .1 .1 .0, (grouped-heads _ (heads .before .before .head-count .ensures) (start .pre .1 .1 .1 .0) (heads .put-heads .ensures), start .pre .1 .1 .1 .1))))
 
 add-count : tie.Need-add-count
 add-count c = search needs

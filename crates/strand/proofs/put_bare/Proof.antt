@@ -1,13 +1,13 @@
-use Rattle.strand.proofs.Laws.{bare-laid}
+use Rattle.strand.proofs.Laws.{carried-read, carried-few, bare-laid}
 use borrow.Author.Needs.{needs}
 use Rattle.strand.proofs.put_bare.Statement.{statement}
 use Rattle.strand.proofs.put_bare.Tie as tie
 
 build-bare-requires : tie.Need-build-bare-requires
-build-bare-requires c κs = search needs
+build-bare-requires c κs = (search carried-read, search needs)
 
 bare-indices-requires : tie.Need-bare-indices-requires
-bare-indices-requires c κs = search needs
+bare-indices-requires c κs = (search carried-few, search needs)
 
 same-length : tie.Need-same-length
 same-length c = search needs

@@ -1,7 +1,7 @@
 use mathlib.Core.Path.{refl}
 use native.Mathlib.Omega.{arith}
 use Rattle.carbons.proofs.TokenLaws.{noughts}
-use Rattle.strand.proofs.Laws.{grouped-laid}
+use Rattle.strand.proofs.Laws.{carried-some, carried-read, carried-few, grouped-laid}
 use borrow.Author.Needs.{needs}
 use Rattle.strand.proofs.put_grouped.Statement.{statement}
 use Rattle.strand.proofs.put_grouped.Tie as tie
@@ -12,22 +12,22 @@ slice-aggregate-ringless-bonds c = search needs
 ringless-bonds-requires : tie.Need-ringless-bonds-requires
 ringless-bonds-requires c κs =
     let start = c .before .before .before .before .before in
-    ((noughts 96 refl, omega arith, omega arith), start .pre .0 .0 .rings)
+    ((noughts 96 refl, omega arith, omega arith), start .pre .1 .0 .0 .rings)
 
 slice-aggregate-build-grouped : tie.Need-slice-aggregate-build-grouped
 slice-aggregate-build-grouped c = search needs
 
 build-grouped-requires : tie.Need-build-grouped-requires
-build-grouped-requires c κs = search needs
+build-grouped-requires c κs = (search carried-read, search needs)
 
 slice-aggregate-grouped-indices : tie.Need-slice-aggregate-grouped-indices
 slice-aggregate-grouped-indices c = search needs
 
 grouped-indices-requires : tie.Need-grouped-indices-requires
-grouped-indices-requires c κs = search needs
+grouped-indices-requires c κs = (search carried-few, (search needs, (search needs, search needs)))
 
 put-rows-requires : tie.Need-put-rows-requires
-put-rows-requires c κs = search needs
+put-rows-requires c κs = search carried-some
 
 same-length : tie.Need-same-length
 same-length c = search needs

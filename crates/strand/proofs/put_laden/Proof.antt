@@ -1,4 +1,4 @@
-use Rattle.strand.proofs.Laws.{strand-laid}
+use Rattle.strand.proofs.Laws.{carried-some, carried-read, carried-few, strand-laid}
 use mathlib.Core.Path.{refl}
 use native.Mathlib.Omega.{arith}
 use Rattle.carbons.proofs.TokenLaws.{noughts}
@@ -13,7 +13,7 @@ slice-aggregate-chain-tokens-2 : tie.Need-slice-aggregate-chain-tokens-2
 slice-aggregate-chain-tokens-2 c = search needs
 
 chain-tokens-requires : tie.Need-chain-tokens-requires
-chain-tokens-requires c κs = ((noughts 256 refl, omega arith), (noughts 256 refl, omega arith))
+chain-tokens-requires c κs = (search carried-some, (omega arith, ((noughts 256 refl, omega arith), (noughts 256 refl, omega arith))))
 
 slice-aggregate-build-chain-segment : tie.Need-slice-aggregate-build-chain-segment
 slice-aggregate-build-chain-segment c = search needs
@@ -22,7 +22,7 @@ slice-aggregate-build-chain-segment-2 : tie.Need-slice-aggregate-build-chain-seg
 slice-aggregate-build-chain-segment-2 c = search needs
 
 build-chain-segment-requires : tie.Need-build-chain-segment-requires
-build-chain-segment-requires c κs = search needs
+build-chain-segment-requires c κs = (search carried-read, search needs)
 
 slice-aggregate-put-indices : tie.Need-slice-aggregate-put-indices
 slice-aggregate-put-indices c = search needs
@@ -31,10 +31,12 @@ slice-aggregate-put-indices-2 : tie.Need-slice-aggregate-put-indices-2
 slice-aggregate-put-indices-2 c = search needs
 
 put-indices-requires : tie.Need-put-indices-requires
-put-indices-requires c κs = search needs
+put-indices-requires c κs = (search carried-few, search needs)
 
 put-rows-requires : tie.Need-put-rows-requires
-put-rows-requires c κs = search needs
+put-rows-requires c κs =
+    let start = c .before .before .before .before .before .before .before .before .before .before .before .before .before .before .before .before .before .before .before .before .before .before in
+    carried-some (start .pre .0)
 
 same-length : tie.Need-same-length
 same-length c = search needs

@@ -14,7 +14,7 @@ put-bare-requires c κs =
     let room = c .before .before .before .before .before .before in
     let grouped = room .before .before in
     let shape = grouped .before .is-grouped .ensures (grouped .if1 .taken) in
-    (shape .grouped, ((omega arith, omega arith), room .before .has-room .ensures (room .if2 .taken)))
+    (search needs, (shape .grouped, ((omega arith, omega arith), room .before .has-room .ensures (room .if2 .taken))))
 
 same-length : tie.Need-same-length
 same-length c = search needs
@@ -30,7 +30,7 @@ put-grouped-requires c κs =
     let room = c .before .before .before .before .before in
     let grouped = room .before .before in
     let shape = grouped .before .is-grouped .ensures (grouped .if1 .taken) in
-    ((shape .grouped, shape .short), room .before .has-room .ensures (room .if2 .taken))
+    (search needs, ((shape .grouped, shape .short), room .before .has-room .ensures (room .if2 .taken)))
 
 same-length-3 : tie.Need-same-length-3
 same-length-3 c = search needs

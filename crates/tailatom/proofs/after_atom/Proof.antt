@@ -1,4 +1,4 @@
-use Rattle.tailatom.proofs.Scan.{atom-end, atom-bracket, atom-strange, atom-last, atom-two, atom-one}
+use Rattle.tailatom.proofs.Atom.{atom-end, atom-bracket, atom-strange, atom-last, atom-two, atom-one}
 use borrow.Author.Needs.{needs}
 use Rattle.tailatom.proofs.after_atom.Statement.{statement}
 use Rattle.tailatom.proofs.after_atom.Tie as tie

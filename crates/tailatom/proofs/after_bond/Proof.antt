@@ -1,4 +1,4 @@
-use Rattle.tailatom.proofs.Scan.{bond-end, a-bond, no-bond}
+use Rattle.tailatom.proofs.Atom.{bond-end, a-bond, no-bond}
 use borrow.Author.Needs.{needs}
 use Rattle.tailatom.proofs.after_bond.Statement.{statement}
 use Rattle.tailatom.proofs.after_bond.Tie as tie

@@ -1,7 +1,7 @@
 use borrow.Author.Needs.{needs}
 use Prim.Native.Nat.{_-_}
 use lib.ListN.{length}
-use Rattle.tailatom.proofs.Scan.{InBracket, bracket-first, bracket-on, bracket-strange, bracket-empty, bracket-long, bracket-shut, bracket-cut}
+use Rattle.tailatom.proofs.Atom.{InBracket, bracket-first, bracket-on, bracket-strange, bracket-empty, bracket-long, bracket-shut, bracket-cut}
 use Rattle.tailatom.proofs.after_bracket.Statement.{statement}
 use Rattle.tailatom.proofs.after_bracket.Tie as tie
 

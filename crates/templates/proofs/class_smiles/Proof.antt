@@ -1,5 +1,5 @@
 use borrow.Author.Needs.{needs}
-use Rattle.templates.proofs.Classes.{class-fa, class-gl1, class-gl2, class-gl3, class-gp, class-cl, class-sb, class-sa}
+use Rattle.templates.proofs.Classes.{fill-fa, fill-gl1, fill-gl2, fill-gl3, tail-gp, fill-gp, fill-cl, tail-sb, fill-sb, tail-sa, fill-sa, class-fa, class-gl1, class-gl2, class-gl3, class-gp, class-cl, class-sb, class-sa}
 use Rattle.templates.proofs.class_smiles.Statement.{statement}
 use Rattle.templates.proofs.class_smiles.Tie as tie
 
@@ -7,49 +7,49 @@ enum-told : tie.Need-enum-told
 enum-told c = search needs
 
 fa-smiles-requires : tie.Need-fa-smiles-requires
-fa-smiles-requires c κs = search needs
+fa-smiles-requires c κs = search fill-fa
 
 enum-told-2 : tie.Need-enum-told-2
 enum-told-2 c = search needs
 
 glycerolipid-smiles-requires : tie.Need-glycerolipid-smiles-requires
-glycerolipid-smiles-requires c κs = search needs
+glycerolipid-smiles-requires c κs = search fill-gl1
 
 enum-told-3 : tie.Need-enum-told-3
 enum-told-3 c = search needs
 
 glycerolipid-smiles-requires-2 : tie.Need-glycerolipid-smiles-requires-2
-glycerolipid-smiles-requires-2 c κs = search needs
+glycerolipid-smiles-requires-2 c κs = search fill-gl2
 
 enum-told-4 : tie.Need-enum-told-4
 enum-told-4 c = search needs
 
 glycerolipid-smiles-requires-3 : tie.Need-glycerolipid-smiles-requires-3
-glycerolipid-smiles-requires-3 c κs = search needs
+glycerolipid-smiles-requires-3 c κs = search fill-gl3
 
 enum-told-5 : tie.Need-enum-told-5
 enum-told-5 c = search needs
 
 gpl-smiles-requires : tie.Need-gpl-smiles-requires
-gpl-smiles-requires c κs = search needs
+gpl-smiles-requires c κs = search (tail-gp, fill-gp)
 
 enum-told-6 : tie.Need-enum-told-6
 enum-told-6 c = search needs
 
 cl-smiles-requires : tie.Need-cl-smiles-requires
-cl-smiles-requires c κs = search needs
+cl-smiles-requires c κs = search fill-cl
 
 enum-told-7 : tie.Need-enum-told-7
 enum-told-7 c = search needs
 
 sphingoid-smiles-requires : tie.Need-sphingoid-smiles-requires
-sphingoid-smiles-requires c κs = search needs
+sphingoid-smiles-requires c κs = search (tail-sb, fill-sb)
 
 enum-told-8 : tie.Need-enum-told-8
 enum-told-8 c = search needs
 
 acyl-sphingoid-smiles-requires : tie.Need-acyl-sphingoid-smiles-requires
-acyl-sphingoid-smiles-requires c κs = search needs
+acyl-sphingoid-smiles-requires c κs = search (tail-sa, fill-sa)
 
 same-length : tie.Need-same-length
 same-length c = search needs

@@ -1,6 +1,6 @@
 use borrow.Author.Needs.{needs}
 use Rattle.reading.specs.Ascii.{ascii}
-use Rattle.templates.proofs.Templates.{fa-built}
+use Rattle.templates.proofs.Templates.{fa-first, fa-built}
 use Rattle.templates.proofs.fa_smiles.Statement.{statement}
 use Rattle.templates.proofs.fa_smiles.Tie as tie
 
@@ -14,7 +14,12 @@ push-fixed-requires : tie.Need-push-fixed-requires
 push-fixed-requires c κs = search needs
 
 push-bare-requires : tie.Need-push-bare-requires
-push-bare-requires c κs = search needs
+unfolding ascii
+push-bare-requires c κs =
+    let e2 = c .before .before .before .before .before .before in
+    let e1 = e2 .before .before .before in
+    let start = e1 .before .before .before .before .before in
+    fa-first {is = start .args .index .now} {rs = start .args .rows .now} (record { text = start .good .0 .0; index = start .good .1 .0 .0; rows = start .good .1 .1 .0 .0 }) (e1 .new .ensures) (e2 .push-fixed .ensures) (start .pre)
 
 returns : tie.Need-returns
 unfolding ascii

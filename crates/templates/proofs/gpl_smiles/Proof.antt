@@ -1,6 +1,6 @@
 use borrow.Author.Needs.{needs}
 use Rattle.reading.specs.Ascii.{ascii}
-use Rattle.templates.proofs.Templates.{gpl-built}
+use Rattle.templates.proofs.Templates.{gpl-first, gpl-second, gpl-built}
 use Rattle.templates.proofs.gpl_smiles.Statement.{statement}
 use Rattle.templates.proofs.gpl_smiles.Tie as tie
 
@@ -23,7 +23,14 @@ push-fixed-requires-3 : tie.Need-push-fixed-requires-3
 push-fixed-requires-3 c κs = search needs
 
 push-slot-requires : tie.Need-push-slot-requires
-push-slot-requires c κs = search needs
+unfolding ascii
+push-slot-requires c κs =
+    let e4 = c .before .before .before .before .before .before in
+    let e3 = e4 .before .before .before .before .before in
+    let e2 = e3 .before .before .before .before in
+    let e1 = e2 .before .before .before in
+    let start = e1 .before .before .before .before .before .before in
+    gpl-first {is = start .args .index .now} {rs = start .args .rows .now} (record { text = start .good .0 .0; index = start .good .1 .0 .0; rows = start .good .1 .1 .0 .0 }) (e1 .new .ensures) (start .pre .0) (e2 .push-fixed .ensures) (e3 .push-fixed2 .ensures) (e4 .push-fixed3 .ensures) (start .pre .1)
 
 slice-aggregate-push-fixed-3 : tie.Need-slice-aggregate-push-fixed-3
 slice-aggregate-push-fixed-3 c = search needs
@@ -32,7 +39,16 @@ push-fixed-requires-4 : tie.Need-push-fixed-requires-4
 push-fixed-requires-4 c κs = search needs
 
 push-slot-requires-2 : tie.Need-push-slot-requires-2
-push-slot-requires-2 c κs = search needs
+unfolding ascii
+push-slot-requires-2 c κs =
+    let e6 = c .before .before .before .before .before .before in
+    let e5 = e6 .before .before .before .before .before .before .before .before .before in
+    let e4 = e5 .before .before .before .before .before .before .before in
+    let e3 = e4 .before .before .before .before .before in
+    let e2 = e3 .before .before .before .before in
+    let e1 = e2 .before .before .before in
+    let start = e1 .before .before .before .before .before .before in
+    gpl-second (record { text = start .good .0 .0; index = start .good .1 .0 .0; rows = start .good .1 .1 .0 .0 }) (e1 .new .ensures) (start .pre .0) (e2 .push-fixed .ensures) (e3 .push-fixed2 .ensures) (e4 .push-fixed3 .ensures) (e5 .push-slot .ensures) (e6 .push-fixed4 .ensures) (start .pre .1)
 
 returns : tie.Need-returns
 unfolding ascii
@@ -45,7 +61,7 @@ returns c =
     let e2 = e3 .before .before .before .before in
     let e1 = e2 .before .before .before in
     let start = e1 .before .before .before .before .before .before in
-    gpl-built (record { text = start .good .0 .0; index = start .good .1 .0 .0; rows = start .good .1 .1 .0 .0 }) (e1 .new .ensures) (e2 .push-fixed .ensures) (e3 .push-fixed2 .ensures) (e4 .push-fixed3 .ensures) (e5 .push-slot .ensures) (e6 .push-fixed4 .ensures) (e7 .push-slot2 .ensures)
+    gpl-built (record { text = start .good .0 .0; index = start .good .1 .0 .0; rows = start .good .1 .1 .0 .0 }) (e1 .new .ensures) (start .pre .0) (e2 .push-fixed .ensures) (e3 .push-fixed2 .ensures) (e4 .push-fixed3 .ensures) (e5 .push-slot .ensures) (e6 .push-fixed4 .ensures) (e7 .push-slot2 .ensures)
 
 same-length : tie.Need-same-length
 same-length c = returns c .sizes .text

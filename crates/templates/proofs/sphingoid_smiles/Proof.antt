@@ -1,6 +1,6 @@
 use borrow.Author.Needs.{needs}
 use Rattle.reading.specs.Ascii.{ascii}
-use Rattle.templates.proofs.Templates.{sphingoid-built}
+use Rattle.templates.proofs.Templates.{sphingoid-first, sphingoid-built}
 use Rattle.templates.proofs.sphingoid_smiles.Statement.{statement}
 use Rattle.templates.proofs.sphingoid_smiles.Tie as tie
 
@@ -23,7 +23,14 @@ push-fixed-requires-3 : tie.Need-push-fixed-requires-3
 push-fixed-requires-3 c κs = search needs
 
 push-bare-requires : tie.Need-push-bare-requires
-push-bare-requires c κs = search needs
+unfolding ascii
+push-bare-requires c κs =
+    let e4 = c .before .before .before .before .before .before in
+    let e3 = e4 .before .before .before .before .before in
+    let e2 = e3 .before .before .before .before in
+    let e1 = e2 .before .before .before in
+    let start = e1 .before .before .before .before .before .before in
+    sphingoid-first {is = start .args .index .now} {rs = start .args .rows .now} (record { text = start .good .0 .0; index = start .good .1 .0 .0; rows = start .good .1 .1 .0 .0 }) (e1 .new .ensures) (start .pre .0) (e2 .push-fixed .ensures) (e3 .push-fixed2 .ensures) (e4 .push-fixed3 .ensures) (start .pre .1)
 
 returns : tie.Need-returns
 unfolding ascii
@@ -34,7 +41,7 @@ returns c =
     let e2 = e3 .before .before .before .before in
     let e1 = e2 .before .before .before in
     let start = e1 .before .before .before .before .before .before in
-    sphingoid-built (record { text = start .good .0 .0; index = start .good .1 .0 .0; rows = start .good .1 .1 .0 .0 }) (e1 .new .ensures) (e2 .push-fixed .ensures) (e3 .push-fixed2 .ensures) (e4 .push-fixed3 .ensures) (e5 .push-bare .ensures)
+    sphingoid-built (record { text = start .good .0 .0; index = start .good .1 .0 .0; rows = start .good .1 .1 .0 .0 }) (e1 .new .ensures) (start .pre .0) (e2 .push-fixed .ensures) (e3 .push-fixed2 .ensures) (e4 .push-fixed3 .ensures) (e5 .push-bare .ensures)
 
 same-length : tie.Need-same-length
 same-length c = returns c .sizes .text

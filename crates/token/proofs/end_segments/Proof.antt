@@ -9,6 +9,9 @@ missing-bonds-requires c κs = search needs
 parse-rest-requires : tie.Need-parse-rest-requires
 parse-rest-requires c κs = search needs
 
+with-end-requires : tie.Need-with-end-requires
+with-end-requires c κs = search needs
+
 same-length : tie.Need-same-length
 same-length c = search needs
 
@@ -19,7 +22,7 @@ same-length-3 : tie.Need-same-length-3
 same-length-3 c = search needs
 
 returns : tie.Need-returns
-returns c = let p = c .before .before .before .before .before .before .before .before .before .before .before .before .before .before .before .before .before .pre in search (segments-end, p .0, p .1 .0, p .1 .1 .0, p .1 .1 .1 .0, p .1 .1 .1 .1 .0, p .1 .1 .1 .1 .1 .0, p .1 .1 .1 .1 .1 .1)
+returns c = search segments-end
 
 pub end-segments-spec : {M : Type 1} → statement M
 end-segments-spec =
@@ -27,6 +30,7 @@ end-segments-spec =
     (tie.spec
     missing-bonds-requires
     parse-rest-requires
+    with-end-requires
     same-length
     same-length-2
     same-length-3

@@ -24,10 +24,4 @@ returns-3 c = search finish-read
 pub finish-spec : {M : Type 1} → statement M
 finish-spec =
     tie.close
-    (tie.spec
-    enum-known-missing
-    enum-told
-    returns
-    bare-oxygens-requires
-    returns-2
-    returns-3)
+    (tie.spec enum-known-missing enum-told returns bare-oxygens-requires returns-2 returns-3)

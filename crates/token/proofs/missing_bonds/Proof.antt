@@ -1,4 +1,4 @@
-use Rattle.token.proofs.Laws.{given-many, not-seated, all-seated, seated-fits}
+use Rattle.token.proofs.Laws.{given-many, not-seated, seated-fits, all-seated}
 use borrow.Author.Needs.{needs}
 use Rattle.token.proofs.missing_bonds.Statement.{statement}
 use Rattle.token.proofs.missing_bonds.Tie as tie
@@ -19,4 +19,5 @@ returns-3 : tie.Need-returns-3
 returns-3 c = search all-seated
 
 pub missing-bonds-spec : {M : Type 1} → statement M
-missing-bonds-spec = tie.close (tie.spec returns placeholder-positions-requires returns-2 cast-t9 returns-3)
+missing-bonds-spec =
+    tie.close (tie.spec returns placeholder-positions-requires returns-2 cast-t9 returns-3)

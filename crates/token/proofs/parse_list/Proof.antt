@@ -6,14 +6,20 @@ use Rattle.token.proofs.parse_list.Tie as tie
 parse-position-list-requires : tie.Need-parse-position-list-requires
 parse-position-list-requires c κs = search needs
 
+enum-known-listed : tie.Need-enum-known-listed
+enum-known-listed c = search needs
+
+enum-known-listed-2 : tie.Need-enum-known-listed-2
+enum-known-listed-2 c = search needs
+
+check-counts-requires : tie.Need-check-counts-requires
+check-counts-requires c κs = search needs
+
 same-length : tie.Need-same-length
 same-length c = search needs
 
 returns : tie.Need-returns
 returns c = search list-refused
-
-check-counts-requires : tie.Need-check-counts-requires
-check-counts-requires c κs = search needs
 
 same-length-2 : tie.Need-same-length-2
 same-length-2 c = search needs
@@ -26,8 +32,10 @@ parse-list-spec =
     tie.close
     (tie.spec
     parse-position-list-requires
+    enum-known-listed
+    enum-known-listed-2
+    check-counts-requires
     same-length
     returns
-    check-counts-requires
     same-length-2
     returns-2)

@@ -1,4 +1,5 @@
-use Rattle.token.proofs.Laws.{list-open, listed-refused, listed-read}
+use Prim.Native.Nat.{_≤_}
+use Rattle.token.proofs.Laws.{list-open, listed-refused, listed-few-bonds, listed-read}
 use borrow.Author.Needs.{needs}
 use Rattle.token.proofs.parse_listed.Statement.{statement}
 use Rattle.token.proofs.parse_listed.Tie as tie
@@ -21,14 +22,14 @@ part-parse-list-end c = search needs
 parse-list-requires : tie.Need-parse-list-requires
 parse-list-requires c κs = search needs
 
-same-length : tie.Need-same-length
-same-length c = search needs
+enum-known-listed : tie.Need-enum-known-listed
+enum-known-listed c = search needs
 
-returns-2 : tie.Need-returns-2
-returns-2 c = search listed-refused
+enum-known-listed-2 : tie.Need-enum-known-listed-2
+enum-known-listed-2 c = search needs
 
 missing-bonds-requires : tie.Need-missing-bonds-requires
-missing-bonds-requires c κs = search needs
+missing-bonds-requires c κs = let h : c .before .before .listed2 .given .0 .0 .bonds ≤ 32 = search listed-few-bonds in (search needs, search needs)
 
 add-parse-rest : tie.Need-add-parse-rest
 add-parse-rest c = search needs
@@ -45,6 +46,12 @@ part-parse-rest-end c = search needs
 parse-rest-requires : tie.Need-parse-rest-requires
 parse-rest-requires c κs = search needs
 
+same-length : tie.Need-same-length
+same-length c = search needs
+
+returns-2 : tie.Need-returns-2
+returns-2 c = search listed-refused
+
 same-length-2 : tie.Need-same-length-2
 same-length-2 c = search needs
 
@@ -55,7 +62,7 @@ same-length-4 : tie.Need-same-length-4
 same-length-4 c = search needs
 
 returns-3 : tie.Need-returns-3
-returns-3 c = search (listed-read, c .before .before .before .before .before .before .before .before .before .before .before .before .before .before .before .before .before .before .before .before .before .before .find .ensures, c .before .before .before .before .before .before .before .before .before .before .before .before .before .before .before .before .before .before .before .before .before .if1 .left, c .before .before .before .before .before .before .before .before .before .before .before .before .before .before .before .before .before .before .parse-list .ensures, c .before .before .before .before .before .before .before .before .before .before .before .before .before .if2 .left, c .before .before .before .before .before .before .before .before .before .before .before .missing-bonds .ensures, c .before .before .before .before .before .before .parse-rest .ensures)
+returns-3 c = search listed-read
 
 pub parse-listed-spec : {M : Type 1} → statement M
 parse-listed-spec =
@@ -67,14 +74,16 @@ parse-listed-spec =
     part-parse-list-start
     part-parse-list-end
     parse-list-requires
-    same-length
-    returns-2
+    enum-known-listed
+    enum-known-listed-2
     missing-bonds-requires
     add-parse-rest
     sub-parse-rest
     part-parse-rest-start
     part-parse-rest-end
     parse-rest-requires
+    same-length
+    returns-2
     same-length-2
     same-length-3
     same-length-4

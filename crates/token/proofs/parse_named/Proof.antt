@@ -1,13 +1,11 @@
 use Rattle.token.proofs.Laws.{no-colon, carbons-refused, carbons-then}
+use Rattle.opening.proofs.Laws.{start-few}
 use borrow.Author.Needs.{needs}
 use Rattle.token.proofs.parse_named.Statement.{statement}
 use Rattle.token.proofs.parse_named.Tie as tie
 
 find-requires : tie.Need-find-requires
 find-requires c κs = search needs
-
-empty-requires : tie.Need-empty-requires
-empty-requires c κs = search needs
 
 returns : tie.Need-returns
 returns c = search no-colon
@@ -24,14 +22,11 @@ part-parse-carbons-end c = search needs
 parse-carbons-requires : tie.Need-parse-carbons-requires
 parse-carbons-requires c κs = search needs
 
-empty-requires-2 : tie.Need-empty-requires-2
-empty-requires-2 c κs = search needs
+enum-known-started : tie.Need-enum-known-started
+enum-known-started c = search needs
 
-same-length : tie.Need-same-length
-same-length c = search needs
-
-returns-2 : tie.Need-returns-2
-returns-2 c = search carbons-refused
+enum-known-started-2 : tie.Need-enum-known-started-2
+enum-known-started-2 c = search needs
 
 add-parse-bonds : tie.Need-add-parse-bonds
 add-parse-bonds c = search needs
@@ -46,7 +41,16 @@ part-parse-bonds-end : tie.Need-part-parse-bonds-end
 part-parse-bonds-end c = search needs
 
 parse-bonds-requires : tie.Need-parse-bonds-requires
-parse-bonds-requires c κs = search needs
+parse-bonds-requires c κs = (search start-few, search needs)
+
+with-end-requires : tie.Need-with-end-requires
+with-end-requires c κs = search needs
+
+same-length : tie.Need-same-length
+same-length c = search needs
+
+returns-2 : tie.Need-returns-2
+returns-2 c = search carbons-refused
 
 same-length-2 : tie.Need-same-length-2
 same-length-2 c = search needs
@@ -65,20 +69,21 @@ parse-named-spec =
     tie.close
     (tie.spec
     find-requires
-    empty-requires
     returns
     sub-parse-carbons
     part-parse-carbons-start
     part-parse-carbons-end
     parse-carbons-requires
-    empty-requires-2
-    same-length
-    returns-2
+    enum-known-started
+    enum-known-started-2
     add-parse-bonds
     sub-parse-bonds
     part-parse-bonds-start
     part-parse-bonds-end
     parse-bonds-requires
+    with-end-requires
+    same-length
+    returns-2
     same-length-2
     same-length-3
     same-length-4

@@ -12,6 +12,15 @@ returns c = search rest-none
 parse-segments-requires : tie.Need-parse-segments-requires
 parse-segments-requires c κs = search needs
 
+enum-known-read : tie.Need-enum-known-read
+enum-known-read c = search needs
+
+enum-known-read-2 : tie.Need-enum-known-read-2
+enum-known-read-2 c = search needs
+
+finish-requires-2 : tie.Need-finish-requires-2
+finish-requires-2 c κs = search needs
+
 same-length : tie.Need-same-length
 same-length c = search needs
 
@@ -23,9 +32,6 @@ same-length-3 c = search needs
 
 returns-2 : tie.Need-returns-2
 returns-2 c = search rest-refused
-
-finish-requires-2 : tie.Need-finish-requires-2
-finish-requires-2 c κs = search needs
 
 same-length-4 : tie.Need-same-length-4
 same-length-4 c = search needs
@@ -46,11 +52,13 @@ parse-rest-spec =
     finish-requires
     returns
     parse-segments-requires
+    enum-known-read
+    enum-known-read-2
+    finish-requires-2
     same-length
     same-length-2
     same-length-3
     returns-2
-    finish-requires-2
     same-length-4
     same-length-5
     same-length-6

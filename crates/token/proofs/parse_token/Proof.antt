@@ -3,20 +3,11 @@ use borrow.Author.Needs.{needs}
 use Rattle.token.proofs.parse_token.Statement.{statement}
 use Rattle.token.proofs.parse_token.Tie as tie
 
-empty-requires : tie.Need-empty-requires
-empty-requires c κs = search needs
-
 returns : tie.Need-returns
 returns c = search bonds-short
 
-empty-requires-2 : tie.Need-empty-requires-2
-empty-requires-2 c κs = search needs
-
 returns-2 : tie.Need-returns-2
 returns-2 c = search groups-short
-
-empty-requires-3 : tie.Need-empty-requires-3
-empty-requires-3 c κs = search needs
 
 returns-3 : tie.Need-returns-3
 returns-3 c = search rings-short
@@ -40,11 +31,8 @@ pub parse-token-spec : {M : Type 1} → statement M
 parse-token-spec =
     tie.close
     (tie.spec
-    empty-requires
     returns
-    empty-requires-2
     returns-2
-    empty-requires-3
     returns-3
     read-token-requires
     same-length

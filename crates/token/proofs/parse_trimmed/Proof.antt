@@ -1,4 +1,4 @@
-use Rattle.token.proofs.Laws.{empty-chain, opened-chain}
+use Rattle.token.proofs.Laws.{empty-token, opened-chain}
 use borrow.Author.Needs.{needs}
 use Rattle.token.proofs.parse_trimmed.Statement.{statement}
 use Rattle.token.proofs.parse_trimmed.Tie as tie
@@ -9,11 +9,11 @@ slice-aggregate-same c = search needs
 same-requires : tie.Need-same-requires
 same-requires c κs = search needs
 
-empty-requires : tie.Need-empty-requires
-empty-requires c κs = search needs
+empty-chain-requires : tie.Need-empty-chain-requires
+empty-chain-requires c κs = search needs
 
 returns : tie.Need-returns
-returns c = search empty-chain
+returns c = search empty-token
 
 read-opening-requires : tie.Need-read-opening-requires
 read-opening-requires c κs = search needs
@@ -48,7 +48,7 @@ parse-trimmed-spec =
     (tie.spec
     slice-aggregate-same
     same-requires
-    empty-requires
+    empty-chain-requires
     returns
     read-opening-requires
     sub-parse-named

@@ -9,9 +9,6 @@ enum-known-missing c = search needs
 enum-told : tie.Need-enum-told
 enum-told c = search needs
 
-empty-requires : tie.Need-empty-requires
-empty-requires c κs = search needs
-
 returns : tie.Need-returns
 returns c = search plain-unseated
 
@@ -19,5 +16,4 @@ returns-2 : tie.Need-returns-2
 returns-2 c = search plain-seated
 
 pub plain-chain-spec : {M : Type 1} → statement M
-plain-chain-spec =
-    tie.close (tie.spec enum-known-missing enum-told empty-requires returns returns-2)
+plain-chain-spec = tie.close (tie.spec enum-known-missing enum-told returns returns-2)

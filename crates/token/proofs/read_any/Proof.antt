@@ -6,9 +6,6 @@ use Rattle.token.proofs.read_any.Tie as tie
 all-printable-requires : tie.Need-all-printable-requires
 all-printable-requires c κs = search needs
 
-empty-requires : tie.Need-empty-requires
-empty-requires c κs = search needs
-
 returns : tie.Need-returns
 returns c = search token-bytes
 
@@ -35,7 +32,6 @@ read-any-spec =
     tie.close
     (tie.spec
     all-printable-requires
-    empty-requires
     returns
     trim-requires
     parse-trimmed-requires

@@ -4,9 +4,6 @@ use borrow.Author.Needs.{needs}
 use Rattle.token.proofs.read_token.Statement.{statement}
 use Rattle.token.proofs.read_token.Tie as tie
 
-empty-requires : tie.Need-empty-requires
-empty-requires c κs = search needs
-
 returns : tie.Need-returns
 returns c = search token-long
 
@@ -29,7 +26,7 @@ returns-2 : tie.Need-returns-2
 returns-2 c = search needs
 
 end-plain-requires : tie.Need-end-plain-requires
-end-plain-requires c κs = search needs
+end-plain-requires c κs = let k = c .before .before .before .before .before .before .before .before .before .read-usual .ensures (c .before .before .if2 .left) in (k .few, k .stored)
 
 same-length-4 : tie.Need-same-length-4
 same-length-4 c = search needs
@@ -71,7 +68,6 @@ pub read-token-spec : {M : Type 1} → statement M
 read-token-spec =
     tie.close
     (tie.spec
-    empty-requires
     returns
     read-usual-requires
     read-any-requires

@@ -3,9 +3,6 @@ use Rattle.builder.proofs.Line.{finished}
 use Rattle.builder.proofs.Builder.finish.Statement.{statement}
 use Rattle.builder.proofs.Builder.finish.Tie as tie
 
-writable-requires : tie.Need-writable-requires
-writable-requires c κs = search needs
-
 put-notes-requires : tie.Need-put-notes-requires
 put-notes-requires c κs = search needs
 
@@ -16,4 +13,4 @@ returns : tie.Need-returns
 returns c = search finished
 
 pub finish-spec : {M : Type 1} → statement M
-finish-spec = tie.close (tie.spec writable-requires put-notes-requires same-length returns)
+finish-spec = tie.close (tie.spec put-notes-requires same-length returns)

@@ -1,10 +1,10 @@
 use borrow.Author.Needs.{needs}
-use Rattle.builder.proofs.Pushes.{bare-pushed}
+use Rattle.builder.proofs.Pushes.{bare-some, bare-pushed}
 use Rattle.builder.proofs.Builder.push_bare.Statement.{statement}
 use Rattle.builder.proofs.Builder.push_bare.Tie as tie
 
 push-chain-requires : tie.Need-push-chain-requires
-push-chain-requires c κs = search needs
+push-chain-requires c κs = search bare-some
 
 same-length : tie.Need-same-length
 same-length c = search needs

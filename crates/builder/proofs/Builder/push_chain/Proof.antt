@@ -1,6 +1,6 @@
 use borrow.Author.Needs.{needs}
 use native.Mathlib.Omega.{arith}
-use Rattle.builder.proofs.Pushes.{chain-none, chain-some}
+use Rattle.builder.proofs.Pushes.{chain-none, chain-some, chain-carried}
 use Rattle.builder.proofs.Builder.push_chain.Statement.{statement}
 use Rattle.builder.proofs.Builder.push_chain.Tie as tie
 
@@ -14,7 +14,7 @@ chain-part-requires : tie.Need-chain-part-requires
 chain-part-requires c κs = search needs
 
 push-fragment-requires : tie.Need-push-fragment-requires
-push-fragment-requires c κs = search needs
+push-fragment-requires c κs = search chain-carried
 
 same-length : tie.Need-same-length
 same-length c = search needs

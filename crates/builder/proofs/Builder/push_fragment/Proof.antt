@@ -1,4 +1,5 @@
 use borrow.Author.Needs.{needs}
+use Rattle.strand.proofs.Laws.{carried-some}
 use Rattle.builder.proofs.Pushes.{fragment-pushed}
 use Rattle.builder.proofs.Builder.push_fragment.Statement.{statement}
 use Rattle.builder.proofs.Builder.push_fragment.Tie as tie
@@ -10,7 +11,7 @@ put-strand-requires : tie.Need-put-strand-requires
 put-strand-requires c κs = search needs
 
 figures-of-requires : tie.Need-figures-of-requires
-figures-of-requires c κs = search needs
+figures-of-requires c κs = search carried-some
 
 settle-requires : tie.Need-settle-requires
 settle-requires c κs = search needs

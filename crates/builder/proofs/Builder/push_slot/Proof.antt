@@ -1,7 +1,7 @@
 use borrow.Author.Needs.{needs}
 use mathlib.Core.Path.{refl}
 use Rattle.reading.specs.Ascii.{ascii}
-use Rattle.builder.proofs.Pushes.{slot-pushed}
+use Rattle.builder.proofs.Pushes.{slot-some, slot-pushed}
 use Rattle.builder.proofs.Builder.push_slot.Statement.{statement}
 use Rattle.builder.proofs.Builder.push_slot.Tie as tie
 
@@ -12,7 +12,7 @@ push-fixed-requires : tie.Need-push-fixed-requires
 push-fixed-requires c κs = search needs
 
 push-chain-requires : tie.Need-push-chain-requires
-push-chain-requires c κs = search needs
+push-chain-requires c κs = search slot-some
 
 same-length : tie.Need-same-length
 same-length c = search needs

@@ -1,21 +1,23 @@
-use Rattle.judge.proofs.Judging.{due-token, due-kind, due-tail, due-place, due-draw}
+use Rattle.judge.proofs.Judging.{due-tail, due-other}
+use borrow.Author.Needs.{needs}
 use Rattle.judge.proofs.Faults.due.Statement.{statement}
 use Rattle.judge.proofs.Faults.due.Tie as tie
 
+earlier-requires : tie.Need-earlier-requires
+earlier-requires c κs = search needs
+
 returns : tie.Need-returns
-returns c = search due-token
+returns c = search due-tail
+
+earlier-requires-2 : tie.Need-earlier-requires-2
+earlier-requires-2 c κs = search needs
+
+earlier-requires-3 : tie.Need-earlier-requires-3
+earlier-requires-3 c κs = search needs
 
 returns-2 : tie.Need-returns-2
-returns-2 c = search due-kind
-
-returns-3 : tie.Need-returns-3
-returns-3 c = search due-tail
-
-returns-4 : tie.Need-returns-4
-returns-4 c = search due-place
-
-returns-5 : tie.Need-returns-5
-returns-5 c = search due-draw
+returns-2 c = search due-other
 
 pub due-spec : {M : Type 1} → statement M
-due-spec = tie.close (tie.spec returns returns-2 returns-3 returns-4 returns-5)
+due-spec =
+    tie.close (tie.spec earlier-requires returns earlier-requires-2 earlier-requires-3 returns-2)
