@@ -8,14 +8,14 @@ use mathlib.Core.Bool.{Bool, true, false, cond}
 use mathlib.Core.List.{List, [], _∷_, _++_, append-assoc, append-nil}
 use lib.ListN.{length, take}
 use lib.Dec.{eqb}
-use Rattle.form.specs.Parts.{onto, partsAt}
-use Rattle.header.specs.declared.Plan.{Plan}
-use Rattle.sheet.specs.Header.{planOf}
-use Rattle.sheet.specs.Sheet.{requestOf}
-use Rattle.sheet.proofs.Long.{cut-header, cut-row}
-use Rattle.beginning.specs.declared.Stage.{Stage}
-use Rattle.beginning.specs.declared.Stage.the-variants.{Header, Rows, Over}
-use Rattle.remnant.specs.Kept.{kept}
+use Rattle.token_syntax.specs.form.Parts.{onto, partsAt}
+use Rattle.sheet_input.specs.declared.header.Plan.{Plan}
+use Rattle.sheet_input.specs.sheet.Header.{planOf}
+use Rattle.sheet_input.specs.sheet.Sheet.{requestOf}
+use Rattle.sheet_input.proofs.sheet.Long.{cut-header, cut-row}
+use Rattle.sheet_frame.specs.declared.beginning.Stage.{Stage}
+use Rattle.sheet_frame.specs.declared.beginning.Stage.the-variants.{Header, Rows, Over}
+use Rattle.sheet_input.specs.remnant.Kept.{kept}
 use Rattle.batch.specs.Batch.{repliesAt, stageAfter, planAfter, indexAt, Held, batchAfter, heldAfter, heldFrom, isHeader, isLine, heldLast, heldEnd}
 
 -- ---- the parts of bytes that are joined

@@ -8,17 +8,17 @@ use mathlib.Core.List.{List, [], _∷_, _++_, append-assoc}
 use lib.ListN.{length, set, take, drop, length-drop, take-append-drop}
 use lib.Seq.{length-take-le, sets, length-sets, sets-eq, drop-drop, drop-append-le}
 use borrow.Rule.Slice.PartMut.{midOf, putMid, mid-len, put-same}
-use Rattle.emit.specs.Text.{Written, digits, decimal}
-use Rattle.emit.proofs.Laws.{written-append}
-use Rattle.emit.proofs.Over.{set-before}
-use Rattle.rows.specs.Text.{ended, Carbons, headText, rowText}
-use Rattle.rows.specs.Chains.{carbonsOf, restText}
-use Rattle.rows.proofs.Laws.{row-parts}
+use Rattle.writer.specs.emit.Text.{Written, digits, decimal}
+use Rattle.writer.proofs.emit.Laws.{written-append}
+use Rattle.writer.proofs.emit.Over.{set-before}
+use Rattle.sheet_output.specs.rows.Text.{ended, Carbons, headText, rowText}
+use Rattle.sheet_output.specs.rows.Chains.{carbonsOf, restText}
+use Rattle.sheet_output.proofs.rows.Laws.{row-parts}
 use Rattle.judge.specs.Verdict.{Verdict}
-use Rattle.answer.specs.declared.Answer.{Answer}
+use Rattle.answers.specs.declared.answer.Answer.{Answer}
 use Rattle.forward.specs.Answer.{atStart}
 use Rattle.forward.specs.Call.{Called}
-use Rattle.beginning.specs.Beginning.{refused, replyText}
+use Rattle.sheet_frame.specs.beginning.Beginning.{refused, replyText}
 use Rattle.batch.specs.Reply.{lineRoom, Around, Drawn}
 use Rattle.batch.proofs.ReplyLaws.{answered, Stands, stands, left}
 

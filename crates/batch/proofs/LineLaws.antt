@@ -9,27 +9,27 @@ use mathlib.Core.List.{List, [], _∷_, _++_, append-assoc, append-nil}
 use lib.ListN.{length, take, drop, length-drop}
 use lib.Seq.{take-all, drop-drop}
 use borrow.Author.Tests.{not-true, not-false}
-use Rattle.scan.specs.Part.{Place, indexOf}
-use Rattle.scan.proofs.Laws.{to-end}
-use Rattle.emit.specs.Text.{Written}
-use Rattle.emit.proofs.Laws.{written-append, written-nil}
-use Rattle.form.specs.Parts.{partsAt}
-use Rattle.form.proofs.Laws.{parts-last, parts-more}
-use Rattle.cutting.specs.Cut.{LineCut}
-use Rattle.sheet.specs.Sheet.{requestOf}
-use Rattle.cutting.specs.declared.Line.{Line}
-use Rattle.header.specs.declared.Plan.{Plan}
-use Rattle.tally.specs.declared.Counts.{Counts}
-use Rattle.beginning.specs.declared.Answered.{Answered}
-use Rattle.beginning.specs.declared.Stage.{Stage}
-use Rattle.beginning.specs.declared.Stage.the-variants.{Header, Rows, Over}
-use Rattle.beginning.specs.declared.Batch.{Batch}
-use Rattle.beginning.specs.declared.Lined.{Lined}
-use Rattle.tally.specs.Counts.{counting, withAnswer, timesFrom, countLines}
+use Rattle.scanner.specs.scan.Part.{Place, indexOf}
+use Rattle.scanner.proofs.scan.Laws.{to-end}
+use Rattle.writer.specs.emit.Text.{Written}
+use Rattle.writer.proofs.emit.Laws.{written-append, written-nil}
+use Rattle.token_syntax.specs.form.Parts.{partsAt}
+use Rattle.token_syntax.proofs.form.Laws.{parts-last, parts-more}
+use Rattle.sheet_input.specs.cutting.Cut.{LineCut}
+use Rattle.sheet_input.specs.sheet.Sheet.{requestOf}
+use Rattle.sheet_input.specs.declared.cutting.Line.{Line}
+use Rattle.sheet_input.specs.declared.header.Plan.{Plan}
+use Rattle.sheet_frame.specs.declared.tally.Counts.{Counts}
+use Rattle.sheet_frame.specs.declared.beginning.Answered.{Answered}
+use Rattle.sheet_frame.specs.declared.beginning.Stage.{Stage}
+use Rattle.sheet_frame.specs.declared.beginning.Stage.the-variants.{Header, Rows, Over}
+use Rattle.sheet_frame.specs.declared.beginning.Batch.{Batch}
+use Rattle.sheet_frame.specs.declared.beginning.Lined.{Lined}
+use Rattle.sheet_frame.specs.tally.Counts.{counting, withAnswer, timesFrom, countLines}
 use Rattle.batch.specs.declared.Lines.{Lines}
 use Rattle.batch.specs.declared.Passed.{Passed}
 use Rattle.batch.specs.Reply.{RowAnswered}
-use Rattle.beginning.specs.Beginning.{textsOf, numbersOf, headerBatch, HeaderAnswered}
+use Rattle.sheet_frame.specs.beginning.Beginning.{textsOf, numbersOf, headerBatch, HeaderAnswered}
 use Rattle.batch.specs.Batch.{Held, batchAfter, heldAfter, heldFrom, isHeader, heldLast, before, staged, Holds, LinesAnswered, among, passedIn, isRows, Finished}
 
 -- ---- a row

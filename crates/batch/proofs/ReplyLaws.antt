@@ -9,34 +9,35 @@ use lib.ListN.{length, take, drop, replicate, length-map}
 use lib.Seq.{take-take, take-append-seam, drop-append-seam}
 use lib.Dec.{leb}
 use borrow.Author.Tests.{ltb-false}
-use Rattle.emit.specs.Text.{Written}
-use Rattle.record.specs.Chain.{Chain}
-use Rattle.template.specs.declared.Class.{Class}
-use Rattle.template.specs.Drawn.{Placed, placed, bySn}
-use Rattle.template.specs.Written.{indicesOf, allIndices, indexOf, lineOf}
+use Rattle.writer.specs.emit.Text.{Written}
+use Rattle.chain_record.specs.plain.Chain.{Chain}
+use Rattle.template_rules.specs.declared.Class.{Class}
+use Rattle.template_rules.specs.Drawn.{Placed, placed, bySn}
+use Rattle.template_rules.specs.Written.{indicesOf, allIndices, indexOf, lineOf}
+use Rattle.chain_rules.proofs.chain.Lists.{or-left}
 use Rattle.judge.specs.Verdict.{Verdict, Refused, Drawable, verdict, tokens}
-use Rattle.listing.specs.declared.Listed.{Listed}
-use Rattle.listing.specs.Four.{four}
-use Rattle.listing.specs.Lists.{noList, listOf}
-use Rattle.template.proofs.Sorted.{length-sorted}
-use Rattle.rising.proofs.FourLaws.{four-held}
-use Rattle.listing.proofs.PlacedLaws.{places-few}
-use Rattle.answer.specs.declared.Answer.{Answer}
+use Rattle.chain_lists.specs.declared.listing.Listed.{Listed}
+use Rattle.chain_lists.specs.listing.Four.{four}
+use Rattle.chain_lists.specs.listing.Lists.{noList, listOf}
+use Rattle.template_rules.proofs.Sorted.{length-sorted}
+use Rattle.chain_lists.proofs.rising.FourLaws.{four-held}
+use Rattle.chain_lists.proofs.listing.PlacedLaws.{places-few}
+use Rattle.answers.specs.declared.answer.Answer.{Answer}
 use Rattle.forward.specs.Answer.{refusal, acceptance, short, answerTo, atStart, lineAfter, indexAfter, Answers}
 use Rattle.forward.specs.Call.{Kept, Called}
-use Rattle.header.specs.declared.Plan.{Plan}
-use Rattle.sheet.specs.declared.Asked.{Asked}
-use Rattle.sheet.specs.Cells.{cellOf, snCells}
-use Rattle.sheet.specs.Sheet.{requestOf, told}
-use Rattle.sheet.proofs.Requested.{asked-nothing, asked-request, asked-count}
-use Rattle.beginning.specs.declared.Answered.{Answered}
-use Rattle.rows.specs.Chains.{carbonsOf}
-use Rattle.reading.specs.Parting.{joined, led}
-use Rattle.emit.proofs.Laws.{written-append}
-use Rattle.rows.specs.Text.{ended, tabbed, chainsText, headText, rowText}
-use Rattle.beginning.specs.Beginning.{refused, replyText, UnreadableWritten}
-use Rattle.batch.specs.Reply.{carbonsIn, accepted, lineRoom, replyTo, answerText, indexTo, Drawn, RowAnswered}
-use Rattle.rows.proofs.Laws.{part-taken}
+use Rattle.sheet_input.specs.declared.header.Plan.{Plan}
+use Rattle.sheet_input.specs.declared.sheet.Asked.{Asked}
+use Rattle.sheet_input.specs.sheet.Cells.{cellOf, snCells}
+use Rattle.sheet_input.specs.sheet.Sheet.{requestOf, told}
+use Rattle.sheet_input.proofs.sheet.Requested.{asked-nothing, asked-request, asked-count}
+use Rattle.sheet_frame.specs.declared.beginning.Answered.{Answered}
+use Rattle.sheet_output.specs.rows.Chains.{carbonsOf}
+use Rattle.reading_rules.specs.reading.Parting.{joined, led}
+use Rattle.writer.proofs.emit.Laws.{written-append}
+use Rattle.sheet_output.specs.rows.Text.{ended, tabbed, chainsText, headText, rowText}
+use Rattle.sheet_frame.specs.beginning.Beginning.{refused, replyText, UnreadableWritten}
+use Rattle.batch.specs.Reply.{carbonsIn, accepted, lineRoom, replyTo, answerText, Drawn, RowAnswered}
+use Rattle.sheet_output.proofs.rows.Laws.{part-taken}
 
 -- ---- what is written of an answer
 
@@ -81,7 +82,7 @@ accepted-told c swap t ds xs is =
 
 -- a line slice of this length
 module _ (swap : Bool) (t xs is : List ℕ) (e : length xs ≡ lineRoom) where
-  told-by : (v : Verdict) → answerText (answerTo v swap t (length xs) (length is)) (lineAfter v swap t xs is) (indexAfter v swap t xs is)
+  told-by : (v : Verdict) → answerText (answerTo v swap t (length xs) (length is)) (lineAfter v swap t xs is) (indexAfter v swap t (length xs) is)
       ≡ replyText (replyTo v swap t (length is))
   told-by (Refused n p) = refused-told n p xs is
   told-by (Drawable c ds) = rw e (go (short c swap t ds lineRoom (length is)))
@@ -100,7 +101,7 @@ module _ (swap : Bool) (t xs is : List ℕ) (e : length xs ≡ lineRoom) where
       go true = refl
       go false = refl
 
-  index-by : (v : Verdict) → indexAfter v swap t xs is ≡ indexTo v swap t is
+  index-by : (v : Verdict) → indexAfter v swap t (length xs) is ≡ indexAfter v swap t lineRoom is
   index-by (Refused n p) = refl
   index-by (Drawable c ds) = rw e
 
@@ -121,14 +122,6 @@ module _ (swap : Bool) (t xs is : List ℕ) (e : length xs ≡ lineRoom) where
       answered v a (c .answers) (rw h at w)
 
 -- ---- an answer of the call by its number
-
-pub either-left : (a b : Bool) → (a || b) ≡ false → a ≡ false
-either-left true b e = absurd (true≢false e)
-either-left false b e = refl
-
-pub either-right : (a b : Bool) → (a || b) ≡ false → b ≡ false
-either-right true b e = absurd (true≢false e)
-either-right false b e = e
 
 -- an accepted request: its line stands at the start of the line slice
 pub record Stands (v : Verdict) (swap : Bool) (t xs is ys js : List ℕ) (a : Answer) : Type 0 where
@@ -156,7 +149,7 @@ module _ (swap : Bool) (t xs is : List ℕ) (e : length xs ≡ lineRoom) (ys js 
           record {
             line = lineOf c swap t ds;
             size = ap (λ (b : Answer). b .length) f;
-            room = ltb-false lineRoom (length (lineOf c swap t ds)) (either-left _ _ s);
+            room = ltb-false lineRoom (length (lineOf c swap t ds)) (or-left _ _ s);
             drawn = l;
             reply = (rw (s, f, i) (rw (chains-told c t ds (drop (length (indexOf c t ds)) is))));
           }

@@ -8,31 +8,31 @@ use mathlib.Core.List.{List, [], _∷_, map}
 use lib.ListN.{length, take, length-append}
 use lib.Dec.{ltb}
 use borrow.Author.Tests.{ltb-false}
-use Rattle.emit.specs.Text.{decimal}
-use Rattle.record.specs.Chain.{Chain}
-use Rattle.reading.specs.Parting.{joined}
-use Rattle.reading.proofs.PartingLaws.{All}
-use Rattle.template.specs.declared.Class.{Class}
-use Rattle.template.specs.Drawn.{Placed, placed, bySn}
-use Rattle.template.specs.Written.{indicesOf, allIndices, indexOf, lineOf}
-use Rattle.template.proofs.Sorted.{all-sorted, length-sorted}
-use Rattle.template.proofs.Theorem.{Accepted, indices-small}
-use Rattle.placed.proofs.Ready.{sns-few}
+use Rattle.writer.specs.emit.Text.{decimal}
+use Rattle.chain_record.specs.plain.Chain.{Chain}
+use Rattle.reading_rules.specs.reading.Parting.{joined}
+use Rattle.reading_rules.proofs.reading.PartingLaws.{All}
+use Rattle.template_rules.specs.declared.Class.{Class}
+use Rattle.template_rules.specs.Drawn.{Placed, placed, bySn}
+use Rattle.template_rules.specs.Written.{indicesOf, allIndices, indexOf, lineOf}
+use Rattle.template_rules.proofs.Sorted.{all-sorted, length-sorted}
+use Rattle.template_rules.proofs.Theorem.{Accepted, indices-small}
+use Rattle.placement.proofs.chain_notes.Ready.{sns-few}
 use Rattle.judge.specs.Verdict.{Verdict, Refused, Drawable, verdict, isRefusal}
 use Rattle.judge.proofs.Accepted.{judged-accepted, refused-number}
-use Rattle.listing.proofs.PlacedLaws.{places-few}
+use Rattle.chain_lists.proofs.listing.PlacedLaws.{places-few}
 use Rattle.forward.specs.Answer.{short}
-use Rattle.header.specs.declared.Plan.{Plan}
-use Rattle.sheet.specs.declared.Asked.{Asked}
-use Rattle.sheet.specs.Cells.{cellOf, snCells}
-use Rattle.sheet.specs.Sheet.{requestOf, told}
-use Rattle.sheet.proofs.Requested.{asked-nothing, asked-request, asked-count}
-use Rattle.rows.specs.Text.{chainText, chainsText}
-use Rattle.tally.specs.Counts.{answers}
-use Rattle.heads.proofs.Room.{digits-few, total, joined-total, numbers-total, row-length}
-use Rattle.beginning.specs.Beginning.{refused, replyText}
+use Rattle.sheet_input.specs.declared.header.Plan.{Plan}
+use Rattle.sheet_input.specs.declared.sheet.Asked.{Asked}
+use Rattle.sheet_input.specs.sheet.Cells.{cellOf, snCells}
+use Rattle.sheet_input.specs.sheet.Sheet.{requestOf, told}
+use Rattle.sheet_input.proofs.sheet.Requested.{asked-nothing, asked-request, asked-count}
+use Rattle.sheet_output.specs.rows.Text.{chainText, chainsText}
+use Rattle.sheet_frame.specs.tally.Counts.{answers}
+use Rattle.sheet_frame.proofs.row_heads.Room.{digits-few, total, joined-total, numbers-total, row-length}
+use Rattle.sheet_frame.specs.beginning.Beginning.{refused, replyText}
 use Rattle.batch.specs.Reply.{carbonsIn, accepted, lineRoom, replyTo, replyOf}
-use Rattle.batch.proofs.ReplyLaws.{either-left, either-right}
+use Rattle.chain_rules.proofs.chain.Lists.{or-left, or-right}
 use Rattle.batch.proofs.Tallied.{refusal-small}
 
 -- ---- the chains
@@ -61,8 +61,8 @@ accepted-room : (c : Class) (swap : Bool) (t : List ℕ) (ds : List Chain) (line
 unfolding replyText accepted short chainsText indexOf
 accepted-room c swap t ds line index a e =
     let ps : List Placed = bySn (placed c t ds) in
-    let l : length (lineOf c swap t ds) ≤ line = ltb-false line (length (lineOf c swap t ds)) (either-left _ _ e) in
-    let i : length (allIndices ps) ≤ index = ltb-false index (length (allIndices ps)) (either-right (ltb line (length (lineOf c swap t ds))) _ e) in
+    let l : length (lineOf c swap t ds) ≤ line = ltb-false line (length (lineOf c swap t ds)) (or-left _ _ e) in
+    let i : length (allIndices ps) ≤ index = ltb-false index (length (allIndices ps)) (or-right (ltb line (length (lineOf c swap t ds))) _ e) in
     let few : length ps ≤ 4 = omega (arith, length-sorted (placed c t ds), places-few c t ds) in
     let w : total (map chainText (map carbonsIn ps)) ≤ 3 * length ps + 5 * length (allIndices ps)
     = chains-total ps (all-sorted (λ p. (1 ≤ p .sn) × (p .sn ≤ 4)) (placed c t ds) (sns-few c t ds))

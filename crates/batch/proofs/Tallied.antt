@@ -8,17 +8,17 @@ use mathlib.Core.List.{List, [], _∷_}
 use lib.ListN.{length, take}
 use lib.Dec.{eqb}
 use borrow.Author.Tests.{eqb-true}
-use Rattle.chain.specs.Lists.{anyOf}
+use Rattle.chain_rules.specs.chain.Lists.{anyOf}
 use Rattle.judge.specs.Verdict.{Verdict, Refused, Drawable, verdict, isRefusal}
 use Rattle.judge.proofs.Accepted.{refused-number}
 use Rattle.forward.specs.Answer.{short}
-use Rattle.header.specs.declared.Plan.{Plan}
-use Rattle.sheet.specs.declared.Asked.{Asked}
-use Rattle.sheet.specs.Cells.{cellOf, snCells}
-use Rattle.sheet.specs.Sheet.{requestOf, told}
-use Rattle.sheet.proofs.Requested.{asked-nothing, asked-request, asked-count}
-use Rattle.tally.specs.Counts.{answers}
-use Rattle.beginning.specs.Beginning.{refused}
+use Rattle.sheet_input.specs.declared.header.Plan.{Plan}
+use Rattle.sheet_input.specs.declared.sheet.Asked.{Asked}
+use Rattle.sheet_input.specs.sheet.Cells.{cellOf, snCells}
+use Rattle.sheet_input.specs.sheet.Sheet.{requestOf, told}
+use Rattle.sheet_input.proofs.sheet.Requested.{asked-nothing, asked-request, asked-count}
+use Rattle.sheet_frame.specs.tally.Counts.{answers}
+use Rattle.sheet_frame.specs.beginning.Beginning.{refused}
 use Rattle.batch.specs.Reply.{accepted, lineRoom, replyTo, replyOf}
 
 -- ---- every answer has a count

@@ -8,18 +8,18 @@ use mathlib.Core.List.{List, [], _∷_, _++_, map, append-assoc, append-nil}
 use lib.ListN.{length, drop, length-append, length-drop}
 use lib.Dec.{ltb}
 use borrow.Author.Tests.{ltb-false}
-use Rattle.template.specs.Written.{lineOf, indexOf}
+use Rattle.template_rules.specs.Written.{lineOf, indexOf}
 use Rattle.judge.specs.Verdict.{Verdict, Refused, Drawable, verdict}
-use Rattle.forward.specs.Answer.{short, atStart}
-use Rattle.form.specs.Parts.{partsAt}
-use Rattle.header.specs.declared.Plan.{Plan}
-use Rattle.sheet.specs.Header.{planOf}
-use Rattle.sheet.specs.Sheet.{Row, Unreadable, Asks, requestOf}
-use Rattle.beginning.specs.declared.Stage.the-variants.{Rows, Over}
-use Rattle.tally.specs.Counts.{counting, noTimes, timesFrom, timesOf, countLines}
-use Rattle.beginning.specs.Beginning.{Reply, refused, replyText, textsOf, numbersOf, titles, noBatch}
-use Rattle.batch.specs.Reply.{lineRoom, replyOf, indexTo, indexIn}
-use Rattle.batch.proofs.ReplyLaws.{either-right}
+use Rattle.forward.specs.Answer.{short, atStart, indexAfter}
+use Rattle.token_syntax.specs.form.Parts.{partsAt}
+use Rattle.sheet_input.specs.declared.header.Plan.{Plan}
+use Rattle.sheet_input.specs.sheet.Header.{planOf}
+use Rattle.sheet_input.specs.sheet.Sheet.{Row, Unreadable, Asks, requestOf}
+use Rattle.sheet_frame.specs.declared.beginning.Stage.the-variants.{Rows, Over}
+use Rattle.sheet_frame.specs.tally.Counts.{counting, noTimes, timesFrom, timesOf, countLines}
+use Rattle.sheet_frame.specs.beginning.Beginning.{Reply, refused, replyText, textsOf, numbersOf, titles, noBatch}
+use Rattle.batch.specs.Reply.{lineRoom, replyOf, indexIn}
+use Rattle.chain_rules.proofs.chain.Lists.{or-right}
 use Rattle.batch.specs.Batch.{rowsOf, repliesTo, repliesIn, batchText, Held, batchAfter, heldAfter, heldLast, heldEnd, before}
 
 -- ---- the index slice keeps its length
@@ -28,14 +28,14 @@ start-length : (text xs : List ℕ) → length text ≤ length xs → length (at
 unfolding atStart
 start-length text xs h = omega (arith, length-append text (drop (length text) xs), length-drop (length text) xs)
 
-index-to : (is : List ℕ) (v : Verdict) (swap : Bool) (t : List ℕ) → length (indexTo v swap t is) ≡ length is
+index-to : (is : List ℕ) (v : Verdict) (swap : Bool) (t : List ℕ) → length (indexAfter v swap t lineRoom is) ≡ length is
 unfolding short
 index-to is (Refused n p) swap t = refl
 index-to is (Drawable c ds) swap t = go (short c swap t ds lineRoom (length is)) refl
   where
     go : (b : Bool) → short c swap t ds lineRoom (length is) ≡ b → length (cond b is (atStart (indexOf c t ds) is)) ≡ length is
     go true e = refl
-    go false e = start-length (indexOf c t ds) is (ltb-false (length is) (length (indexOf c t ds)) (either-right (ltb lineRoom (length (lineOf c swap t ds))) (ltb (length is) (length (indexOf c t ds))) e))
+    go false e = start-length (indexOf c t ds) is (ltb-false (length is) (length (indexOf c t ds)) (or-right (ltb lineRoom (length (lineOf c swap t ds))) (ltb (length is) (length (indexOf c t ds))) e))
 
 pub index-length : (is : List ℕ) (w : Row) → length (indexIn w is) ≡ length is
 index-length is Unreadable = refl

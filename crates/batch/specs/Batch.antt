@@ -5,18 +5,18 @@ use mathlib.Core.Path.{_≡_}
 use mathlib.Core.Bool.{Bool, true, false, cond}
 use mathlib.Core.List.{List, [], _∷_, _++_, map}
 use lib.ListN.{length, drop}
-use Rattle.emit.specs.Text.{Written}
-use Rattle.form.specs.Parts.{partsAt}
-use Rattle.header.specs.declared.Plan.{Plan}
-use Rattle.sheet.specs.Header.{planOf}
-use Rattle.sheet.specs.Sheet.{requestOf}
-use Rattle.beginning.specs.declared.Stage.{Stage}
-use Rattle.beginning.specs.declared.Stage.the-variants.{Header, Rows, Over}
-use Rattle.beginning.specs.declared.Batch.{Batch}
+use Rattle.writer.specs.emit.Text.{Written}
+use Rattle.token_syntax.specs.form.Parts.{partsAt}
+use Rattle.sheet_input.specs.declared.header.Plan.{Plan}
+use Rattle.sheet_input.specs.sheet.Header.{planOf}
+use Rattle.sheet_input.specs.sheet.Sheet.{requestOf}
+use Rattle.sheet_frame.specs.declared.beginning.Stage.{Stage}
+use Rattle.sheet_frame.specs.declared.beginning.Stage.the-variants.{Header, Rows, Over}
+use Rattle.sheet_frame.specs.declared.beginning.Batch.{Batch}
 use Rattle.batch.specs.declared.Lines.{Lines}
 use Rattle.batch.specs.declared.Passed.{Passed}
-use Rattle.tally.specs.Counts.{counting, timesFrom, timesOf, countLines}
-use Rattle.beginning.specs.Beginning.{Reply, refused, textsOf, numbersOf, titles, headerReplies}
+use Rattle.sheet_frame.specs.tally.Counts.{counting, timesFrom, timesOf, countLines}
+use Rattle.sheet_frame.specs.beginning.Beginning.{Reply, refused, textsOf, numbersOf, titles, headerReplies}
 use Rattle.batch.specs.Reply.{replyOf, indexIn}
 
 -- ---- the whole batch

@@ -5,19 +5,19 @@ use mathlib.Core.Path.{_≡_}
 use mathlib.Core.Bool.{Bool, cond}
 use mathlib.Core.List.{List, map}
 use lib.ListN.{length, take}
-use Rattle.emit.specs.Text.{Written}
-use Rattle.record.specs.Chain.{Chain}
-use Rattle.template.specs.declared.Class.{Class}
-use Rattle.template.specs.Drawn.{Placed, placed, bySn}
-use Rattle.template.specs.Written.{indicesOf, indexOf, lineOf}
+use Rattle.writer.specs.emit.Text.{Written}
+use Rattle.chain_record.specs.plain.Chain.{Chain}
+use Rattle.template_rules.specs.declared.Class.{Class}
+use Rattle.template_rules.specs.Drawn.{Placed, placed, bySn}
+use Rattle.template_rules.specs.Written.{indicesOf, indexOf, lineOf}
 use Rattle.judge.specs.Verdict.{Verdict, Refused, Drawable, verdict}
-use Rattle.answer.specs.declared.Answer.{Answer}
-use Rattle.forward.specs.Answer.{short, atStart}
-use Rattle.sheet.specs.Sheet.{Row, Unreadable, Asks}
-use Rattle.beginning.specs.declared.Answered.{Answered}
-use Rattle.beginning.specs.Beginning.{Reply, refused, replyText}
-use Rattle.rows.specs.Chains.{carbonsOf, restText}
-use Rattle.rows.specs.Text.{Carbons, headText, rowText}
+use Rattle.answers.specs.declared.answer.Answer.{Answer}
+use Rattle.forward.specs.Answer.{short, indexAfter}
+use Rattle.sheet_input.specs.sheet.Sheet.{Row, Unreadable, Asks}
+use Rattle.sheet_frame.specs.declared.beginning.Answered.{Answered}
+use Rattle.sheet_frame.specs.beginning.Beginning.{Reply, refused, replyText}
+use Rattle.sheet_output.specs.rows.Chains.{carbonsOf, restText}
+use Rattle.sheet_output.specs.rows.Text.{Carbons, headText, rowText}
 
 -- a chain that is drawn, with its indices
 unfoldable pub carbonsIn : Placed → Carbons
@@ -45,15 +45,10 @@ replyOf (Asks class swap t ts) index = replyTo (verdict class t (length ts) ts) 
 abbrev pub answerText : Answer → List ℕ → List ℕ → List ℕ
 answerText a line index = rowText (a .number) (a .token) (take (a .length) line) (carbonsOf (take (a .lists .count) (a .lists .items)) index)
 
--- the index slice afterwards: a refused request leaves it as it was
-abbrev pub indexTo : Verdict → Bool → List ℕ → List ℕ → List ℕ
-indexTo (Refused n p) swap t index = index
-indexTo (Drawable c ds) swap t index = cond (short c swap t ds lineRoom (length index)) index (atStart (indexOf c t ds) index)
-
--- and so does an unreadable row, which is not drawn
+-- the index slice afterwards: an unreadable row, which is not drawn, leaves it as it was
 abbrev pub indexIn : Row → List ℕ → List ℕ
 indexIn Unreadable index = index
-indexIn (Asks class swap t ts) index = indexTo (verdict class t (length ts) ts) swap t index
+indexIn (Asks class swap t ts) index = indexAfter (verdict class t (length ts) ts) swap t lineRoom index
 
 -- ---- contracts
 
@@ -67,7 +62,7 @@ pub record Around (os : List ℕ) (at n : ℕ) (cs : List Carbons) (ps : List �
 pub record Drawn (v : Verdict) (swap : Bool) (t is os : List ℕ) (at : ℕ) (js ps : List ℕ) (r : Answered) : Type 0 where
   pub text : Written os at (replyText (replyTo v swap t (length is))) ps (r .next)
   pub answer : r .number ≡ replyTo v swap t (length is) .number
-  pub index : js ≡ indexTo v swap t is
+  pub index : js ≡ indexAfter v swap t lineRoom is
 
 -- what a row leaves
 pub record RowAnswered (w : Row) (is os : List ℕ) (at : ℕ) (js ps : List ℕ) (r : Answered) : Type 0 where

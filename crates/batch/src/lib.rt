@@ -1,38 +1,39 @@
 // A sheet of requests answered row by row: each row is taken apart, drawn, and written as a row of the output; the answers are counted. What
-// is written of a row is said by specs/Reply.antt, and of a sheet by specs/Batch.antt.
+// is written of a row is said by specs/Reply.antt, and of a sheet by specs/Batch.antt. Every input has an output; what a row is refused for,
+// 42 among it, is written in its row.
+use chain_lists::Lists;
+use drawn_chain::LIST_ROOM;
+use forward::Answer;
+pub use sheet_frame::Answered;
+pub use sheet_frame::Batch;
+use sheet_frame::Counts;
+pub use sheet_frame::Lined;
+pub use sheet_frame::Stage;
+use sheet_frame::answer_header;
+use sheet_frame::count_in;
+use sheet_frame::put_count_lines;
+use sheet_frame::put_head;
+pub use sheet_frame::put_titles;
+use sheet_frame::put_unreadable;
+use sheet_input::Plan;
+pub use sheet_input::keep;
+use sheet_output::PAIRS;
+use sheet_output::fill_pairs;
+use sheet_output::put_rest;
+use sheet_output::put_row_by;
 ghost use mathlib.Core.Path.{_≡_};
 ghost use Prim.Native.Nat.{min, _+_, _≤_};
 ghost use lib.ListN.{length, take};
-ghost use Rattle.emit.specs.Text.{Written};
+ghost use Rattle.writer.specs.emit.Text.{Written};
 ghost use Rattle.judge.specs.Verdict.{tokens, verdict};
-ghost use Rattle.cutting.specs.Cut.{Cut};
-ghost use Rattle.sheet.specs.Sheet.{requestOf};
-ghost use Rattle.beginning.specs.Beginning.{refused, replyText};
-ghost use Rattle.rows.specs.Chains.{carbonsOf};
+ghost use Rattle.sheet_input.specs.cutting.Cut.{Cut};
+ghost use Rattle.sheet_input.specs.sheet.Sheet.{requestOf};
+ghost use Rattle.sheet_frame.specs.beginning.Beginning.{refused, replyText};
+ghost use Rattle.sheet_output.specs.rows.Chains.{carbonsOf};
 ghost use Rattle.batch.specs.Reply.{answerText, Around, Drawn, RowAnswered};
-ghost use Rattle.pairs.specs.Pairs.{Pairs};
-ghost use Rattle.beginning.specs.declared.Stage.the-variants.{Rows};
+ghost use Rattle.sheet_output.specs.digit_pairs.Pairs.{Pairs};
+ghost use Rattle.sheet_frame.specs.declared.beginning.Stage.the-variants.{Rows};
 ghost use Rattle.batch.specs.Batch.{heldAfter, before, staged, Holds, LinesAnswered, among, passedIn, isRows, isHeader, heldLast, Finished};
-pub use beginning::Answered;
-pub use beginning::Batch;
-pub use beginning::Lined;
-pub use beginning::Stage;
-use beginning::answer_header;
-pub use beginning::put_titles;
-use beginning::put_unreadable;
-use drawable::LIST_ROOM;
-use forward::Answer;
-use listing::Lists;
-use pairs::PAIRS;
-use pairs::fill_pairs;
-pub use remnant::keep;
-use rows::put_head;
-use rows::put_rest;
-use rows::put_row_by;
-use sheet::Plan;
-use tally::Counts;
-use tally::count_in;
-use tally::put_count_lines;
 
 // The length of the line slice.
 pub const LINE: usize = 65536;
@@ -81,7 +82,7 @@ fn put_refused(out: &mut [u8], at: usize, number: u16, token: usize) -> usize
     ensures { λ r. ⌜ Written (now (out .entry)) at (replyText (refused number token)) (now (out .exit)) r ⌝ }
 {
     let p = put_head(out, at, number, token);
-    emit::put_text(out, p, b"\t\n")
+    writer::put_text(out, p, b"\t\n")
 }
 
 // The row of an accepted request whose line, of so many bytes, stands in its place already: its head, and what follows the line.
@@ -96,7 +97,7 @@ fn put_around(
     requires { ⌜ (at + 4 + size ≤ length (now out)) × Pairs (now pairs) ⌝ }
     ensures { λ r. ⌜ Around (now (out .entry)) at size (carbonsOf (take (lists .count) (lists .items)) (now (index .entry))) (now (out .exit)) r ⌝ }
 {
-    emit::put_text(out, at, b"0\t0\t");
+    writer::put_text(out, at, b"0\t0\t");
     put_rest(out, at + HEAD + size, lists, index, pairs)
 }
 
@@ -159,16 +160,16 @@ fn answer_cut(
     requires { ⌜ Cut (now row) (now starts) cells × Pairs (now pairs) ⌝ }
     ensures { λ r. ⌜ RowAnswered (requestOf plan (now (row .entry))) (now (index .entry)) (now (out .entry)) at (now (index .exit)) (now (out .exit)) r ⌝ }
 {
-    let sn1 = sheet::cell_of(plan, row, cells, starts, sheet::SN1);
-    let sn2 = sheet::cell_of(plan, row, cells, starts, sheet::SN2);
-    let sn3 = sheet::cell_of(plan, row, cells, starts, sheet::SN3);
-    let sn4 = sheet::cell_of(plan, row, cells, starts, sheet::SN4);
-    let asked = sheet::read_cut(plan, row, cells, starts, sn1, sn2, sn3, sn4);
+    let sn1 = sheet_input::cell_of(plan, row, cells, starts, sheet_input::SN1);
+    let sn2 = sheet_input::cell_of(plan, row, cells, starts, sheet_input::SN2);
+    let sn3 = sheet_input::cell_of(plan, row, cells, starts, sheet_input::SN3);
+    let sn4 = sheet_input::cell_of(plan, row, cells, starts, sheet_input::SN4);
+    let asked = sheet_input::read_cut(plan, row, cells, starts, sn1, sn2, sn3, sn4);
     if !asked.readable {
         return put_unreadable(out, at);
     }
-    let class = sheet::cell_of(plan, row, cells, starts, sheet::CLASS);
-    let tail = sheet::cell_of(plan, row, cells, starts, sheet::TAIL);
+    let class = sheet_input::cell_of(plan, row, cells, starts, sheet_input::CLASS);
+    let tail = sheet_input::cell_of(plan, row, cells, starts, sheet_input::TAIL);
     if out.len() < HEAD + LINE {
         return answer_apart(
             class,
@@ -232,8 +233,8 @@ fn answer_cut(
 pub fn answer_row(plan: Plan, row: &[u8], index: &mut [u16], out: &mut [u8], at: usize) -> Answered
     ensures { λ r. ⌜ RowAnswered (requestOf plan (now (row .entry))) (now (index .entry)) (now (out .entry)) at (now (index .exit)) (now (out .exit)) r ⌝ }
 {
-    let mut starts = [0usize; sheet::STARTS];
-    let cells = sheet::cut(row, &mut starts);
+    let mut starts = [0usize; sheet_input::STARTS];
+    let cells = sheet_input::cut(row, &mut starts);
     let none = [0u16; 1];
     let mut lists = [0u64; LIST_ROOM];
     answer_cut(
@@ -314,8 +315,8 @@ fn answer_rows(
     let mut t = text;
     let mut p = at;
     while p <= limit {
-        let mut starts = [0usize; sheet::STARTS];
-        let found = sheet::cut_line(t, &mut starts);
+        let mut starts = [0usize; sheet_input::STARTS];
+        let found = sheet_input::cut_line(t, &mut starts);
         let n = found.end;
         if n == t.len() {
             return Passed {
@@ -362,7 +363,7 @@ fn answer_each(
     let mut t = text;
     let mut p = at;
     while p <= limit {
-        let n = scan::find(t, b'\n');
+        let n = scanner::find(t, b'\n');
         if n == t.len() {
             return Lines {
                 batch: b,
@@ -440,7 +441,7 @@ fn answer_first(
             whole: false,
         };
     }
-    let n = scan::find(text, b'\n');
+    let n = scanner::find(text, b'\n');
     if n == text.len() {
         return Lines {
             batch,

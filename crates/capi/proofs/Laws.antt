@@ -3,11 +3,11 @@ use Prim.Native.Nat.{ℕ, min}
 use mathlib.Core.Path.{_≡_, refl}
 use mathlib.Core.List.{List, [], _∷_}
 use lib.ListN.{getD}
-use Rattle.shown.specs.declared.Site.{Site}
-use Rattle.listing.specs.declared.Listed.{Listed}
-use Rattle.listing.specs.Lists.{noList}
-use Rattle.listing.specs.Sites.{noSite}
-use Rattle.answer.specs.declared.Answer.{Answer}
+use Rattle.line_parts.specs.declared.shown.Site.{Site}
+use Rattle.chain_lists.specs.declared.listing.Listed.{Listed}
+use Rattle.chain_lists.specs.listing.Lists.{noList}
+use Rattle.chain_lists.specs.listing.Sites.{noSite}
+use Rattle.answers.specs.declared.answer.Answer.{Answer}
 use Rattle.capi.specs.Report.{listPair, sitePair, reportOf}
 
 pub report-is : (x : Answer) {k l m n : ℕ} {a b c d : Listed} {p q s t : Site} → k ≡ min (x .token) 4294967295 → l ≡ min (x .length) 4294967295

@@ -4,14 +4,14 @@ use mathlib.Core.Path.{_≡_}
 use mathlib.Core.Bool.{Bool}
 use mathlib.Core.List.{List, [], _∷_, _++_}
 use lib.ListN.{getD}
-use Rattle.shown.specs.declared.Site.{Site}
-use Rattle.listing.specs.declared.Listed.{Listed}
-use Rattle.listing.specs.declared.Lists.{Lists}
-use Rattle.sn_sites.specs.declared.Sites.{Sites}
-use Rattle.listing.specs.Lists.{noList}
-use Rattle.listing.specs.Sites.{noSite}
+use Rattle.line_parts.specs.declared.shown.Site.{Site}
+use Rattle.chain_lists.specs.declared.listing.Listed.{Listed}
+use Rattle.chain_lists.specs.declared.listing.Lists.{Lists}
+use Rattle.chain_lists.specs.declared.sn_sites.Sites.{Sites}
+use Rattle.chain_lists.specs.listing.Lists.{noList}
+use Rattle.chain_lists.specs.listing.Sites.{noSite}
 use Rattle.judge.specs.Verdict.{Verdict}
-use Rattle.answer.specs.declared.Answer.{Answer}
+use Rattle.answers.specs.declared.answer.Answer.{Answer}
 use Rattle.forward.specs.Call.{Called}
 
 -- a count as a number of 32 bits, the largest for all that do not fit

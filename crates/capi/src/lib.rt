@@ -1,19 +1,19 @@
 // The call for programs in C and for whatever calls as C does: `perlwynos_draw` of include/perlwynos.h. A slice crosses as its pointer and its
 // length, the swap flag as a byte, and the answer as 21 numbers. What is reported is said by specs/Report.antt; it is what `forward::draw`
 // answers and nothing else.
+use chain_lists::Listed;
+use chain_lists::Lists;
+use chain_lists::Sites;
 use forward::Answer;
-use listing::Listed;
-use listing::Lists;
-use listing::Sites;
-use shown::Site;
+use line_parts::Site;
 ghost use mathlib.Core.Path.{_≡_};
 ghost use mathlib.Core.Bool.{not};
 ghost use Prim.Native.Nat.{_<_, min};
 ghost use lib.Dec.{eqb};
 ghost use lib.ListN.{getD};
 ghost use Rattle.judge.specs.Verdict.{verdict, tokens};
-ghost use Rattle.listing.specs.Lists.{noList};
-ghost use Rattle.listing.specs.Sites.{noSite};
+ghost use Rattle.chain_lists.specs.listing.Lists.{noList};
+ghost use Rattle.chain_lists.specs.listing.Sites.{noSite};
 ghost use Rattle.capi.specs.Report.{reportOf, Reported};
 
 // The numbers of a report.

@@ -5,7 +5,7 @@ use native.Mathlib.Omega.{arith}
 use mathlib.Core.Path.{_≡_, refl, sym}
 use mathlib.Core.List.{List, [], _∷_}
 use lib.ListN.{length, replicate, length-replicate}
-use Rattle.drawable.specs.Drawn.{Drawn, bondsIn, groupsIn, bondsDrawn, groupsDrawn, ringsDrawn}
+use Rattle.drawn_chain.specs.drawable.Drawn.{Drawn, bondsIn, groupsIn, bondsDrawn, groupsDrawn, ringsDrawn}
 use Rattle.carbons.specs.ByCarbon.{doubleAt, bridgeAt, risesFrom, Noughts, PlainBonds, BondsBy}
 use Rattle.carbons.specs.Tokens.{Grouped}
 use Rattle.carbons.proofs.BondLaws.{where-none, marks-before}

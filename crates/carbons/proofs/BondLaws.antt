@@ -10,15 +10,15 @@ use lib.Dec.{eqb, ltb}
 use lib.ListN.{length, drop, getD, set, replicate, getD-replicate, length-set, length-replicate}
 use lib.Seq.{set-out, getD-set-same, getD-set-other}
 use borrow.Author.Tests.{lt-ltb, le-ltb, eq-eqb, ne-eqb, ltb-true, eqb-true, eqb-false}
-use Rattle.record.specs.declared.Geometry.{Geometry}
-use Rattle.record.specs.declared.Geometry.the-variants.{Unstated, Cis, Trans}
-use Rattle.record.specs.declared.Bridge.the-variants.{Epoxide, Carbocycle}
-use Rattle.record.specs.declared.DbPos.{DbPos}
-use Rattle.record.specs.declared.Ring.{Ring}
-use Rattle.chain.specs.Lists.{anyOf}
-use Rattle.chain.specs.Refusals.{isEpoxide}
-use Rattle.chain.specs.Bonds.{openMark, opensDown, closeMark, closeByte, markBond, markFrom, geometryAt, plainBond, bridged, double}
-use Rattle.drawable.specs.Drawn.{Length, noBond, noRing}
+use Rattle.chain_record.specs.declared.plain.Geometry.{Geometry}
+use Rattle.chain_record.specs.declared.plain.Geometry.the-variants.{Unstated, Cis, Trans}
+use Rattle.chain_record.specs.declared.plain.Bridge.the-variants.{Epoxide, Carbocycle}
+use Rattle.chain_record.specs.declared.plain.DbPos.{DbPos}
+use Rattle.chain_record.specs.declared.plain.Ring.{Ring}
+use Rattle.chain_rules.specs.chain.Lists.{anyOf}
+use Rattle.chain_rules.specs.chain.Refusals.{isEpoxide}
+use Rattle.chain_rules.specs.chain.Bonds.{openMark, opensDown, closeMark, closeByte, markBond, markFrom, geometryAt, plainBond, bridged, double}
+use Rattle.drawn_chain.specs.drawable.Drawn.{Length, noBond, noRing}
 use Rattle.carbons.specs.ByCarbon.{geometryByte, geometryOf, doubleAt, bridgeAt, ringOn, risesFrom, SetWhere, Geometries, Marks}
 use Rattle.carbons.proofs.Fronts.{next-of, back-one, none-left}
 

@@ -10,12 +10,12 @@ use mathlib.Core.List.{List, []}
 use lib.Dec.{eqb, ltb}
 use lib.ListN.{length, getD, set}
 use lib.Seq.{getD-take, getD-set-same, getD-set-other, set-out}
-use Rattle.record.specs.declared.Geometry.{Geometry}
-use Rattle.record.specs.declared.Geometry.the-variants.{Unstated, Cis, Trans}
-use Rattle.record.specs.declared.DbPos.{DbPos}
-use Rattle.record.specs.declared.Ring.{Ring}
-use Rattle.chain.specs.Lists.{anyOf}
-use Rattle.chain.specs.Bonds.{empty, up, plainBond, plainBonds, geometryAt, openMark, opensDown, closeByte, closeMark, markBond, markFrom}
+use Rattle.chain_record.specs.declared.plain.Geometry.{Geometry}
+use Rattle.chain_record.specs.declared.plain.Geometry.the-variants.{Unstated, Cis, Trans}
+use Rattle.chain_record.specs.declared.plain.DbPos.{DbPos}
+use Rattle.chain_record.specs.declared.plain.Ring.{Ring}
+use Rattle.chain_rules.specs.chain.Lists.{anyOf}
+use Rattle.chain_rules.specs.chain.Bonds.{empty, up, plainBond, plainBonds, geometryAt, openMark, opensDown, closeByte, closeMark, markBond, markFrom}
 use Rattle.carbons.specs.ByCarbon.{BondsBy}
 use Rattle.carbons.proofs.TokenLaws.{values-at}
 

@@ -7,7 +7,7 @@ use mathlib.Core.Path.{_≡_, refl, sym, ap, _∙_}
 use mathlib.Core.List.{List, [], _∷_}
 use lib.ListN.{length, drop, getD, drop-of-length-le}
 use lib.Seq.{drop-cons}
-use Rattle.drawable.specs.Drawn.{Length}
+use Rattle.drawn_chain.specs.drawable.Drawn.{Length}
 
 module _ {A : Type 0} {room n : ℕ} {l : List A} (s : Length room l n) where
   -- the element at a place that is within the list

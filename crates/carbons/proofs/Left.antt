@@ -4,8 +4,8 @@ use Prim.Native.Nat.{ℕ, _<_, _^_}
 use mathlib.Core.Path.{_≡_, refl, sym, ap, _∙_}
 use mathlib.Core.List.{List, [], _∷_, _++_, append-nil, append-assoc}
 use lib.ListN.{length}
-use Rattle.emit.specs.Text.{Written}
-use Rattle.emit.proofs.Laws.{written-nil, written-append, written-length}
+use Rattle.writer.specs.emit.Text.{Written}
+use Rattle.writer.proofs.emit.Laws.{written-nil, written-append, written-length}
 
 -- of the text ts, to be written in xs at the place `at`, us is left; ys holds the rest of it, and p is the place after that
 pub record Left (xs : List ℕ) (at : ℕ) (ts : List ℕ) (ys : List ℕ) (p : ℕ) (us : List ℕ) : Type 0 where

@@ -9,12 +9,12 @@ use mathlib.Core.List.{List, [], _∷_, map}
 use lib.Dec.{eqb, leb}
 use lib.ListN.{length, take, drop, getD, set, length-set, length-map, length-take, length-drop, List·getD-map}
 use borrow.Author.Tests.{leb-true, leb-false, eqb-true}
-use Rattle.groups.specs.Groups.{Entry, entries, blank, entryAt}
-use Rattle.groups.proofs.Laws.{every, every-at}
-use Rattle.record.specs.declared.Mod.{Mod}
-use Rattle.record.specs.declared.Ring.{Ring}
-use Rattle.codes.specs.Codes.{groupIn}
-use Rattle.drawable.specs.Drawn.{Length, groupsIn, noGroup}
+use Rattle.group_table.specs.groups.Groups.{Entry, entries, blank, entryAt}
+use Rattle.group_table.proofs.groups.Laws.{every, every-at}
+use Rattle.chain_record.specs.declared.plain.Mod.{Mod}
+use Rattle.chain_record.specs.declared.plain.Ring.{Ring}
+use Rattle.chain_record.specs.codes.Codes.{groupIn}
+use Rattle.drawn_chain.specs.drawable.Drawn.{Length, groupsIn, noGroup}
 use Rattle.carbons.specs.ByCarbon.{groupOn, ringOn, carbonylOn, busyAt, RowAtoms, groupAtoms, loadAt, Added, Busy}
 use Rattle.carbons.proofs.Fronts.{back-one, none-left}
 use Rattle.carbons.proofs.BondLaws.{stored}

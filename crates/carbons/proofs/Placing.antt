@@ -9,12 +9,12 @@ use lib.Dec.{eqb, ltb}
 use lib.ListN.{length, drop, getD, set, length-set}
 use lib.Seq.{set-out, set-set, set-comm, getD-set-same, getD-set-other}
 use borrow.Author.Tests.{lt-ltb, ltb-true, ltb-false, eqb-true, eqb-false}
-use Rattle.record.specs.declared.Geometry.{Geometry}
-use Rattle.record.specs.declared.Geometry.the-variants.{Unstated, Cis, Trans}
-use Rattle.record.specs.declared.DbPos.{DbPos}
-use Rattle.chain.specs.Lists.{anyOf}
-use Rattle.chain.specs.Bonds.{openMark, opensDown, closeMark, closeByte, markBond, markFrom}
-use Rattle.drawable.specs.Drawn.{Length, noBond}
+use Rattle.chain_record.specs.declared.plain.Geometry.{Geometry}
+use Rattle.chain_record.specs.declared.plain.Geometry.the-variants.{Unstated, Cis, Trans}
+use Rattle.chain_record.specs.declared.plain.DbPos.{DbPos}
+use Rattle.chain_rules.specs.chain.Lists.{anyOf}
+use Rattle.chain_rules.specs.chain.Bonds.{openMark, opensDown, closeMark, closeByte, markBond, markFrom}
+use Rattle.drawn_chain.specs.drawable.Drawn.{Length, noBond}
 use Rattle.carbons.specs.ByCarbon.{doubleAt, risesFrom, SetWhere, Noughts, DoublesPut}
 use Rattle.carbons.proofs.Fronts.{next-of, none-left}
 use Rattle.carbons.proofs.Loads.{past}

@@ -11,17 +11,17 @@ use lib.Dec.{eqb, ltb, leb}
 use lib.ListN.{length, take, drop, getD, set, replicate, length-set}
 use lib.Seq.{take-set-lt, take-set-le, getD-take, take-suc, ext-getD, length-take-le}
 use borrow.Author.Tests.{lt-ltb, le-ltb, eq-eqb, ne-eqb, ltb-true, ltb-false, leb-true, leb-false, eqb-true, eqb-false}
-use Rattle.record.specs.declared.Geometry.{Geometry}
-use Rattle.record.specs.declared.Geometry.the-variants.{Unstated, Cis, Trans}
-use Rattle.record.specs.declared.DbPos.{DbPos}
-use Rattle.record.specs.declared.Ring.{Ring}
-use Rattle.chain.specs.Lists.{anyOf, valuesFrom}
-use Rattle.chain.specs.Features.{literalEnd}
-use Rattle.chain.specs.Bonds.{openMark, opensDown, closeMark, closeByte, markBond, markFrom, geometryAt, plainBond, plainBonds}
-use Rattle.drawable.specs.declared.Shape.{Shape}
-use Rattle.drawable.specs.Drawn.{Drawn, bondsIn, groupsIn, ringsIn, bondsPart, groupsPart, ringsPart, drawnOf, bondsDrawn, groupsDrawn, ringsDrawn, SaysUpTo}
-use Rattle.drawable.proofs.Parts.{groups-few}
-use Rattle.reach.proofs.Ends.{literal-whole}
+use Rattle.chain_record.specs.declared.plain.Geometry.{Geometry}
+use Rattle.chain_record.specs.declared.plain.Geometry.the-variants.{Unstated, Cis, Trans}
+use Rattle.chain_record.specs.declared.plain.DbPos.{DbPos}
+use Rattle.chain_record.specs.declared.plain.Ring.{Ring}
+use Rattle.chain_rules.specs.chain.Lists.{anyOf, valuesFrom}
+use Rattle.chain_rules.specs.chain.Features.{literalEnd}
+use Rattle.chain_rules.specs.chain.Bonds.{openMark, opensDown, closeMark, closeByte, markBond, markFrom, geometryAt, plainBond, plainBonds}
+use Rattle.drawn_chain.specs.declared.drawable.Shape.{Shape}
+use Rattle.drawn_chain.specs.drawable.Drawn.{Drawn, bondsIn, groupsIn, ringsIn, bondsPart, groupsPart, ringsPart, drawnOf, bondsDrawn, groupsDrawn, ringsDrawn, SaysUpTo}
+use Rattle.drawn_chain.proofs.drawable.Parts.{groups-few}
+use Rattle.drawn_chain.proofs.reach.Ends.{literal-whole}
 use Rattle.carbons.specs.Tokens.{tokens, TokensOf, Grouped}
 use Rattle.carbons.specs.ByCarbon.{doubleAt, bridgeAt, ringOn, carbonylOn, loadAt, Noughts, SetWhere, Added, DoublesPut, PlainBonds, BondsBy, Busy}
 use Rattle.carbons.proofs.BondLaws.{where-none, where-one, length-marks}

@@ -6,15 +6,15 @@ use mathlib.Core.Bool.{Bool, true, cond, _||_, _&&_}
 use mathlib.Core.List.{List, [], _∷_}
 use lib.Dec.{eqb, ltb}
 use lib.ListN.{length, getD, take}
-use Rattle.groups.specs.Groups.{entryAt}
-use Rattle.record.specs.declared.Geometry.{Geometry}
-use Rattle.record.specs.declared.Geometry.the-variants.{Unstated, Cis, Trans}
-use Rattle.record.specs.declared.DbPos.{DbPos}
-use Rattle.record.specs.declared.Mod.{Mod}
-use Rattle.record.specs.declared.Ring.{Ring}
-use Rattle.chain.specs.Lists.{anyOf}
-use Rattle.chain.specs.Refusals.{isEpoxide}
-use Rattle.chain.specs.Bonds.{double, geometryAt, markFrom, plainBond, plainBonds}
+use Rattle.group_table.specs.groups.Groups.{entryAt}
+use Rattle.chain_record.specs.declared.plain.Geometry.{Geometry}
+use Rattle.chain_record.specs.declared.plain.Geometry.the-variants.{Unstated, Cis, Trans}
+use Rattle.chain_record.specs.declared.plain.DbPos.{DbPos}
+use Rattle.chain_record.specs.declared.plain.Mod.{Mod}
+use Rattle.chain_record.specs.declared.plain.Ring.{Ring}
+use Rattle.chain_rules.specs.chain.Lists.{anyOf}
+use Rattle.chain_rules.specs.chain.Refusals.{isEpoxide}
+use Rattle.chain_rules.specs.chain.Bonds.{double, geometryAt, markFrom, plainBond, plainBonds}
 
 -- the byte of a stated geometry
 abbrev pub geometryByte : Geometry → ℕ

@@ -3,10 +3,10 @@ use Prim.Native.Nat.{ℕ, _≤_, _<_, max}
 use mathlib.Core.Path.{_≡_}
 use mathlib.Core.List.{List, [], _∷_}
 use lib.ListN.{length}
-use Rattle.record.specs.declared.Mod.{Mod}
-use Rattle.record.specs.Chain.{maxCarbons}
-use Rattle.chain.specs.Features.{literalEnd}
-use Rattle.drawable.specs.Drawn.{Drawn, bondsDrawn, groupsDrawn, floatsDrawn, ringsDrawn, Says}
+use Rattle.chain_record.specs.declared.plain.Mod.{Mod}
+use Rattle.chain_record.specs.plain.Chain.{maxCarbons}
+use Rattle.chain_rules.specs.chain.Features.{literalEnd}
+use Rattle.drawn_chain.specs.drawable.Drawn.{Drawn, bondsDrawn, groupsDrawn, floatsDrawn, ringsDrawn, Says}
 use Rattle.carbons.specs.ByCarbon.{BondsBy, Busy}
 
 -- the bond after each carbon, the atoms of each that carries anything, the first drawn carbon and the last literal one

@@ -1,15 +1,16 @@
-// The bonds of a chain in an array by carbon, with their marks, and the atoms of the carbons that carry anything. The groups and rings are gone
-// through once; after that each carbon is looked up.
-use drawable::Shape;
-use record::Bridge;
-use record::Geometry;
+// The bonds of a chain in an array by carbon, with their marks, and the atoms of the carbons that carry anything: the groups and rings are gone
+// through once, and after that each carbon is looked up. What stands there is what `chain_rules` draws. Arrays of noughts that reach the last
+// carbon have to be lent; nothing is refused.
+use chain_record::Bridge;
+use chain_record::Geometry;
+use drawn_chain::Shape;
 ghost use mathlib.Core.Path.{_≡_};
 ghost use mathlib.Core.Bool.{true};
 ghost use mathlib.Core.List.{[]};
 ghost use Prim.Native.Nat.{ℕ, _+_, _≤_, _<_, min, max};
 ghost use lib.ListN.{length, getD, set, replicate};
-ghost use Rattle.chain.specs.Bonds.{openMark, closeMark, markBond, closeByte, markFrom, bridged, double};
-ghost use Rattle.drawable.specs.Drawn.{bondsIn, groupsIn, ringsIn, drawnOf, bondsDrawn, ringsDrawn, DrawsSome};
+ghost use Rattle.chain_rules.specs.chain.Bonds.{openMark, closeMark, markBond, closeByte, markFrom, bridged, double};
+ghost use Rattle.drawn_chain.specs.drawable.Drawn.{bondsIn, groupsIn, ringsIn, drawnOf, bondsDrawn, ringsDrawn, DrawsSome};
 ghost use Rattle.carbons.specs.ByCarbon.{geometryByte, geometryOf, doubleAt, bridgeAt, ringOn, carbonylOn, risesFrom, RowAtoms, SetWhere, Added, Geometries, Marks, Noughts, DoublesPut, PlainBonds, BondsBy, Busy};
 ghost use Rattle.carbons.specs.Tokens.{tokens, TokensOf};
 
@@ -29,10 +30,10 @@ fn set_at(xs: &mut [u8], p: usize, v: u8)
 fn set_bridges(bonds: &mut [u8], rings: &[u64], count: usize)
     ensures { λ _. ⌜ SetWhere (bridgeAt (ringsIn count (now (rings .entry)))) bridged (now (bonds .entry)) (now (bonds .exit)) ⌝ }
 {
-    let mut i = drawable::rings_len(rings, count);
+    let mut i = drawn_chain::rings_len(rings, count);
     while 0 < i {
         i -= 1;
-        let x = drawable::nth_ring(rings, count, i);
+        let x = drawn_chain::nth_ring(rings, count, i);
         let bridge = x.bridge;
         match bridge {
             Bridge::Epoxide => {
@@ -50,10 +51,10 @@ fn set_bridges(bonds: &mut [u8], rings: &[u64], count: usize)
 fn set_doubles(bonds: &mut [u8], doubles: &[u64], count: usize)
     ensures { λ _. ⌜ SetWhere (doubleAt (bondsIn count (now (doubles .entry)))) double (now (bonds .entry)) (now (bonds .exit)) ⌝ }
 {
-    let mut i = drawable::bonds_len(doubles, count);
+    let mut i = drawn_chain::bonds_len(doubles, count);
     while 0 < i {
         i -= 1;
-        let b = drawable::nth_bond(doubles, count, i);
+        let b = drawn_chain::nth_bond(doubles, count, i);
         set_at(bonds, b.pos as usize, b'=');
     }
 }
@@ -75,10 +76,10 @@ fn set_geometries(geoms: &mut [u8], doubles: &[u64], count: usize)
     requires { ⌜ now geoms ≡ replicate 256 0 ⌝ }
     ensures { λ _. ⌜ Geometries (bondsIn count (now (doubles .entry))) (now (geoms .exit)) ⌝ }
 {
-    let mut i = drawable::bonds_len(doubles, count);
+    let mut i = drawn_chain::bonds_len(doubles, count);
     while 0 < i {
         i -= 1;
-        let b = drawable::nth_bond(doubles, count, i);
+        let b = drawn_chain::nth_bond(doubles, count, i);
         let g = b.geom;
         set_at(geoms, b.pos as usize, geometry_byte(g));
     }
@@ -190,11 +191,11 @@ fn mark_any(bonds: &mut [u8], doubles: &[u64], count: usize, carbon: usize)
 fn rises(doubles: &[u64], count: usize) -> bool
     ensures { λ r. ⌜ r ≡ risesFrom 0 (bondsIn count (now (doubles .entry))) ⌝ }
 {
-    let n = drawable::bonds_len(doubles, count);
+    let n = drawn_chain::bonds_len(doubles, count);
     let mut last = 0;
     let mut i = 0;
     while i < n {
-        let b = drawable::nth_bond(doubles, count, i);
+        let b = drawn_chain::nth_bond(doubles, count, i);
         if b.pos <= last {
             return false;
         }
@@ -210,10 +211,10 @@ fn mark_rising(bonds: &mut [u8], doubles: &[u64], count: usize, carbon: usize)
     requires { ⌜ carbon < length (now bonds) ⌝ }
     ensures { λ _. ⌜ now (bonds .exit) ≡ markFrom carbon (bondsIn count (now (doubles .entry))) 1 carbon (now (bonds .entry)) ⌝ }
 {
-    let n = drawable::bonds_len(doubles, count);
+    let n = drawn_chain::bonds_len(doubles, count);
     let mut i = 0;
     while i < n {
-        let b = drawable::nth_bond(doubles, count, i);
+        let b = drawn_chain::nth_bond(doubles, count, i);
         let g = b.geom;
         let p = b.pos as usize;
         if carbon < p {
@@ -232,7 +233,7 @@ const ROW_ATOMS: [u8; 17] = [2, 1, 1, 1, 1, 1, 3, 2, 1, 2, 1, 1, 1, 2, 5, 5, 3];
 pub fn row_atoms(row: u8) -> u8
     ensures { λ r. ⌜ RowAtoms row r ⌝ }
 {
-    if row < groups::ROW_COUNT {
+    if row < group_table::ROW_COUNT {
         let at = row as usize;
         return ROW_ATOMS[at];
     }
@@ -264,10 +265,10 @@ fn add_groups(busy: &mut [u8], groups: &[u64], count: usize)
     requires { ⌜ ((k : ℕ) → getD (now busy) k 0 ≤ 2) × (length (now groups) ≤ 18) ⌝ }
     ensures { λ _. ⌜ Added (groupsIn count (now (groups .entry))) (now (busy .entry)) (now (busy .exit)) ⌝ }
 {
-    let mut i = drawable::groups_len(groups, count);
+    let mut i = drawn_chain::groups_len(groups, count);
     while 0 < i {
         i -= 1;
-        let g = drawable::nth_group(groups, count, i);
+        let g = drawn_chain::nth_group(groups, count, i);
         add_at(busy, g.pos as usize, row_atoms(g.row));
     }
 }
@@ -276,10 +277,10 @@ fn add_groups(busy: &mut [u8], groups: &[u64], count: usize)
 fn set_rings(busy: &mut [u8], rings: &[u64], count: usize)
     ensures { λ _. ⌜ SetWhere (ringOn (ringsIn count (now (rings .entry)))) 1 (now (busy .entry)) (now (busy .exit)) ⌝ }
 {
-    let mut i = drawable::rings_len(rings, count);
+    let mut i = drawn_chain::rings_len(rings, count);
     while 0 < i {
         i -= 1;
-        let x = drawable::nth_ring(rings, count, i);
+        let x = drawn_chain::nth_ring(rings, count, i);
         set_at(busy, x.end as usize, 1);
         set_at(busy, x.start as usize, 1);
     }
@@ -376,11 +377,11 @@ fn put_rising(bonds: &mut [u8], doubles: &[u64], count: usize, carbon: usize) ->
     requires { ⌜ carbon < length (now bonds) ⌝ }
     ensures { λ r. ⌜ (r ≡ true → DoublesPut carbon (bondsIn count (now (doubles .entry))) (now (bonds .entry)) (now (bonds .exit))) ⌝ }
 {
-    let n = drawable::bonds_len(doubles, count);
+    let n = drawn_chain::bonds_len(doubles, count);
     let mut last = 0;
     let mut i = 0;
     while i < n {
-        let b = drawable::nth_bond(doubles, count, i);
+        let b = drawn_chain::nth_bond(doubles, count, i);
         if b.pos <= last {
             return false;
         }
@@ -415,7 +416,7 @@ pub fn ringless_bonds(x: Shape, part: &[u64], bonds: &mut [u8])
     requires { ⌜ ringsDrawn (drawnOf x (now part)) ≡ [] ⌝ }
     ensures { λ _. ⌜ BondsBy (bondsDrawn (drawnOf x (now (part .entry)))) (ringsDrawn (drawnOf x (now (part .entry)))) (x .carbon) (now (bonds .exit)) ⌝ }
 {
-    let doubles = drawable::bonds_part(part);
+    let doubles = drawn_chain::bonds_part(part);
     let last = x.carbon as usize;
     if put_rising(bonds, doubles, x.bond_count, last) {
         return;
@@ -439,10 +440,10 @@ pub fn chain_tokens(x: Shape, part: &[u64], bonds: &mut [u8], busy: &mut [u8]) -
     requires { ⌜ Noughts (now busy) × (min (x .carbon) 255 < length (now busy)) ⌝ }
     ensures { λ r. ⌜ TokensOf (drawnOf x (now (part .entry))) (tokens (r .first) (r .last) (now (bonds .exit)) (now (busy .exit))) ⌝ }
 {
-    let rings = drawable::rings_part(part);
+    let rings = drawn_chain::rings_part(part);
     marked_bonds(
         bonds,
-        drawable::bonds_part(part),
+        drawn_chain::bonds_part(part),
         x.bond_count,
         rings,
         x.ring_count,
@@ -451,12 +452,12 @@ pub fn chain_tokens(x: Shape, part: &[u64], bonds: &mut [u8], busy: &mut [u8]) -
     busy_carbons(
         busy,
         x.acyl,
-        drawable::groups_part(part),
+        drawn_chain::groups_part(part),
         x.group_count,
         rings,
         x.ring_count,
     );
     let first = from_one(x.first);
-    let last = in_room(reach::literal_end(x, part));
+    let last = in_room(drawn_chain::literal_end(x, part));
     Span { first, last }
 }

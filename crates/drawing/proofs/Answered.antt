@@ -8,35 +8,35 @@ use mathlib.Core.Bool.{Bool, true, false}
 use mathlib.Core.List.{List, [], _∷_, _++_, map}
 use lib.ListN.{length, take, drop, length-take, length-map}
 use lib.Seq.{sets, sets-eq, take-all}
-use Rattle.emit.specs.Text.{Written}
-use Rattle.record.specs.Chain.{Chain}
-use Rattle.reading.specs.Molecule.{at}
-use Rattle.shown.specs.declared.Site.{Site}
-use Rattle.shown.specs.Notes.{labelsOf}
-use Rattle.template.specs.declared.Class.{Class}
-use Rattle.template.specs.Drawn.{placed, bySn, snSites}
-use Rattle.template.specs.Written.{lineOf, indexOf}
-use Rattle.placed.specs.declared.Placed.{Placed}
-use Rattle.placed.specs.Fragment.{noted}
-use Rattle.placed.proofs.Ready.{sns-few}
-use Rattle.rising.specs.declared.Rising.{Rising}
-use Rattle.rising.specs.Four.{four}
-use Rattle.rising.specs.Order.{placesIn, picked}
-use Rattle.rising.proofs.Picked.{picked-few}
-use Rattle.listing.specs.declared.Listed.{Listed}
-use Rattle.listing.specs.declared.Lists.{Lists}
-use Rattle.sn_sites.specs.declared.Sites.{Sites}
-use Rattle.listing.specs.Lists.{noList, listOf, listIn, listsAt, ListsHeld}
-use Rattle.listing.specs.Sites.{allSiteList, SitesAre}
-use Rattle.listing.proofs.PlacedLaws.{sns-told, places-few, sites-placed}
-use Rattle.listing.proofs.ListsLaws.{lists-told}
-use Rattle.listing.proofs.SitesLaws.{sites-told, sites-few}
-use Rattle.indices.specs.Index.{indicesAt}
-use Rattle.indices.proofs.IndexLaws.{indices-told}
+use Rattle.writer.specs.emit.Text.{Written}
+use Rattle.chain_record.specs.plain.Chain.{Chain}
+use Rattle.reading_rules.specs.reading.Molecule.{at}
+use Rattle.line_parts.specs.declared.shown.Site.{Site}
+use Rattle.line_parts.specs.shown.Notes.{labelsOf}
+use Rattle.template_rules.specs.declared.Class.{Class}
+use Rattle.template_rules.specs.Drawn.{placed, bySn, snSites}
+use Rattle.template_rules.specs.Written.{lineOf, indexOf}
+use Rattle.placement.specs.declared.chain_notes.Placed.{Placed}
+use Rattle.placement.specs.chain_notes.Fragment.{noted}
+use Rattle.placement.proofs.chain_notes.Ready.{sns-few}
+use Rattle.chain_lists.specs.declared.rising.Rising.{Rising}
+use Rattle.chain_lists.specs.rising.Four.{four}
+use Rattle.chain_lists.specs.rising.Order.{placesIn, picked}
+use Rattle.chain_lists.proofs.rising.Picked.{picked-few}
+use Rattle.chain_lists.specs.declared.listing.Listed.{Listed}
+use Rattle.chain_lists.specs.declared.listing.Lists.{Lists}
+use Rattle.chain_lists.specs.declared.sn_sites.Sites.{Sites}
+use Rattle.chain_lists.specs.listing.Lists.{noList, listOf, listIn, listsAt, ListsHeld}
+use Rattle.chain_lists.specs.listing.Sites.{allSiteList, SitesAre}
+use Rattle.chain_lists.proofs.listing.PlacedLaws.{sns-told, places-few, sites-placed}
+use Rattle.chain_lists.proofs.listing.ListsLaws.{lists-told}
+use Rattle.chain_lists.proofs.listing.SitesLaws.{sites-told, sites-few}
+use Rattle.chain_lists.specs.indices.Index.{indicesAt}
+use Rattle.chain_lists.proofs.indices.IndexLaws.{indices-told}
 use Rattle.judge.specs.Verdict.{Drawable}
-use Rattle.answer.specs.declared.Answer.{Answer}
-use Rattle.answer.specs.Answer.{listsOf, sitesOf, refusal, siteOf, acceptance, short, atStart, Answers}
-use Rattle.room.proofs.Laws.{line-room, index-room}
+use Rattle.answers.specs.declared.answer.Answer.{Answer}
+use Rattle.answers.specs.answer.Answer.{listsOf, sitesOf, refusal, siteOf, acceptance, short, atStart, Answers}
+use Rattle.answers.proofs.room.Laws.{line-room, index-room}
 use Rattle.drawing.specs.Built.{Built}
 
 -- ---- 41: nothing is altered

@@ -6,30 +6,30 @@ use mathlib.Core.Path.{_≡_, sym, _∙_}
 use mathlib.Core.Bool.{Bool, true, false}
 use mathlib.Core.List.{List}
 use lib.ListN.{length}
-use Rattle.emit.specs.Text.{Written}
-use Rattle.record.specs.Chain.{Chain}
-use Rattle.drawable.specs.Chains.{Chains}
-use Rattle.shapes.specs.Shapes.{chainsKept}
-use Rattle.template.specs.declared.Class.{Class}
-use Rattle.template.specs.Drawn.{placed}
-use Rattle.template.specs.Written.{indicesOf, indexOf}
-use Rattle.builder.specs.Build.{rooms}
-use Rattle.placed.specs.Notes.{chainsIn}
-use Rattle.placed.specs.Fragment.{gathered}
-use Rattle.rising.specs.Order.{placesIn}
-use Rattle.listing.specs.declared.Lists.{Lists}
-use Rattle.chain.proofs.Lists.{all-each}
-use Rattle.listing.specs.Lists.{listsAt, ListsHeld}
-use Rattle.indices.specs.Index.{indicesAt}
-use Rattle.lines.specs.declared.Line.{Line}
-use Rattle.lines.specs.Line.{Writes, Writable, LineIs, LineBuilt}
-use Rattle.longest.specs.Covered.{Slight}
-use Rattle.longest.proofs.Stood.{slight-placed}
-use Rattle.answer.specs.declared.Answer.{Answer}
-use Rattle.answer.specs.Answer.{refusal}
-use Rattle.room.specs.Ready.{Ready, Readied, ShortIs}
-use Rattle.room.proofs.Index.{index-length, index-alone}
-use Rattle.room.proofs.Laws.{index-room}
+use Rattle.writer.specs.emit.Text.{Written}
+use Rattle.chain_record.specs.plain.Chain.{Chain}
+use Rattle.drawn_chain.specs.drawable.Chains.{Chains}
+use Rattle.request_chains.specs.chain_numbers.Shapes.{chainsKept}
+use Rattle.template_rules.specs.declared.Class.{Class}
+use Rattle.template_rules.specs.Drawn.{placed}
+use Rattle.template_rules.specs.Written.{indicesOf, indexOf}
+use Rattle.line_builder.specs.Build.{rooms}
+use Rattle.placement.specs.chain_notes.Notes.{chainsIn}
+use Rattle.placement.specs.chain_notes.Fragment.{gathered}
+use Rattle.chain_lists.specs.rising.Order.{placesIn}
+use Rattle.chain_lists.specs.declared.listing.Lists.{Lists}
+use Rattle.chain_rules.proofs.chain.Lists.{all-each}
+use Rattle.chain_lists.specs.listing.Lists.{listsAt, ListsHeld}
+use Rattle.chain_lists.specs.indices.Index.{indicesAt}
+use Rattle.class_lines.specs.declared.lines.Line.{Line}
+use Rattle.class_lines.specs.lines.Line.{Writes, Writable, LineIs, LineBuilt}
+use Rattle.class_lines.specs.longest.Covered.{Slight}
+use Rattle.class_lines.proofs.longest.Stood.{slight-placed}
+use Rattle.answers.specs.declared.answer.Answer.{Answer}
+use Rattle.answers.specs.answer.Answer.{refusal}
+use Rattle.answers.specs.room.Ready.{Ready, Readied, ShortIs}
+use Rattle.answers.proofs.room.Index.{index-length, index-alone}
+use Rattle.answers.proofs.room.Laws.{index-room}
 use Rattle.drawing.specs.Built.{Built}
 use Rattle.drawing.specs.Draw.{ChainsDrawn, IndexRoom}
 use Rattle.drawing.proofs.Answered.{short-answer, answered, indices-written}

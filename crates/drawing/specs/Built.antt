@@ -4,17 +4,17 @@ use mathlib.Core.Path.{_≡_}
 use mathlib.Core.Bool.{Bool}
 use mathlib.Core.List.{List, map}
 use lib.ListN.{take}
-use Rattle.emit.specs.Text.{Written}
-use Rattle.record.specs.Chain.{Chain}
-use Rattle.template.specs.declared.Class.{Class}
-use Rattle.template.specs.Drawn.{placed}
-use Rattle.template.specs.Written.{indicesOf, lineOf}
-use Rattle.placed.specs.declared.Placed.{Placed}
-use Rattle.placed.specs.Fragment.{noted, gathered}
-use Rattle.rising.specs.declared.Rising.{Rising}
-use Rattle.rising.specs.Order.{InOrder}
-use Rattle.sn_sites.specs.declared.Sites.{Sites}
-use Rattle.listing.specs.Sites.{allSiteList, SitesAre}
+use Rattle.writer.specs.emit.Text.{Written}
+use Rattle.chain_record.specs.plain.Chain.{Chain}
+use Rattle.template_rules.specs.declared.Class.{Class}
+use Rattle.template_rules.specs.Drawn.{placed}
+use Rattle.template_rules.specs.Written.{indicesOf, lineOf}
+use Rattle.placement.specs.declared.chain_notes.Placed.{Placed}
+use Rattle.placement.specs.chain_notes.Fragment.{noted, gathered}
+use Rattle.chain_lists.specs.declared.rising.Rising.{Rising}
+use Rattle.chain_lists.specs.rising.Order.{InOrder}
+use Rattle.chain_lists.specs.declared.sn_sites.Sites.{Sites}
+use Rattle.chain_lists.specs.listing.Sites.{allSiteList, SitesAre}
 
 -- the line of the chains ds was written into vs, which is then zs, and ends at a place; a number of places of l are those of its chains, by
 -- rising sn in the order o, with the sites z; and the indices of the chains stand end to end at the start of some numbers

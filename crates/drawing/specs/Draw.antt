@@ -3,16 +3,16 @@ use Prim.Native.Nat.{ℕ, _≤_}
 use mathlib.Core.Bool.{Bool}
 use mathlib.Core.List.{List}
 use lib.ListN.{length}
-use Rattle.record.specs.Chain.{Chain}
-use Rattle.drawable.specs.Chains.{Chains}
-use Rattle.template.specs.declared.Class.{Class}
-use Rattle.template.specs.Drawn.{placed}
-use Rattle.template.specs.Written.{indicesOf}
-use Rattle.placed.specs.Fragment.{gathered}
+use Rattle.chain_record.specs.plain.Chain.{Chain}
+use Rattle.drawn_chain.specs.drawable.Chains.{Chains}
+use Rattle.template_rules.specs.declared.Class.{Class}
+use Rattle.template_rules.specs.Drawn.{placed}
+use Rattle.template_rules.specs.Written.{indicesOf}
+use Rattle.placement.specs.chain_notes.Fragment.{gathered}
 use Rattle.judge.specs.Verdict.{Drawable}
-use Rattle.answer.specs.declared.Answer.{Answer}
-use Rattle.answer.specs.Answer.{Answers}
-use Rattle.room.specs.Ready.{Ready}
+use Rattle.answers.specs.declared.answer.Answer.{Answer}
+use Rattle.answers.specs.answer.Answer.{Answers}
+use Rattle.answers.specs.room.Ready.{Ready}
 
 -- the answer to every request whose chains these are
 pub record ChainsDrawn (c : Class) (swap : Bool) (t : List ℕ) (k : ℕ) (x : Chains) (xs is ys js : List ℕ) (a : Answer) : Type 0 where

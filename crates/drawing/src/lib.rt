@@ -1,19 +1,19 @@
 // A request that was judged, drawn: its line and its index lists, or 41 where a slice is too short for them. The answer, and what both slices
-// hold afterwards, are said by specs/Answer.antt of `answer`.
-use answer::Answer;
-use answer::refused;
-use lines::Line;
-use placed::NOTE_ROOM;
-use room::INDEX_ROOM;
-use room::ROW_ROOM;
-use shapes::SHAPE_ROOM;
-use template::Class;
+// hold afterwards, are said by specs/answer/Answer.antt of `answers`.
+use answers::Answer;
+use answers::INDEX_ROOM;
+use answers::ROW_ROOM;
+use answers::refused;
+use class_lines::Line;
+use placement::NOTE_ROOM;
+use request_chains::SHAPE_ROOM;
+use template_rules::Class;
 ghost use mathlib.Core.Path.{_≡_};
 ghost use mathlib.Core.Bool.{false};
 ghost use lib.ListN.{length};
-ghost use Rattle.shapes.specs.Shapes.{chainsKept};
-ghost use Rattle.longest.specs.Covered.{Slight};
-ghost use Rattle.room.specs.Ready.{Readied, ShortIs};
+ghost use Rattle.request_chains.specs.chain_numbers.Shapes.{chainsKept};
+ghost use Rattle.class_lines.specs.longest.Covered.{Slight};
+ghost use Rattle.answers.specs.room.Ready.{Readied, ShortIs};
 ghost use Rattle.drawing.specs.Draw.{ChainsDrawn, IndexRoom};
 
 // A slice is shorter than needed.
@@ -45,7 +45,7 @@ fn draw_one(
 {
     let mut rows = [0u8; ROW_MOST];
     let mut notes = [0u32; NOTE_ROOM];
-    let built = lines::build_line(
+    let built = class_lines::build_line(
         line,
         index,
         &mut rows,
@@ -60,7 +60,7 @@ fn draw_one(
     );
     let order = built.order;
     let sites = built.sites;
-    let listed = listing::lists_by_sn(&notes, order);
+    let listed = chain_lists::lists_by_sn(&notes, order);
     Answer {
         number: 0,
         token: 0,
@@ -91,7 +91,7 @@ fn draw_some(
 {
     let mut rows = [0u8; ROW_ROOM];
     let mut notes = [0u32; NOTE_ROOM];
-    let built = lines::build_line(
+    let built = class_lines::build_line(
         line,
         numbers,
         &mut rows,
@@ -106,8 +106,8 @@ fn draw_some(
     );
     let order = built.order;
     let sites = built.sites;
-    let listed = listing::lists_by_sn(&notes, order);
-    let end = indices::write_indices(index, numbers, &notes, order);
+    let listed = chain_lists::lists_by_sn(&notes, order);
+    let end = chain_lists::write_indices(index, numbers, &notes, order);
     Answer {
         number: 0,
         token: 0,
@@ -195,7 +195,7 @@ pub fn draw_chains(
     requires { ⌜ Readied class (now tail) «tail_atoms» (chainsKept count (now shapes) (now lists)) ⌝ }
     ensures { λ r. ⌜ ChainsDrawn class swap (now (tail .entry)) «tail_atoms» (chainsKept count (now (shapes .entry)) (now (lists .entry))) (now (line .entry)) (now (index .entry)) (now (line .exit)) (now (index .exit)) r ⌝ }
 {
-    let short = room::is_short(
+    let short = answers::is_short(
         line,
         index,
         class,
@@ -222,7 +222,7 @@ pub fn draw_chains(
             lists,
         );
     }
-    if longest::are_slight(count, shapes) {
+    if class_lines::are_slight(count, shapes) {
         return draw_slight(
             line,
             index,

@@ -7,28 +7,28 @@ use mathlib.Core.Bool.{Bool, true, false, cond, not, false≢true}
 use mathlib.Core.List.{List, [], _∷_, _++_, map}
 use lib.ListN.{length, take, drop, length-map}
 use borrow.Author.Tests.{not-false}
-use Rattle.record.specs.Chain.{Chain}
-use Rattle.tail.specs.Grammar.{isTail}
-use Rattle.shapes.specs.Shapes.{chainsKept}
-use Rattle.template.specs.declared.Class.{Class}
-use Rattle.template.specs.Template.{hasTail}
-use Rattle.template.specs.Drawn.{placed, bySn, snSites}
-use Rattle.template.specs.Written.{lineOf, indexOf}
-use Rattle.template.specs.Promise.{Promise}
-use Rattle.template.proofs.Sorted.{length-sorted, sites-count}
-use Rattle.rising.proofs.FourLaws.{four-held}
-use Rattle.listing.specs.Sites.{noSite}
-use Rattle.listing.specs.Lists.{noList, listOf}
-use Rattle.listing.proofs.PlacedLaws.{places-few}
-use Rattle.template.proofs.Theorem.{promise}
+use Rattle.chain_record.specs.plain.Chain.{Chain}
+use Rattle.tail_grammar.specs.tail.Grammar.{isTail}
+use Rattle.request_chains.specs.chain_numbers.Shapes.{chainsKept}
+use Rattle.template_rules.specs.declared.Class.{Class}
+use Rattle.template_rules.specs.Template.{hasTail}
+use Rattle.template_rules.specs.Drawn.{placed, bySn, snSites}
+use Rattle.template_rules.specs.Written.{lineOf, indexOf}
+use Rattle.template_rules.specs.Promise.{Promise}
+use Rattle.template_rules.proofs.Sorted.{length-sorted, sites-count}
+use Rattle.chain_lists.proofs.rising.FourLaws.{four-held}
+use Rattle.chain_lists.specs.listing.Sites.{noSite}
+use Rattle.chain_lists.specs.listing.Lists.{noList, listOf}
+use Rattle.chain_lists.proofs.listing.PlacedLaws.{places-few}
+use Rattle.template_rules.proofs.Theorem.{promise}
 use Rattle.judge.specs.declared.Judged.{Judged}
 use Rattle.judge.specs.declared.Judged.the-variants.{Drawable as Judged·Drawable, Refused as Judged·Refused}
 use Rattle.judge.specs.Judged.{JudgedIs}
 use Rattle.judge.specs.Verdict.{Verdict, Refused, Drawable, wrongTail, verdict, tokens, isRefusal}
 use Rattle.judge.proofs.Accepted.{judged-accepted, judged-fits, refused-number, answer-drawable, answer-refused}
-use Rattle.answer.specs.declared.Answer.{Answer}
-use Rattle.answer.specs.Answer.{siteOf, refusal, acceptance, short, answerTo, atStart, lineAfter, indexAfter, Answers}
-use Rattle.room.specs.Ready.{Readied}
+use Rattle.answers.specs.declared.answer.Answer.{Answer}
+use Rattle.answers.specs.answer.Answer.{siteOf, refusal, acceptance, short, answerTo, atStart, lineAfter, indexAfter, Answers}
+use Rattle.answers.specs.room.Ready.{Readied}
 use Rattle.drawing.specs.Draw.{ChainsDrawn}
 use Rattle.forward.specs.Call.{Kept, Called}
 use Rattle.forward.proofs.Ready.{ready}

@@ -6,28 +6,28 @@ use native.Mathlib.Omega.{arith}
 use mathlib.Core.Path.{_≡_, refl, sym, ap, _∙_}
 use mathlib.Core.Bool.{true}
 use mathlib.Core.List.{List, [], _∷_}
-use Rattle.record.specs.Chain.{Chain}
-use Rattle.tail.specs.Grammar.{isTail, tailAtoms}
-use Rattle.tail.proofs.Atoms.{tail-part-atoms, tail-part-shows}
-use Rattle.chain.specs.Drawing.{orNone}
-use Rattle.drawable.specs.Drawn.{Drawn}
-use Rattle.drawable.specs.Chains.{Chains, drawnIn}
-use Rattle.template.specs.declared.Class.{Class}
-use Rattle.template.specs.Template.{roleOf, hasTail}
-use Rattle.template.specs.Drawn.{chainAt, unlessEmpty, nonempty, tailPart, placed}
-use Rattle.template.proofs.Placing.{AcceptsFrom}
-use Rattle.template.proofs.Tail.{tail-fits}
-use Rattle.template.proofs.Theorem.{Accepted}
-use Rattle.shapes.specs.Sn.{drawnAt, IsDrawn, ChainAt}
-use Rattle.placed.specs.Fragment.{Stands}
-use Rattle.placed.proofs.Ready.{stands-carried, told}
-use Rattle.templates.specs.Templates.{TailOf}
-use Rattle.templates.specs.Classes.{StoodIn}
-use Rattle.templates.proofs.Fits.{fits-class}
-use Rattle.chain.proofs.Lists.{each-all}
-use Rattle.lines.proofs.Room.{places-most, index-room, carbons-few, rows-room}
+use Rattle.chain_record.specs.plain.Chain.{Chain}
+use Rattle.tail_grammar.specs.tail.Grammar.{isTail, tailAtoms}
+use Rattle.tail_grammar.proofs.tail.Atoms.{tail-part-atoms, tail-part-shows}
+use Rattle.chain_rules.specs.chain.Drawing.{orNone}
+use Rattle.drawn_chain.specs.drawable.Drawn.{Drawn}
+use Rattle.drawn_chain.specs.drawable.Chains.{Chains, drawnIn}
+use Rattle.template_rules.specs.declared.Class.{Class}
+use Rattle.template_rules.specs.Template.{roleOf, hasTail}
+use Rattle.template_rules.specs.Drawn.{chainAt, unlessEmpty, nonempty, tailPart, placed}
+use Rattle.template_rules.proofs.Placing.{AcceptsFrom}
+use Rattle.template_rules.proofs.Tail.{tail-fits}
+use Rattle.template_rules.proofs.Theorem.{Accepted}
+use Rattle.request_chains.specs.chain_numbers.Sn.{drawnAt, IsDrawn, ChainAt}
+use Rattle.placement.specs.chain_notes.Fragment.{Stands}
+use Rattle.placement.proofs.chain_notes.Ready.{stands-carried, told}
+use Rattle.class_templates.specs.Templates.{TailOf}
+use Rattle.class_templates.specs.Classes.{StoodIn}
+use Rattle.class_templates.proofs.Fits.{fits-class}
+use Rattle.chain_rules.proofs.chain.Lists.{each-all}
+use Rattle.class_lines.proofs.lines.Room.{places-most, index-room, carbons-few, rows-room}
 use Rattle.judge.specs.Judged.{DrawsAll, none as noChains, more, Drawing}
-use Rattle.room.specs.Ready.{Ready}
+use Rattle.answers.specs.room.Ready.{Ready}
 
 -- ---- each chain stands
 

@@ -1,20 +1,20 @@
 -- THE CONTRACT OF THE CALL. Demands 1 and 2: which definition the answer and both slices equal, for every request. Demand 3: where a request
--- is accepted, the promise of `template`, about the very bytes and numbers that stand in the slices. Assumes nothing.
+-- is accepted, the promise of `template_rules`, about the very bytes and numbers that stand in the slices. Assumes nothing.
 use Prim.Native.Nat.{ℕ}
 use mathlib.Core.Path.{_≡_}
 use mathlib.Core.Bool.{Bool}
 use mathlib.Core.List.{List, map}
 use lib.ListN.{length, take}
-use Rattle.record.specs.Chain.{Chain}
-use Rattle.template.specs.declared.Class.{Class}
-use Rattle.template.specs.Drawn.{placed, bySn}
-use Rattle.template.specs.Written.{lineOf, indexOf}
-use Rattle.template.specs.Chains.{sitesBy}
-use Rattle.template.specs.Promise.{Promise}
-use Rattle.listing.specs.Lists.{listOf}
+use Rattle.chain_record.specs.plain.Chain.{Chain}
+use Rattle.template_rules.specs.declared.Class.{Class}
+use Rattle.template_rules.specs.Drawn.{placed, bySn}
+use Rattle.template_rules.specs.Written.{lineOf, indexOf}
+use Rattle.template_rules.specs.Chains.{sitesBy}
+use Rattle.template_rules.specs.Promise.{Promise}
+use Rattle.chain_lists.specs.listing.Lists.{listOf}
 use Rattle.judge.specs.Verdict.{Verdict, Drawable}
-use Rattle.answer.specs.declared.Answer.{Answer}
-use Rattle.answer.specs.Answer.{siteOf, Answers}
+use Rattle.answers.specs.declared.answer.Answer.{Answer}
+use Rattle.answers.specs.answer.Answer.{siteOf, Answers}
 
 -- what is kept where the request is accepted: it has a class and chains; the line and the lists that stand in the slices, and the chains and
 -- sites that the answer names, are theirs; and the promise holds of them

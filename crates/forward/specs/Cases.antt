@@ -7,11 +7,11 @@ use mathlib.Core.Bool.{Bool, true, false, _&&_}
 use mathlib.Core.List.{List, [], _∷_, map}
 use lib.Dec.{eqb}
 use lib.ListN.{length}
-use Rattle.scan.specs.Part.{sameBytes}
-use Rattle.reading.specs.Ascii.{ascii}
-use Rattle.reading.specs.Molecule.{At, at, atomsOf, notesOf, Sum, sum}
-use Rattle.template.specs.Drawn.{placed, allSums, bySn, snSites}
-use Rattle.template.specs.Written.{lineOf, indexOf}
+use Rattle.scanner.specs.scan.Part.{sameBytes}
+use Rattle.reading_rules.specs.reading.Ascii.{ascii}
+use Rattle.reading_rules.specs.reading.Molecule.{At, at, atomsOf, notesOf, Sum, sum}
+use Rattle.template_rules.specs.Drawn.{placed, allSums, bySn, snSites}
+use Rattle.template_rules.specs.Written.{lineOf, indexOf}
 use Rattle.judge.specs.Verdict.{Verdict, Refused, Drawable, verdict}
 
 -- what is said of a request: the number by which its first token is refused; that it is accepted; the number of its one sum; or its line, its

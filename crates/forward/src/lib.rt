@@ -1,11 +1,11 @@
 // The call: a class, a swap flag, a tail and up to four tokens to one line and the index lists of its chains. Every request has an answer,
-// and a request that is refused leaves both slices as they were. What is answered and written is said by specs/Answer.antt of `answer`, and
+// and a request that is refused leaves both slices as they were. What is answered and written is said by specs/answer/Answer.antt of `answers`, and
 // what an accepted line promises by specs/Call.antt.
-pub use answer::Answer;
-use drawable::CHAIN_ROOM;
-use drawable::LIST_ROOM;
+pub use answers::Answer;
+use drawn_chain::CHAIN_ROOM;
+use drawn_chain::LIST_ROOM;
 use judge::Judged;
-use shapes::SHAPE_ROOM;
+use request_chains::SHAPE_ROOM;
 ghost use Prim.Native.Nat.{_*_, _≤_, min};
 ghost use lib.ListN.{length};
 ghost use Rattle.judge.specs.Verdict.{verdict, tokens};
@@ -34,7 +34,7 @@ fn draw_in<'a>(
     let mut shapes = [0u64; SHAPE_ROOM];
     let judged = judge::judge(class, tail, count, sn1, sn2, sn3, sn4, &mut shapes, lists);
     match judged {
-        Judged::Refused { number, place } => answer::refused(number, place),
+        Judged::Refused { number, place } => answers::refused(number, place),
         Judged::Drawable {
             class: kind,
             tail_atoms: atoms,

@@ -9,25 +9,25 @@ use mathlib.Core.List.{List, [], _∷_}
 use lib.ListN.{length, length-take}
 use lib.Dec.{eqb, ltb}
 use borrow.Author.Tests.{eqb-true, eqb-false, ltb-false, not-false}
-use Rattle.record.specs.Chain.{Chain}
-use Rattle.record.proofs.Sound.{Every, Sound}
-use Rattle.token.specs.Request as token
-use Rattle.reading.specs.Lexer.{within}
-use Rattle.reading.proofs.ShowLex.{within-both}
-use Rattle.tail.specs.Grammar.{noRings, stands, opening, scan, isTail, tailAtoms}
-use Rattle.tail.proofs.Alone.{TailPart, tail-alone}
-use Rattle.chain.specs.declared.Role.{Role}
-use Rattle.chain.specs.Refusals.{wrongKind, offChain, clashes, placeRefusal, groupOnCarbonyl, pinTooFar, tailTooShort, noSite, drawRefusal}
-use Rattle.template.specs.declared.Class.{Class}
-use Rattle.template.specs.declared.Class.the-variants.{Fa, Gl1, Gl2, Gl3, Gp, Cl, Sb, Sa}
-use Rattle.template.specs.Template.{fewest, most, roleOf, hasTail}
-use Rattle.template.proofs.Placing.{AcceptsFrom}
-use Rattle.template.proofs.Tail.{TailReads}
-use Rattle.template.proofs.Theorem.{Accepted}
-use Rattle.shapes.specs.Shapes.{chainsKept}
-use Rattle.class.specs.declared.Code.{Code}
-use Rattle.class.specs.declared.Code.the-variants.{Known, Unknown}
-use Rattle.class.specs.Class.{classOf}
+use Rattle.chain_record.specs.plain.Chain.{Chain}
+use Rattle.chain_record.proofs.plain.Sound.{Every, Sound}
+use Rattle.token_reader.specs.token.Request as token
+use Rattle.reading_rules.specs.reading.Lexer.{within}
+use Rattle.reading_rules.proofs.reading.ShowLex.{within-both}
+use Rattle.tail_grammar.specs.tail.Grammar.{noRings, stands, opening, scan, isTail, tailAtoms}
+use Rattle.tail_grammar.proofs.tail.Alone.{TailPart, tail-alone}
+use Rattle.chain_rules.specs.declared.chain.Role.{Role}
+use Rattle.chain_rules.specs.chain.Refusals.{wrongKind, offChain, clashes, placeRefusal, groupOnCarbonyl, pinTooFar, tailTooShort, noSite, drawRefusal}
+use Rattle.template_rules.specs.declared.Class.{Class}
+use Rattle.template_rules.specs.declared.Class.the-variants.{Fa, Gl1, Gl2, Gl3, Gp, Cl, Sb, Sa}
+use Rattle.template_rules.specs.Template.{fewest, most, roleOf, hasTail}
+use Rattle.template_rules.proofs.Placing.{AcceptsFrom}
+use Rattle.template_rules.proofs.Tail.{TailReads}
+use Rattle.template_rules.proofs.Theorem.{Accepted}
+use Rattle.request_chains.specs.chain_numbers.Shapes.{chainsKept}
+use Rattle.class_rules.specs.declared.class.Code.{Code}
+use Rattle.class_rules.specs.declared.class.Code.the-variants.{Known, Unknown}
+use Rattle.class_rules.specs.class.Class.{classOf}
 use Rattle.judge.specs.declared.Fault.{Fault}
 use Rattle.judge.specs.declared.Fault.the-variants.{Nothing, Due as Fault·Due}
 use Rattle.judge.specs.declared.Judged.the-variants.{Drawable as Judged·Drawable, Refused as Judged·Refused}

@@ -7,10 +7,10 @@ use mathlib.Core.List.{List, [], _∷_, _++_, append-assoc}
 use lib.ListN.{length, take, drop, set, length-take, length-drop}
 use lib.Seq.{take-at, drop-at, take-add, drop-drop}
 use borrow.Rule.Slice.PartMut.{midOf, postOf, putMid, mid-len}
-use Rattle.drawable.specs.declared.Shape.{Shape}
-use Rattle.drawable.specs.Drawn.{Drawn, drawnOf}
-use Rattle.drawable.specs.Chains.{itemsOf}
-use Rattle.fitted.proofs.Laying.{laid-before}
+use Rattle.drawn_chain.specs.declared.drawable.Shape.{Shape}
+use Rattle.drawn_chain.specs.drawable.Drawn.{Drawn, drawnOf}
+use Rattle.drawn_chain.specs.drawable.Chains.{itemsOf}
+use Rattle.drawn_chain.proofs.fitted.Laying.{laid-before}
 
 -- a part behind the first is a part of what follows the first
 put-behind : (i : ℕ) (l p : List ℕ) → 77 + 77 * i ≤ length l → drop 77 (putMid (77 + 77 * i) 77 l p) ≡ putMid (77 * i) 77 (drop 77 l) p

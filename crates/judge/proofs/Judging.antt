@@ -8,30 +8,30 @@ use mathlib.Core.List.{List, [], _∷_}
 use lib.ListN.{length, take, getD, length-take}
 use lib.Dec.{eqb, ltb}
 use borrow.Author.Tests.{lt-ltb, le-ltb, ltb-false}
-use Rattle.record.specs.Chain.{Chain}
-use Rattle.token.specs.Token.{tokenOf}
-use Rattle.token.specs.Request as token
-use Rattle.tail.specs.Grammar.{isTail, tailAtoms}
-use Rattle.chain.specs.Refusals.{placeRefusal, drawRefusal}
-use Rattle.template.specs.declared.Class.{Class}
-use Rattle.template.specs.declared.Class.the-variants.{Fa, Gl1, Gl2, Gl3, Gp, Cl, Sb, Sa}
-use Rattle.template.specs.Template.{fewest, most, roleOf, hasTail}
-use Rattle.class.specs.declared.Code.{Code}
-use Rattle.class.specs.declared.Code.the-variants.{Known, Unknown}
-use Rattle.class.specs.Class.{classOf}
+use Rattle.chain_record.specs.plain.Chain.{Chain}
+use Rattle.token_reader.specs.token.Token.{tokenOf}
+use Rattle.token_reader.specs.token.Request as token
+use Rattle.tail_grammar.specs.tail.Grammar.{isTail, tailAtoms}
+use Rattle.chain_rules.specs.chain.Refusals.{placeRefusal, drawRefusal}
+use Rattle.template_rules.specs.declared.Class.{Class}
+use Rattle.template_rules.specs.declared.Class.the-variants.{Fa, Gl1, Gl2, Gl3, Gp, Cl, Sb, Sa}
+use Rattle.template_rules.specs.Template.{fewest, most, roleOf, hasTail}
+use Rattle.class_rules.specs.declared.class.Code.{Code}
+use Rattle.class_rules.specs.declared.class.Code.the-variants.{Known, Unknown}
+use Rattle.class_rules.specs.class.Class.{classOf}
 use Rattle.judge.specs.declared.Fault.{Fault}
 use Rattle.judge.specs.declared.Fault.the-variants.{Nothing, Due}
 use Rattle.judge.specs.declared.Faults.{Faults}
-use Rattle.drawable.specs.Chains.{drawnIn, itemsOf}
-use Rattle.shapes.specs.Shapes.{shapesIn, chainsKept}
-use Rattle.shapes.proofs.Laws.{length-shapes}
+use Rattle.drawn_chain.specs.drawable.Chains.{drawnIn, itemsOf}
+use Rattle.request_chains.specs.chain_numbers.Shapes.{shapesIn, chainsKept}
+use Rattle.request_chains.proofs.chain_numbers.Laws.{length-shapes}
 use Rattle.judge.specs.declared.Judged.{Judged}
 use Rattle.judge.specs.declared.Judged.the-variants.{Drawable as Judged·Drawable, Refused as Judged·Refused}
 use Rattle.judge.specs.declared.Seen.{Seen}
 use Rattle.judge.specs.declared.Seen.the-variants.{Refused as Seen·Refused}
 use Rattle.judge.specs.Verdict.{Verdict, Refused, Drawable, tokens, earlierOf, firstOf, kindRefusal, wrongTail, orElse, judgeDrawn, judgeChains, judgeRead, wrongCount, judgeTokens, verdict}
 use Rattle.judge.specs.Judged.{Drawing, JudgedIs, SeenIs, dueOf, orDrawable}
-use Rattle.drawable.proofs.Parts.{items-length}
+use Rattle.drawn_chain.proofs.drawable.Parts.{items-length}
 use Rattle.judge.proofs.Laws.{Met, draws-length, met-stop}
 
 -- ---- the fault that is due

@@ -12,27 +12,27 @@ use lib.Seq.{take-suc, take-take}
 use lib.Dec.{eqb}
 use borrow.Author.Tests.{eq-eqb, ne-eqb, le-ltb}
 use borrow.Rule.Slice.PartMut.{midOf, putMid, mid-len}
-use Rattle.record.specs.declared.ChainPrefix.{ChainPrefix}
-use Rattle.record.specs.Chain.{Chain, Outcome, Read, Refused, maxBonds, maxGroups, maxRings}
-use Rattle.parsed.proofs.Laws.{stands-read, stands-refused}
-use Rattle.token.specs.declared.ReadChain.{ReadChain}
-use Rattle.token.specs.declared.ReadToken.{ReadToken}
-use Rattle.token.specs.declared.ReadToken.the-variants.{Read as ReadToken·Read, Refused as ReadToken·Refused}
-use Rattle.token.specs.Token.{tokenOf}
-use Rattle.token.specs.Lent.{Tells, chainAs, tokenIn}
-use Rattle.token.specs.Request.{Verdict, All, First, withToken, tokensFrom, tokensOf}
-use Rattle.token.proofs.Sound.{token-sound}
-use Rattle.chain.specs.declared.Role.{Role}
-use Rattle.chain.specs.Refusals.{placeRefusal, drawRefusal}
-use Rattle.template.specs.declared.Class.{Class}
-use Rattle.template.specs.Template.{roleOf}
-use Rattle.drawable.specs.declared.Shape.{Shape}
-use Rattle.drawable.specs.Drawn.{Drawn, ringsPart, drawnOf, Draws, chainOf, Says}
-use Rattle.drawable.specs.Chains.{itemsOf}
-use Rattle.fitted.specs.Fitted.{pieces, Fits}
-use Rattle.fitted.proofs.Drawing.{held-chain}
-use Rattle.fitted.proofs.Laying.{laid-here}
-use Rattle.refusals.specs.Kind.{Kind}
+use Rattle.chain_record.specs.declared.plain.ChainPrefix.{ChainPrefix}
+use Rattle.chain_record.specs.plain.Chain.{Chain, Outcome, Read, Refused, maxBonds, maxGroups, maxRings}
+use Rattle.chain_record.proofs.parsed.Laws.{stands-read, stands-refused}
+use Rattle.token_reader.specs.declared.token.ReadChain.{ReadChain}
+use Rattle.token_reader.specs.declared.token.ReadToken.{ReadToken}
+use Rattle.token_reader.specs.declared.token.ReadToken.the-variants.{Read as ReadToken·Read, Refused as ReadToken·Refused}
+use Rattle.token_reader.specs.token.Token.{tokenOf}
+use Rattle.token_reader.specs.token.Lent.{Tells, chainAs, tokenIn}
+use Rattle.token_reader.specs.token.Request.{Verdict, All, First, withToken, tokensFrom, tokensOf}
+use Rattle.token_reader.proofs.token.Sound.{token-sound}
+use Rattle.chain_rules.specs.declared.chain.Role.{Role}
+use Rattle.chain_rules.specs.chain.Refusals.{placeRefusal, drawRefusal}
+use Rattle.template_rules.specs.declared.Class.{Class}
+use Rattle.template_rules.specs.Template.{roleOf}
+use Rattle.drawn_chain.specs.declared.drawable.Shape.{Shape}
+use Rattle.drawn_chain.specs.drawable.Drawn.{Drawn, ringsPart, drawnOf, Draws, chainOf, Says}
+use Rattle.drawn_chain.specs.drawable.Chains.{itemsOf}
+use Rattle.drawn_chain.specs.fitted.Fitted.{pieces, Fits}
+use Rattle.drawn_chain.proofs.fitted.Drawing.{held-chain}
+use Rattle.drawn_chain.proofs.fitted.Laying.{laid-here}
+use Rattle.chain_refusals.specs.refusals.Kind.{Kind}
 use Rattle.judge.specs.declared.Fault.{Fault}
 use Rattle.judge.specs.declared.Fault.the-variants.{Nothing, Due}
 use Rattle.judge.specs.declared.Faults.{Faults}
@@ -41,9 +41,9 @@ use Rattle.judge.specs.declared.Seen.{Seen}
 use Rattle.judge.specs.declared.Seen.the-variants.{Read as Seen·Read, Refused as Seen·Refused}
 use Rattle.judge.specs.Verdict.{faultAt, earlierOf, firstOf, kindRefusal}
 use Rattle.judge.specs.Judged.{DrawsAll, none, more, KindIs, SeenIs, noFaults, nothingDue, withReasons}
-use Rattle.drawable.proofs.Parts.{items-length}
-use Rattle.shapes.specs.Shapes.{shapesIn}
-use Rattle.shapes.proofs.Laws.{length-shapes}
+use Rattle.drawn_chain.proofs.drawable.Parts.{items-length}
+use Rattle.request_chains.specs.chain_numbers.Shapes.{shapesIn}
+use Rattle.request_chains.proofs.chain_numbers.Laws.{length-shapes}
 use Rattle.judge.proofs.Items.{items-next}
 
 -- ---- one token

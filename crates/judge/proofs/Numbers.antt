@@ -8,35 +8,35 @@ use mathlib.Core.Bool.{Bool, true, false, cond}
 use mathlib.Core.List.{List, [], _∷_}
 use lib.ListN.{length, take, drop}
 use lib.Dec.{eqb, ltb}
-use Rattle.scan.specs.Part.{part, trimmed, indexOf, startsWith, sameBytes}
-use Rattle.scan.specs.Number.{digitRun, digitsUpTo, numberUpTo, numberLimit}
-use Rattle.scan.specs.declared.Number.{Number}
-use Rattle.scan.specs.declared.Number.the-variants.{Value, Unreadable}
-use Rattle.record.specs.declared.ChainPrefix.{ChainPrefix}
-use Rattle.record.specs.declared.Ring.{Ring}
-use Rattle.record.specs.Chain.{Chain, Outcome, Read, Refused, andThen, countsOf, maxCarbons, maxBonds, maxGroups, maxRings}
-use Rattle.form.specs.Parts.{partsAt, listParts}
-use Rattle.form.specs.Form.{segmentText, formOf, afterPlace, endsInParenthesis}
-use Rattle.form.specs.Numbers.{trimmedNumber, ringCount}
-use Rattle.form.specs.declared.Form.{Form}
-use Rattle.form.specs.declared.Form.the-variants.{Ring as Form·Ring, Repeated as Form·Repeated, Listed as Form·Listed, Parts as Form·Parts}
-use Rattle.positions.specs.Each.{each}
-use Rattle.positions.specs.declared.Position.{Position}
-use Rattle.positions.specs.declared.Position.the-variants.{At as Position·At, Unreadable as Position·Unreadable}
-use Rattle.positions.specs.Positions.{positionOf, withPosition, bondAt, bondList, inside, ringBondAt, ringBondList}
-use Rattle.features.specs.declared.Segment.{Segment}
-use Rattle.features.specs.declared.Segment.the-variants.{Cycle, Located, Repeated, Oxygens, Unreadable as Segment·Unreadable}
-use Rattle.features.specs.declared.Feature.{Feature}
-use Rattle.features.specs.declared.Feature.the-variants.{Ring as Feature·Ring, Group as Feature·Group, Other as Feature·Other}
-use Rattle.features.specs.Features.{ringOf, featureOf, listedAs, partOf, repeatedOf}
-use Rattle.ring.specs.Ring.{valueOr11, ringOr11, closedOr11, ringList, ringListed, ringListedOr, ringBonds, ringSized, ringSegment}
-use Rattle.segment.specs.Segment.{unlessOver, manyTimes, withSegment, listedAt, plainList, listedFeature, listedSegment, partAt, commaParts, byForm, modification, segmentAt, segments}
-use Rattle.opening.specs.declared.Branch.{Branch}
-use Rattle.opening.specs.declared.Branch.the-variants.{Straight, Iso, Anteiso}
-use Rattle.opening.specs.Opening.{branched, startChain, carbonsBy, carbonsOf}
-use Rattle.token.specs.declared.Missing.{Missing}
-use Rattle.token.specs.declared.Missing.the-variants.{Seated, Unseated}
-use Rattle.token.specs.Token.{missingOf, bareOxygens, finished, restOf, countedList, listedOf, afterCount, countBy, bondsOf, namedChain, emptyText, trimmedOf, allPrintable, tokenOf}
+use Rattle.scanner.specs.scan.Part.{part, trimmed, indexOf, startsWith, sameBytes}
+use Rattle.scanner.specs.scan.Number.{digitRun, digitsUpTo, numberUpTo, numberLimit}
+use Rattle.scanner.specs.declared.scan.Number.{Number}
+use Rattle.scanner.specs.declared.scan.Number.the-variants.{Value, Unreadable}
+use Rattle.chain_record.specs.declared.plain.ChainPrefix.{ChainPrefix}
+use Rattle.chain_record.specs.declared.plain.Ring.{Ring}
+use Rattle.chain_record.specs.plain.Chain.{Chain, Outcome, Read, Refused, andThen, countsOf, maxCarbons, maxBonds, maxGroups, maxRings}
+use Rattle.token_syntax.specs.form.Parts.{partsAt, listParts}
+use Rattle.token_syntax.specs.form.Form.{segmentText, formOf, afterPlace, endsInParenthesis}
+use Rattle.token_syntax.specs.form.Numbers.{trimmedNumber, ringCount}
+use Rattle.token_syntax.specs.declared.form.Form.{Form}
+use Rattle.token_syntax.specs.declared.form.Form.the-variants.{Ring as Form·Ring, Repeated as Form·Repeated, Listed as Form·Listed, Parts as Form·Parts}
+use Rattle.token_head.specs.positions.Each.{each}
+use Rattle.token_head.specs.declared.positions.Position.{Position}
+use Rattle.token_head.specs.declared.positions.Position.the-variants.{At as Position·At, Unreadable as Position·Unreadable}
+use Rattle.token_head.specs.positions.Positions.{positionOf, withPosition, bondAt, bondList, inside, ringBondAt, ringBondList}
+use Rattle.token_features.specs.declared.features.Segment.{Segment}
+use Rattle.token_features.specs.declared.features.Segment.the-variants.{Cycle, Located, Repeated, Oxygens, Unreadable as Segment·Unreadable}
+use Rattle.token_features.specs.declared.features.Feature.{Feature}
+use Rattle.token_features.specs.declared.features.Feature.the-variants.{Ring as Feature·Ring, Group as Feature·Group, Other as Feature·Other}
+use Rattle.token_features.specs.features.Features.{ringOf, featureOf, listedAs, partOf, repeatedOf}
+use Rattle.token_segments.specs.ring.Ring.{valueOr11, ringOr11, closedOr11, ringList, ringListed, ringListedOr, ringBonds, ringSized, ringSegment}
+use Rattle.token_segments.specs.segment.Segment.{unlessOver, manyTimes, withSegment, listedAt, plainList, listedFeature, listedSegment, partAt, commaParts, byForm, modification, segmentAt, segments}
+use Rattle.token_head.specs.declared.opening.Branch.{Branch}
+use Rattle.token_head.specs.declared.opening.Branch.the-variants.{Straight, Iso, Anteiso}
+use Rattle.token_head.specs.opening.Opening.{branched, startChain, carbonsBy, carbonsOf}
+use Rattle.token_reader.specs.declared.token.Missing.{Missing}
+use Rattle.token_reader.specs.declared.token.Missing.the-variants.{Seated, Unseated}
+use Rattle.token_reader.specs.token.Token.{missingOf, bareOxygens, finished, restOf, countedList, listedOf, afterCount, countBy, bondsOf, namedChain, emptyText, trimmedOf, allPrintable, tokenOf}
 
 -- what holds of 31 and of 11
 module _ (P : ℕ → Type 0) (p31 : P 31) (p11 : P 11) where

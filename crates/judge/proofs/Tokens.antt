@@ -7,11 +7,11 @@ use mathlib.Core.Path.{_≡_, refl, subst}
 use mathlib.Core.Bool.{true}
 use mathlib.Core.List.{List, [], _∷_, _++_}
 use lib.ListN.{length, length-append}
-use Rattle.record.specs.Chain.{Chain, Outcome, Read, Refused}
-use Rattle.record.proofs.Sound.{Every, Sound}
-use Rattle.token.specs.Token.{tokenOf}
-use Rattle.token.specs.Request.{Verdict, All, First, withToken, tokensFrom, tokensOf}
-use Rattle.token.proofs.Sound.{token-sound}
+use Rattle.chain_record.specs.plain.Chain.{Chain, Outcome, Read, Refused}
+use Rattle.chain_record.proofs.plain.Sound.{Every, Sound}
+use Rattle.token_reader.specs.token.Token.{tokenOf}
+use Rattle.token_reader.specs.token.Request.{Verdict, All, First, withToken, tokensFrom, tokensOf}
+use Rattle.token_reader.proofs.token.Sound.{token-sound}
 use Rattle.judge.specs.Verdict.{isRefusal}
 use Rattle.judge.proofs.Numbers.{token-number}
 

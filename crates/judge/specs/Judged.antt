@@ -5,17 +5,17 @@ use mathlib.Core.Bool.{Bool, false, cond}
 use mathlib.Core.List.{List, [], _∷_}
 use lib.Dec.{eqb}
 use lib.ListN.{length}
-use Rattle.record.specs.declared.ChainPrefix.{ChainPrefix}
-use Rattle.record.specs.Chain.{Chain, Outcome, Read, Refused as record·Refused}
-use Rattle.tail.specs.Grammar.{tailAtoms}
-use Rattle.chain.specs.declared.Role.{Role}
-use Rattle.chain.specs.Refusals.{placeRefusal, drawRefusal}
-use Rattle.template.specs.declared.Class.{Class}
-use Rattle.template.specs.Template.{roleOf}
-use Rattle.drawable.specs.Drawn.{Drawn, drawnOf, Draws}
-use Rattle.drawable.specs.Chains.{Chains, drawnIn}
-use Rattle.shapes.specs.Shapes.{chainsKept}
-use Rattle.drawable.specs.declared.Shape.{Shape}
+use Rattle.chain_record.specs.declared.plain.ChainPrefix.{ChainPrefix}
+use Rattle.chain_record.specs.plain.Chain.{Chain, Outcome, Read, Refused as record·Refused}
+use Rattle.tail_grammar.specs.tail.Grammar.{tailAtoms}
+use Rattle.chain_rules.specs.declared.chain.Role.{Role}
+use Rattle.chain_rules.specs.chain.Refusals.{placeRefusal, drawRefusal}
+use Rattle.template_rules.specs.declared.Class.{Class}
+use Rattle.template_rules.specs.Template.{roleOf}
+use Rattle.drawn_chain.specs.drawable.Drawn.{Drawn, drawnOf, Draws}
+use Rattle.drawn_chain.specs.drawable.Chains.{Chains, drawnIn}
+use Rattle.request_chains.specs.chain_numbers.Shapes.{chainsKept}
+use Rattle.drawn_chain.specs.declared.drawable.Shape.{Shape}
 use Rattle.judge.specs.declared.Judged.{Judged}
 use Rattle.judge.specs.declared.Judged.the-variants.{Drawable as Judged·Drawable, Refused as Judged·Refused}
 use Rattle.judge.specs.declared.Fault.{Fault}

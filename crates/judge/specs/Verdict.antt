@@ -5,17 +5,17 @@ use mathlib.Core.Bool.{Bool, true, cond, not}
 use mathlib.Core.List.{List, [], _∷_}
 use lib.ListN.{length, take}
 use lib.Dec.{eqb, ltb}
-use Rattle.record.specs.Chain.{Chain}
-use Rattle.token.specs.Request as token
-use Rattle.tail.specs.Grammar.{isTail}
-use Rattle.chain.specs.declared.Role.{Role}
-use Rattle.chain.specs.Lists.{anyOf}
-use Rattle.chain.specs.Refusals.{wrongKind, placeRefusal, drawRefusal}
-use Rattle.template.specs.declared.Class.{Class}
-use Rattle.template.specs.Template.{fewest, most, roleOf, hasTail}
-use Rattle.class.specs.declared.Code.{Code}
-use Rattle.class.specs.declared.Code.the-variants.{Known, Unknown}
-use Rattle.class.specs.Class.{classOf}
+use Rattle.chain_record.specs.plain.Chain.{Chain}
+use Rattle.token_reader.specs.token.Request as token
+use Rattle.tail_grammar.specs.tail.Grammar.{isTail}
+use Rattle.chain_rules.specs.declared.chain.Role.{Role}
+use Rattle.chain_rules.specs.chain.Lists.{anyOf}
+use Rattle.chain_rules.specs.chain.Refusals.{wrongKind, placeRefusal, drawRefusal}
+use Rattle.template_rules.specs.declared.Class.{Class}
+use Rattle.template_rules.specs.Template.{fewest, most, roleOf, hasTail}
+use Rattle.class_rules.specs.declared.class.Code.{Code}
+use Rattle.class_rules.specs.declared.class.Code.the-variants.{Known, Unknown}
+use Rattle.class_rules.specs.class.Class.{classOf}
 use Rattle.judge.specs.declared.Fault.{Fault}
 use Rattle.judge.specs.declared.Fault.the-variants.{Nothing, Due}
 

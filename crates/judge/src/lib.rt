@@ -1,24 +1,24 @@
 // Whether a request is refused, before its slices are looked at: class, number of tokens, tokens, kinds, tail, and what cannot be drawn, in
-// the order of document 01. Every request has an answer. Which, is said by specs/Verdict.antt. The numbers of its chains (crate `shapes`) and
+// the order of document 01. Every request has an answer. Which, is said by specs/Verdict.antt. The numbers of its chains (`request_chains::chain_numbers`) and
 // their lists are laid into lent arrays, a part for each token.
-use chain::Role;
-use class::Code;
-use drawable::CHAIN_ROOM;
-use drawable::Shape;
-use record::ChainPrefix;
-use record::GROUP_ROOM;
-use record::MAX_BONDS;
-use shapes::SHAPE_ROOM;
-use template::Class;
-use token::ReadToken;
+use chain_record::ChainPrefix;
+use chain_record::GROUP_ROOM;
+use chain_record::MAX_BONDS;
+use chain_rules::Role;
+use class_rules::Code;
+use drawn_chain::CHAIN_ROOM;
+use drawn_chain::Shape;
+use request_chains::SHAPE_ROOM;
+use template_rules::Class;
+use token_reader::ReadToken;
 ghost use mathlib.Core.Path.{_≡_};
 ghost use Prim.Native.Nat.{_+_, _*_, _<_, _≤_, min};
 ghost use mathlib.Core.List.{[], _∷_};
 ghost use lib.ListN.{length, getD};
-ghost use Rattle.token.specs.Token.{tokenOf};
-ghost use Rattle.token.specs.Request.{tokensOf};
-ghost use Rattle.tail.specs.Grammar.{tailAtoms};
-ghost use Rattle.template.specs.Template.{roleOf};
+ghost use Rattle.token_reader.specs.token.Token.{tokenOf};
+ghost use Rattle.token_reader.specs.token.Request.{tokensOf};
+ghost use Rattle.tail_grammar.specs.tail.Grammar.{tailAtoms};
+ghost use Rattle.template_rules.specs.Template.{roleOf};
 ghost use Rattle.judge.specs.Verdict.{tokens, faultAt, earlierOf, wrongTail, wrongCount, judgeRead, verdict};
 ghost use Rattle.judge.specs.Judged.{JudgedIs, KindIs, SeenIs, noFaults, nothingDue, withReasons, dueOf, orDrawable};
 
@@ -157,7 +157,7 @@ fn or_drawable(fault: Fault, class: Class, tail_atoms: u16) -> Judged
 fn kind_refusal(role: Role, prefix: ChainPrefix, carbon: u16) -> u16
     ensures { λ r. ⌜ KindIs role prefix carbon r ⌝ }
 {
-    if refusals::wrong_kind(role, prefix, carbon) {
+    if chain_rules::wrong_kind(role, prefix, carbon) {
         return WRONG_KIND;
     }
     0
@@ -168,7 +168,7 @@ fn wrong_tail(class: Class, tail: &[u8], atoms: u16) -> bool
     requires { ⌜ atoms ≡ tailAtoms (now tail) ⌝ }
     ensures { λ r. ⌜ r ≡ wrongTail class (now (tail .entry)) ⌝ }
 {
-    if class::has_tail(class) {
+    if class_rules::has_tail(class) {
         return atoms == 0;
     }
     tail.len() != 0
@@ -204,13 +204,13 @@ fn see(
     requires { ⌜ length (now part) ≡ 77 ⌝ }
     ensures { λ r. ⌜ SeenIs role r (now (part .exit)) (tokenOf (now (token .entry))) ⌝ }
 {
-    let read = token::parse_token(token, bonds, groups, &mut part[69..77]);
+    let read = token_reader::parse_token(token, bonds, groups, &mut part[69..77]);
     match read {
         ReadToken::Refused(number) => Seen::Refused(number),
         ReadToken::Read(said) => {
             let prefix = said.prefix;
             let counts = said.counts;
-            let shape = fitted::drawn_as(
+            let shape = drawn_chain::drawn_as(
                 role,
                 prefix,
                 said.carbon,
@@ -224,8 +224,8 @@ fn see(
             );
             let reasons = Reasons {
                 kind: kind_refusal(role, prefix, said.carbon),
-                place: refusals::place_refusal(shape, part),
-                draw: refusals::draw_refusal(shape, part),
+                place: chain_refusals::place_refusal(shape, part),
+                draw: chain_refusals::draw_refusal(shape, part),
             };
             Seen::Read { reasons, shape }
         }
@@ -248,7 +248,7 @@ fn look<'a>(
     requires { ⌜ length (now part) ≡ 77 ⌝ }
     ensures { λ r. ⌜ SeenIs (roleOf class (i + 1)) r (now (part .exit)) (tokenOf (getD (now (sn1 .entry) ∷ now (sn2 .entry) ∷ now (sn3 .entry) ∷ now (sn4 .entry) ∷ []) i [])) ⌝ }
 {
-    let role = class::role_of(class, i + 1);
+    let role = class_rules::role_of(class, i + 1);
     see(role, token_at(i, sn1, sn2, sn3, sn4), bonds, groups, part)
 }
 
@@ -293,7 +293,7 @@ fn judge_tokens<'a>(
                 return Judged::Refused { number, place };
             }
             Seen::Read { reasons, shape } => {
-                shapes::keep_shape(shapes, i, shape);
+                request_chains::keep_shape(shapes, i, shape);
                 i = place;
                 // It leaves the faults as they are, and they are not copied.
                 if nothing_due(reasons) {
@@ -304,7 +304,7 @@ fn judge_tokens<'a>(
             }
         }
     }
-    let atoms = tail::tail_atoms(tail);
+    let atoms = tail_grammar::tail_atoms(tail);
     or_drawable(faults.due(wrong_tail(class, tail, atoms)), class, atoms)
 }
 
@@ -312,10 +312,10 @@ fn judge_tokens<'a>(
 fn wrong_count(class: Class, count: usize) -> bool
     ensures { λ r. ⌜ r ≡ wrongCount class count ⌝ }
 {
-    if count < class::fewest(class) {
+    if count < class_rules::fewest(class) {
         return true;
     }
-    class::most(class) < count
+    class_rules::most(class) < count
 }
 
 // Whether a request is refused, and for what; or its class, the atoms of its tail, which is read once, and its chains, which are kept in the
@@ -334,7 +334,7 @@ pub fn judge<'a>(
     requires { ⌜ 77 * min count 4 ≤ length (now lists) ⌝ }
     ensures { λ r. ⌜ JudgedIs r count (now (shapes .exit)) (now (lists .exit)) (now (tail .entry)) (verdict (now (class .entry)) (now (tail .entry)) count (tokens count (now (sn1 .entry)) (now (sn2 .entry)) (now (sn3 .entry)) (now (sn4 .entry)))) ⌝ }
 {
-    let Code::Known(known) = class::class_of(class) else {
+    let Code::Known(known) = class_rules::class_of(class) else {
         return Judged::Refused {
             number: UNKNOWN_CLASS,
             place: 0,

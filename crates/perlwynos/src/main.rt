@@ -1,12 +1,12 @@
 // The batch program: answers the sheet on standard input and writes the answers to standard output, both in large blocks. What is answered
 // and written is the library's, `batch`; here are the blocks alone. Its memory does not grow: of a line that is longer than a row may be,
 // only the start is kept. Where reading or writing fails it says so on standard error and ends; what it has written by then are whole rows.
-ghost use Prim.Native.Nat.{_≤_};
-ghost use lib.ListN.{length};
 use batch::Batch;
 use libc::STDERR_FILENO;
 use libc::STDIN_FILENO;
 use libc::STDOUT_FILENO;
+ghost use Prim.Native.Nat.{_≤_};
+ghost use lib.ListN.{length};
 
 // Bytes that are read at once, less what is left of the block before.
 const BLOCK: usize = 65536;
@@ -15,7 +15,7 @@ const BLOCK: usize = 65536;
 const INDICES: usize = 4096;
 
 // Room for the output, and how full it may be before one more row. A row has the bytes of the line slice, five to a number of the index
-// slice and 20 more at most, and the counts have 26 to each of 43 answers (proofs/Room.antt of `batch` and of `tally`): together less than
+// slice and 20 more at most, and the counts have 26 to each of 43 answers (proofs/Room.antt of `batch` and of `sheet_frame::tally`): together less than
 // 98,304. So there is room for the line slice in the output too, and each line is drawn where it stands there.
 const OUT: usize = 262144;
 

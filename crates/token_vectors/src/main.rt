@@ -1,18 +1,18 @@
 // Reads tokens from standard input, one to a line, and writes for each, on a line of its own, the record that the token reader makes of it:
 // `prefix c n bonds groups rings`, or the number of its refusal. It is run on stored vectors and held to the stored answers.
+use chain_record::Bridge;
+use chain_record::ChainPrefix;
+use chain_record::DbPos;
+use chain_record::GROUP_ROOM;
+use chain_record::Geometry;
+use chain_record::MAX_BONDS;
+use chain_record::MAX_RINGS;
+use chain_record::Mod;
+use chain_record::ParsedChain;
+use chain_record::Ring;
 use libc::STDIN_FILENO;
 use libc::STDOUT_FILENO;
-use parsed::ParsedChain;
-use record::Bridge;
-use record::ChainPrefix;
-use record::DbPos;
-use record::GROUP_ROOM;
-use record::Geometry;
-use record::MAX_BONDS;
-use record::MAX_RINGS;
-use record::Mod;
-use record::Ring;
-use token::ReadToken;
+use token_reader::ReadToken;
 
 // One byte past the longest token: a longer line answers as its first 256 bytes do.
 const LINE: usize = 256;
@@ -37,18 +37,18 @@ fn separator(i: usize) -> u8 {
 // A list with no element.
 fn put_none(out: &mut [u8], at: usize, count: usize) -> usize {
     if count == 0 {
-        return emit::put_text(out, at, b" -");
+        return writer::put_text(out, at, b" -");
     }
     at
 }
 
 fn put_bond(out: &mut [u8], at: usize, bond: DbPos) -> usize {
-    let p = emit::put_number(out, at, bond.pos);
+    let p = writer::put_number(out, at, bond.pos);
     let geom = bond.geom;
     match geom {
         Geometry::Unstated => p,
-        Geometry::Cis => emit::put_byte(out, p, b'Z'),
-        Geometry::Trans => emit::put_byte(out, p, b'E'),
+        Geometry::Cis => writer::put_byte(out, p, b'Z'),
+        Geometry::Trans => writer::put_byte(out, p, b'E'),
     }
 }
 
@@ -61,23 +61,23 @@ fn put_bonds(out: &mut [u8], at: usize, chain: ParsedChain) -> usize {
         if MAX_BONDS <= i {
             return p;
         }
-        p = emit::put_byte(out, p, separator(i));
-        p = put_bond(out, p, codes::bond_in(bonds[i]));
+        p = writer::put_byte(out, p, separator(i));
+        p = put_bond(out, p, chain_record::bond_in(bonds[i]));
         i += 1;
     }
     p
 }
 
 fn put_branch(out: &mut [u8], at: usize, row: u8) -> usize {
-    let r = groups::row_at(row);
+    let r = group_table::row_at(row);
     let n = r.branch_len as usize;
     let branch = r.branch;
-    emit::put_text(out, at, &branch[0..n])
+    writer::put_text(out, at, &branch[0..n])
 }
 
 fn put_group(out: &mut [u8], at: usize, group: Mod) -> usize {
-    let p = emit::put_number(out, at, group.pos);
-    let q = emit::put_byte(out, p, b':');
+    let p = writer::put_number(out, at, group.pos);
+    let q = writer::put_byte(out, p, b':');
     put_branch(out, q, group.row)
 }
 
@@ -90,20 +90,20 @@ fn put_groups(out: &mut [u8], at: usize, chain: ParsedChain) -> usize {
         if GROUP_ROOM <= i {
             return p;
         }
-        p = emit::put_byte(out, p, separator(i));
-        p = put_group(out, p, codes::group_in(groups[i]));
+        p = writer::put_byte(out, p, separator(i));
+        p = put_group(out, p, chain_record::group_in(groups[i]));
         i += 1;
     }
     p
 }
 
 fn put_ring(out: &mut [u8], at: usize, ring: Ring) -> usize {
-    let p = emit::put_number(out, at, ring.start as u32);
-    let q = emit::put_byte(out, p, b'-');
-    let e = emit::put_number(out, q, ring.end as u32);
+    let p = writer::put_number(out, at, ring.start as u32);
+    let q = writer::put_byte(out, p, b'-');
+    let e = writer::put_number(out, q, ring.end as u32);
     let bridge = ring.bridge;
     match bridge {
-        Bridge::Epoxide => emit::put_byte(out, e, b'O'),
+        Bridge::Epoxide => writer::put_byte(out, e, b'O'),
         Bridge::Carbocycle => e,
     }
 }
@@ -117,8 +117,8 @@ fn put_rings(out: &mut [u8], at: usize, chain: ParsedChain) -> usize {
         if MAX_RINGS <= i {
             return p;
         }
-        p = emit::put_byte(out, p, separator(i));
-        p = put_ring(out, p, codes::ring_in(rings[i]));
+        p = writer::put_byte(out, p, separator(i));
+        p = put_ring(out, p, chain_record::ring_in(rings[i]));
         i += 1;
     }
     p
@@ -127,11 +127,11 @@ fn put_rings(out: &mut [u8], at: usize, chain: ParsedChain) -> usize {
 // The prefix, c and n.
 fn put_head(out: &mut [u8], at: usize, chain: ParsedChain) -> usize {
     let prefix = chain.prefix;
-    let p = emit::put_byte(out, at, prefix_letter(prefix));
-    let q = emit::put_byte(out, p, b' ');
-    let r = emit::put_number(out, q, chain.carbon as u32);
-    let s = emit::put_byte(out, r, b' ');
-    emit::put_number(out, s, chain.unlocated as u32)
+    let p = writer::put_byte(out, at, prefix_letter(prefix));
+    let q = writer::put_byte(out, p, b' ');
+    let r = writer::put_number(out, q, chain.carbon as u32);
+    let s = writer::put_byte(out, r, b' ');
+    writer::put_number(out, s, chain.unlocated as u32)
 }
 
 fn put_record(out: &mut [u8], at: usize, chain: ParsedChain) -> usize {
@@ -145,11 +145,11 @@ fn put_answer(out: &mut [u8], token: &[u8]) -> usize {
     let mut bonds = [0u64; MAX_BONDS];
     let mut groups = [0u64; GROUP_ROOM];
     let mut rings = [0u64; MAX_RINGS];
-    let read = token::parse_token(token, &mut bonds, &mut groups, &mut rings);
+    let read = token_reader::parse_token(token, &mut bonds, &mut groups, &mut rings);
     match read {
         ReadToken::Refused(number) => {
-            let p = emit::put_number(out, 0, number as u32);
-            emit::put_byte(out, p, b'\n')
+            let p = writer::put_number(out, 0, number as u32);
+            writer::put_byte(out, p, b'\n')
         }
         ReadToken::Read(said) => {
             let prefix = said.prefix;
@@ -169,7 +169,7 @@ fn put_answer(out: &mut [u8], token: &[u8]) -> usize {
                 rings,
             };
             let q = put_record(out, 0, chain);
-            emit::put_byte(out, q, b'\n')
+            writer::put_byte(out, q, b'\n')
         }
     }
 }

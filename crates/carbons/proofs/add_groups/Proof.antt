@@ -2,7 +2,7 @@ use borrow.Author.Needs.{needs}
 use Prim.Native.Nat.{_≤_}
 use native.Mathlib.Omega.{arith}
 use lib.ListN.{length, drop}
-use Rattle.drawable.specs.Drawn.{Length, groupsIn}
+use Rattle.drawn_chain.specs.drawable.Drawn.{Length, groupsIn}
 use Rattle.carbons.specs.ByCarbon.{Added}
 use Rattle.carbons.proofs.Loads.{added-none, group-added, added-all, added-length, added-room}
 use Rattle.carbons.proofs.add_groups.Statement.{statement}

@@ -2,7 +2,7 @@ use borrow.Author.Needs.{needs}
 use Prim.Native.Nat.{_≤_, _-_}
 use native.Mathlib.Omega.{arith}
 use lib.ListN.{length}
-use Rattle.drawable.specs.Drawn.{Length, bondsIn}
+use Rattle.drawn_chain.specs.drawable.Drawn.{Length, bondsIn}
 use Rattle.carbons.proofs.BondLaws.{RisingLeft, rising-all, rising-end, rising-one, rising-past, rising-less}
 use Rattle.carbons.proofs.mark_rising.Statement.{statement}
 use Rattle.carbons.proofs.mark_rising.Tie as tie

@@ -3,7 +3,7 @@ use Prim.Native.Nat.{_≤_, _<_, _-_}
 use native.Mathlib.Omega.{arith}
 use lib.ListN.{length, length-set}
 use mathlib.Core.Bool.{false≢true}
-use Rattle.drawable.specs.Drawn.{Length, bondsIn}
+use Rattle.drawn_chain.specs.drawable.Drawn.{Length, bondsIn}
 use Rattle.carbons.proofs.Placing.{PassLeft, pass-all, pass-more, pass-room, pass-end}
 use Rattle.carbons.proofs.put_rising.Statement.{statement}
 use Rattle.carbons.proofs.put_rising.Tie as tie

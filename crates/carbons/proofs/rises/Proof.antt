@@ -3,7 +3,7 @@ use Prim.Native.Nat.{_≤_, _-_}
 use native.Mathlib.Omega.{arith}
 use mathlib.Core.Path.{_≡_, refl}
 use lib.ListN.{length, drop}
-use Rattle.drawable.specs.Drawn.{Length, bondsIn}
+use Rattle.drawn_chain.specs.drawable.Drawn.{Length, bondsIn}
 use Rattle.carbons.specs.ByCarbon.{risesFrom}
 use Rattle.carbons.proofs.BondLaws.{rises-more, rises-not, rises-end}
 use Rattle.carbons.proofs.rises.Statement.{statement}

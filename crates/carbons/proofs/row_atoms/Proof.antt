@@ -1,6 +1,6 @@
 use mathlib.Core.Path.{refl}
 use native.Mathlib.Omega.{arith}
-use Rattle.groups.specs.Groups.{entries}
+use Rattle.group_table.specs.groups.Groups.{entries}
 use Rattle.carbons.proofs.Loads.{row-told, row-past}
 use borrow.Author.Needs.{needs}
 use Rattle.carbons.proofs.row_atoms.Statement.{statement}

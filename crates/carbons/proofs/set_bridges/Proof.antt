@@ -2,7 +2,7 @@ use borrow.Author.Needs.{needs}
 use Prim.Native.Nat.{_≤_}
 use native.Mathlib.Omega.{arith}
 use lib.ListN.{length, drop}
-use Rattle.drawable.specs.Drawn.{Length, ringsIn}
+use Rattle.drawn_chain.specs.drawable.Drawn.{Length, ringsIn}
 use Rattle.carbons.specs.ByCarbon.{SetWhere, bridgeAt}
 use Rattle.carbons.proofs.BondLaws.{bridges-none, bridge-set, bridge-not, bridges-all, where-length}
 use Rattle.carbons.proofs.set_bridges.Statement.{statement}

@@ -3,9 +3,9 @@ use native.Mathlib.Omega.{arith}
 use mathlib.Core.Path.{_≡_}
 use mathlib.Core.List.{[], _∷_}
 use lib.ListN.{length, take}
-use Rattle.token.specs.Request.{tokensOf}
-use Rattle.drawable.specs.Chains.{itemsOf}
-use Rattle.shapes.specs.Shapes.{shapesIn}
+use Rattle.token_reader.specs.token.Request.{tokensOf}
+use Rattle.drawn_chain.specs.drawable.Chains.{itemsOf}
+use Rattle.request_chains.specs.chain_numbers.Shapes.{shapesIn}
 use Rattle.judge.proofs.Laws.{Met, met-first, met-next, met-clear}
 use Rattle.judge.proofs.Judging.{token-refused, tokens-judged}
 use borrow.Author.Needs.{needs}

@@ -1,5 +1,5 @@
 use native.Mathlib.Omega.{arith}
-use Rattle.fitted.proofs.Drawing.{fits-some}
+use Rattle.drawn_chain.proofs.fitted.Drawing.{fits-some}
 use Rattle.judge.proofs.Laws.{looked-refused, looked}
 use borrow.Author.Needs.{needs}
 use Rattle.judge.proofs.see.Statement.{statement}

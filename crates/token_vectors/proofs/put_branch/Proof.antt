@@ -1,5 +1,5 @@
 use borrow.Author.Needs.{length-unmapped}
-use Rattle.groups.proofs.Laws.{branch-within}
+use Rattle.group_table.proofs.groups.Laws.{branch-within}
 use borrow.Author.Needs.{needs}
 use Rattle.token_vectors.proofs.put_branch.Statement.{statement}
 use Rattle.token_vectors.proofs.put_branch.Tie as tie

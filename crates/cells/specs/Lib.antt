@@ -1,2 +1,0 @@
-pub use Rattle.cellwords.specs.Words
-pub mod Cells

@@ -1,0 +1,4 @@
+pub mod labels
+pub mod branches
+pub mod backbone
+pub mod runs

@@ -1,0 +1,3 @@
+pub mod clash
+pub mod pins
+pub mod refusals

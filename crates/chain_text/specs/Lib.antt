@@ -1,0 +1,2 @@
+pub mod fragment
+pub mod grouped_text

@@ -1,9 +1,0 @@
--- What the contracts of the test for 33 cite, beside the definitions of `chain`: where a double bond stands. Assumes nothing.
-use Prim.Native.Nat.{ℕ}
-use mathlib.Core.Bool.{Bool}
-use lib.Dec.{eqb}
-use Rattle.record.specs.declared.DbPos.{DbPos}
-
--- whether a double bond stands at p
-abbrev pub bondAt : ℕ → DbPos → Bool
-bondAt p b = eqb (b .pos) p

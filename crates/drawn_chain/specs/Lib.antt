@@ -1,0 +1,4 @@
+pub mod rooms
+pub mod drawable
+pub mod reach
+pub mod fitted

@@ -1,4 +1,0 @@
-pub mod Copied
-pub mod Over
-pub use Rattle.store.proofs.Laws
-pub mod ReadsBack

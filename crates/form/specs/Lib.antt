@@ -1,3 +1,0 @@
-pub use Rattle.split.specs.Parts
-pub use Rattle.numbers.specs.Numbers
-pub mod Form

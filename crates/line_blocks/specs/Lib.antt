@@ -1,0 +1,3 @@
+pub mod chain_marks
+pub mod chain_sites
+pub mod blocks

@@ -1,3 +1,0 @@
-pub use Rattle.templates.proofs.Fits
-pub mod Following
-pub mod Room

@@ -1,3 +1,0 @@
-pub use Rattle.sn_sites.proofs.PlacedLaws
-pub use Rattle.sn_sites.proofs.SitesLaws
-pub mod ListsLaws

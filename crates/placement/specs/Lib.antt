@@ -1,0 +1,2 @@
+pub mod chain_notes
+pub mod chain_strand

@@ -1,0 +1,4 @@
+pub mod smiles
+pub mod words
+pub mod molecule
+pub mod reading

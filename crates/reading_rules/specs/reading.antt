@@ -1,0 +1,17 @@
+pub use Rattle.reading_rules.specs.smiles.Ascii
+pub use Rattle.reading_rules.specs.smiles.Row
+pub use Rattle.reading_rules.specs.smiles.Piece
+pub use Rattle.reading_rules.specs.smiles.Lexer
+pub use Rattle.reading_rules.specs.smiles.Machine
+pub use Rattle.reading_rules.specs.smiles.Text
+pub use Rattle.reading_rules.specs.smiles.Part
+pub use Rattle.reading_rules.specs.smiles.Chain
+pub use Rattle.reading_rules.specs.smiles.Template
+pub use Rattle.reading_rules.specs.words.Parting
+pub use Rattle.reading_rules.specs.words.Numeral
+pub use Rattle.reading_rules.specs.words.Names
+pub use Rattle.reading_rules.specs.molecule.Molecule
+pub mod Blocks
+pub mod Trailer
+pub mod Line
+pub mod Show

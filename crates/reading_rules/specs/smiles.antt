@@ -1,0 +1,9 @@
+pub use Rattle.scanner.specs.part.Ascii
+pub mod Row
+pub mod Piece
+pub mod Lexer
+pub mod Machine
+pub mod Text
+pub mod Part
+pub mod Chain
+pub mod Template

@@ -1,2 +1,0 @@
-pub use Rattle.kind.specs.Kind
-pub mod Rising

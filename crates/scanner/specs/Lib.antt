@@ -1,0 +1,4 @@
+pub mod part
+pub mod digits
+pub mod scan
+pub mod reader

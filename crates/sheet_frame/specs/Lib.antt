@@ -1,0 +1,3 @@
+pub mod row_heads
+pub mod tally
+pub mod beginning

@@ -1,9 +1,0 @@
-pub use Rattle.part.specs.Ascii
-pub mod Row
-pub mod Piece
-pub mod Lexer
-pub mod Machine
-pub mod Text
-pub mod Part
-pub mod Chain
-pub mod Template

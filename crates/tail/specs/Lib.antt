@@ -1,2 +1,0 @@
-pub use Rattle.ringdigits.specs.Grammar
-pub mod Contract

@@ -1,0 +1,3 @@
+pub mod ringdigits
+pub mod tailatom
+pub mod tail

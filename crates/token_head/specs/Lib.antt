@@ -1,0 +1,2 @@
+pub mod opening
+pub mod positions

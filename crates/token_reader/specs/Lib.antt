@@ -1,0 +1,2 @@
+pub mod seats
+pub mod token

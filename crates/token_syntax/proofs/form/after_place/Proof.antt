@@ -1,0 +1,45 @@
+use Rattle.token_syntax.proofs.form.Laws.{after-some, after-none}
+use borrow.Author.Needs.{needs}
+use Rattle.token_syntax.proofs.form.after_place.Statement.{statement}
+use Rattle.token_syntax.proofs.form.after_place.Tie as tie
+
+add-result : tie.Need-add-result
+add-result c = search needs
+
+sub-result : tie.Need-sub-result
+sub-result c = search needs
+
+part-result-start : tie.Need-part-result-start
+part-result-start c = search needs
+
+part-result-end : tie.Need-part-result-end
+part-result-end c = search needs
+
+returns : tie.Need-returns
+returns c = search after-some
+
+sub-result-2 : tie.Need-sub-result-2
+sub-result-2 c = search needs
+
+part-result-start-2 : tie.Need-part-result-start-2
+part-result-start-2 c = search needs
+
+part-result-end-2 : tie.Need-part-result-end-2
+part-result-end-2 c = search needs
+
+returns-2 : tie.Need-returns-2
+returns-2 c = search after-none
+
+pub after-place-spec : {M : Type 1} → statement M
+after-place-spec =
+    tie.close
+    (tie.spec
+    add-result
+    sub-result
+    part-result-start
+    part-result-end
+    returns
+    sub-result-2
+    part-result-start-2
+    part-result-end-2
+    returns-2)

@@ -1,0 +1,4 @@
+pub mod Copied
+pub mod Over
+pub use Rattle.writer.proofs.store.Laws
+pub mod ReadsBack

@@ -1,0 +1,3 @@
+pub mod store
+pub mod emit
+pub mod index_runs

@@ -1,0 +1,1 @@
+pub use Rattle.writer.specs.store.Text
