@@ -8,7 +8,7 @@ use line_parts::{MAX_SITES, Site};
 
 // The answer. Accepted: number 0, the line's length, the listed chains and the sites, each by rising sn. Refused: the number and the token's
 // place, and zero everywhere else.
-#[derive(Drop)]
+#[derive(Clone, Copy)]
 pub struct Answer {
     pub number: u16,
     pub token: usize,

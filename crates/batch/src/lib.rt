@@ -228,7 +228,7 @@ pub fn answer_row(plan: Plan, row: &[u8], index: &mut [u16], out: &mut [u8], at:
 }
 
 // A batch after some lines, how much of their text they are, the place after what was written, and whether no LF is left in the text.
-#[derive(Drop)]
+#[derive(Clone, Copy)]
 pub struct Lines {
     pub batch: Batch,
     pub used: usize,
@@ -268,7 +268,7 @@ pub fn answer_line(batch: Batch, text: &[u8], index: &mut [u16], out: &mut [u8],
 }
 
 // How much of a text some rows are, the place after what was written, and whether no LF is left in the text.
-#[derive(Drop)]
+#[derive(Clone, Copy)]
 struct Passed {
     used: usize,
     next: usize,

@@ -423,7 +423,7 @@ pub fn ringless_bonds(x: Shape, part: &[u64], bonds: &mut [u8])
 }
 
 // The carbons of a chain that are written one by one: from the first drawn one to the last literal one.
-#[derive(Drop)]
+#[derive(Clone, Copy)]
 pub struct Span {
     pub first: u16,
     pub last: u16,

@@ -41,7 +41,7 @@ fn busy_atoms(x: Shape, part: &[u64], k: u16, load: u8, bond: u8) -> u16
 }
 
 // The carbons so far: the place after their indices, how many they are, and the next atom.
-#[derive(Drop)]
+#[derive(Clone, Copy)]
 struct Numbers {
     at: usize,
     count: usize,
@@ -261,7 +261,7 @@ fn loose_end(part: &[u64], count: usize, first: u16) -> u16
 
 // A chain that is numbered: the place after its indices and their number; and, counted from its first atom, the atom of the first flexible
 // carbon, that of the first floating group, and the atom after the last.
-#[derive(Drop)]
+#[derive(Clone, Copy)]
 pub struct ChainAtoms {
     pub at: usize,
     pub count: u16,

@@ -13,7 +13,7 @@ use super::carried_atoms;
 use drawn_chain::Shape;
 
 // The carbons so far: the place after their indices, the next atom, and the first carbon that is not numbered.
-#[derive(Drop)]
+#[derive(Clone, Copy)]
 struct Reached {
     at: usize,
     next: u16,

@@ -8,7 +8,7 @@ use drawn_chain::Shape;
 
 // What is kept of a chain beside its atoms: whether it is acyl, its double bonds without a position, what its variables add up to, and how many
 // floating groups and rings it has.
-#[derive(Drop)]
+#[derive(Clone, Copy)]
 pub struct Figures {
     pub acyl: bool,
     pub unlocated: u16,

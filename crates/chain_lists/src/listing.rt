@@ -10,14 +10,14 @@ use drawn_chain::MAX_CHAINS;
 use placement::NOTE_ROOM;
 
 // A chain: its sn, and how many indices it has.
-#[derive(Drop)]
+#[derive(Clone, Copy)]
 pub struct Listed {
     pub sn: u16,
     pub count: u16,
 }
 
 // Listed chains with their count; what it does not count is zero.
-#[derive(Drop)]
+#[derive(Clone, Copy)]
 pub struct Lists {
     pub count: usize,
     pub items: [Listed; MAX_CHAINS],

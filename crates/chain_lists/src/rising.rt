@@ -10,7 +10,7 @@ use drawn_chain::MAX_CHAINS;
 use placement::NOTE_ROOM;
 
 // Places of chains with their count; small numbers, since they are handed on with each line.
-#[derive(Drop)]
+#[derive(Clone, Copy)]
 pub struct Rising {
     pub count: usize,
     pub items: [u8; MAX_CHAINS],

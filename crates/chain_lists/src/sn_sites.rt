@@ -12,7 +12,7 @@ use line_parts::{MAX_SITES, Site};
 use placement::{NOTE_ROOM, Placed};
 
 // Sites with their count; what it does not count is zero.
-#[derive(Drop)]
+#[derive(Clone, Copy)]
 pub struct Sites {
     pub count: usize,
     pub items: [Site; MAX_SITES],

@@ -7,7 +7,7 @@ ghost use Rattle.chain_pieces.specs.runs.Links.{link_text, links_text, Links, Ru
 use super::{backbone, four_bytes};
 
 // The place after what is written, and the first carbon that is not.
-#[derive(Drop)]
+#[derive(Clone, Copy)]
 pub struct Reached {
     pub at: usize,
     pub carbon: usize,

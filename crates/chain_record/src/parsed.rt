@@ -12,7 +12,7 @@ use super::plain::{
 use super::{bondcodes, groupcodes, ringcodes};
 
 // Double bonds, groups and rings are numbers of `codes`.
-#[derive(Drop)]
+#[derive(Clone, Copy)]
 pub struct ParsedChain {
     pub prefix: ChainPrefix,
     pub written: u16,
@@ -29,7 +29,7 @@ pub struct ParsedChain {
 }
 
 // How much of each lent array is used, and the last oxygen count.
-#[derive(Drop)]
+#[derive(Clone, Copy)]
 pub struct Counts {
     pub bonds: usize,
     pub groups: usize,
@@ -38,14 +38,14 @@ pub struct Counts {
 }
 
 // What a reader counts once it has read, or the number by which it refuses.
-#[derive(Drop)]
+#[derive(Clone, Copy)]
 pub enum Counted {
     Read(Counts),
     Refused(u16),
 }
 
 // The same of a reader that adds to one array.
-#[derive(Drop)]
+#[derive(Clone, Copy)]
 pub enum Pushed {
     Read(usize),
     Refused(u16),

@@ -17,7 +17,7 @@ pub const UNREADABLE: u16 = 11;
 
 pub const OVER_LIMIT: u16 = 31;
 
-#[derive(Drop)]
+#[derive(Clone, Copy)]
 pub enum ChainPrefix {
     Acyl,
     EtherAlkyl,
@@ -26,35 +26,35 @@ pub enum ChainPrefix {
     SphingoidT,
 }
 
-#[derive(Drop)]
+#[derive(Clone, Copy)]
 pub enum Geometry {
     Unstated,
     Cis,
     Trans,
 }
 
-#[derive(Drop)]
+#[derive(Clone, Copy)]
 pub enum Bridge {
     Epoxide,
     Carbocycle,
 }
 
 // A double bond between the carbon pos and the next.
-#[derive(Drop)]
+#[derive(Clone, Copy)]
 pub struct DbPos {
     pub pos: u32,
     pub geom: Geometry,
 }
 
 // A group: its carbon, 0 where no position is stated, and its row of the group table.
-#[derive(Drop)]
+#[derive(Clone, Copy)]
 pub struct Mod {
     pub pos: u32,
     pub row: u8,
 }
 
 // A ring closed between two carbons of the chain.
-#[derive(Drop)]
+#[derive(Clone, Copy)]
 pub struct Ring {
     pub start: u16,
     pub end: u16,

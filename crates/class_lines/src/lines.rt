@@ -10,7 +10,7 @@ use template_rules::Class;
 
 // A line that is written: its length, how many indices its chains have, how many chains there are, their places by rising sn, and its sites.
 // The builder itself is left behind: what comes back is only what is asked for.
-#[derive(Drop)]
+#[derive(Clone, Copy)]
 pub struct Line {
     pub at: usize,
     pub used: usize,

@@ -5,7 +5,7 @@ ghost use Rattle.class_rules.specs.class.Class.{later_class, class_of};
 use template_rules::Class;
 
 // What a class code says: one of the eight classes, or none of them.
-#[derive(Drop)]
+#[derive(Clone, Copy)]
 pub enum Code {
     Known(Class),
     Unknown,

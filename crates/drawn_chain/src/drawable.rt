@@ -19,7 +19,7 @@ pub const LIST_ROOM: usize = 308;
 // What is drawn of a chain, but for its lists: its carbons from `first` to `carbon`, whether C1 carries a doubly bonded O, whether an ether
 // stands where a base should, the number of its double bonds without a position; and how many located double bonds, groups with a position,
 // groups without one, and rings it has.
-#[derive(Drop)]
+#[derive(Clone, Copy)]
 pub struct Shape {
     pub first: u16,
     pub carbon: u16,

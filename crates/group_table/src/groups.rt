@@ -15,7 +15,7 @@ pub const HYDROXY: u8 = 11;
 pub const KETO: u8 = 12;
 
 // One group: its abbreviation, the branch that its carbon carries, and the atoms of that branch.
-#[derive(Drop)]
+#[derive(Clone, Copy)]
 pub struct Row {
     pub abbr_len: u8,
     pub abbr: [u8; MAX_ABBR],
@@ -172,14 +172,14 @@ pub fn row_at(i: u8) -> Row
 }
 
 // The row that an abbreviation names.
-#[derive(Drop)]
+#[derive(Clone, Copy)]
 pub enum Found {
     At(u8),
     Nothing,
 }
 
 // The carbons that an alias ring spans.
-#[derive(Drop)]
+#[derive(Clone, Copy)]
 pub enum RingSize {
     Carbons(u16),
     Nothing,

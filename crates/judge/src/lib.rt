@@ -27,7 +27,7 @@ pub const WRONG_KIND: u16 = 22;
 pub const WRONG_TAIL: u16 = 23;
 
 // A fault of a request: none, or a refusal's number and the token's place from 1, 0 for none.
-#[derive(Drop)]
+#[derive(Clone, Copy)]
 pub enum Fault {
     Nothing,
     Due { number: u16, place: usize },
@@ -35,14 +35,14 @@ pub enum Fault {
 
 // A request that was judged: its class and the atoms of its tail, or why it is refused. Its chains stand in arrays that were lent: they would
 // be copied at every call.
-#[derive(Drop)]
+#[derive(Clone, Copy)]
 pub enum Judged {
     Drawable { class: Class, tail_atoms: u16 },
     Refused { number: u16, place: usize },
 }
 
 // What a chain that was read is refused for: 22; 32 or 33; 12 to 15. Each is 0 where nothing is due.
-#[derive(Drop)]
+#[derive(Clone, Copy)]
 struct Reasons {
     kind: u16,
     place: u16,
@@ -50,7 +50,7 @@ struct Reasons {
 }
 
 // A token that was looked at: what its chain is refused for, and the chain as it is drawn, but for its lists; or 31 or 11.
-#[derive(Drop)]
+#[derive(Clone, Copy)]
 enum Seen {
     Read { reasons: Reasons, shape: Shape },
     Refused(u16),
@@ -58,7 +58,7 @@ enum Seen {
 
 // The first fault of each sort among the chains looked at so far. The sorts have an order of their own: a fault of a later chain comes
 // before one of an earlier chain where its sort does.
-#[derive(Drop)]
+#[derive(Clone, Copy)]
 struct Faults {
     kind: Fault,
     place: Fault,

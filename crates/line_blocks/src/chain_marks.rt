@@ -11,7 +11,7 @@ use request_chains::in_places;
 use writer::in_room;
 
 // A place in the line, and whether the next block or part of the trailer is the first.
-#[derive(Drop)]
+#[derive(Clone, Copy)]
 pub struct Next {
     pub at: usize,
     pub first: bool,

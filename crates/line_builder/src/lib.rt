@@ -20,13 +20,13 @@ use request_chains::{SHAPE_ROOM, shape_at};
 pub const FIRST_LABEL: u32 = 10;
 
 // Three counters, each of a type of its own, so that none is added to another.
-#[derive(Drop)]
+#[derive(Clone, Copy)]
 pub struct Atoms(pub u32);
 
-#[derive(Drop)]
+#[derive(Clone, Copy)]
 pub struct Variables(pub u32);
 
-#[derive(Drop)]
+#[derive(Clone, Copy)]
 pub struct Labels(pub u32);
 
 // The places in the slice of the indices, in the line and in the slice of the rows; the counters; and how many chains stand there. Where each of

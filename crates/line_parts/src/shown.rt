@@ -70,7 +70,7 @@ pub fn put_label(out: &mut [u8], at: usize, sn: u32) -> usize
 pub const MAX_SITES: usize = 4;
 
 // A site: the sn of its chain, and its atom. Two numbers of one size: what pads a struct is copied with it.
-#[derive(Drop)]
+#[derive(Clone, Copy)]
 pub struct Site {
     pub sn: u32,
     pub atom: u32,

@@ -36,7 +36,7 @@ fn flush(out: &[u8], at: usize) -> bool {
 }
 
 // The batch after some lines: how much of their text they are, and the place after what is written and not yet put out.
-#[derive(Drop)]
+#[derive(Clone, Copy)]
 struct Step {
     ok: bool,
     batch: Batch,
@@ -80,7 +80,7 @@ fn answer_text(batch: Batch, text: &[u8], index: &mut [u16], out: &mut [u8], at:
 }
 
 // The bytes in a block after one more read; none more at the end of the input.
-#[derive(Drop)]
+#[derive(Clone, Copy)]
 struct Block {
     ok: bool,
     total: usize,
@@ -124,7 +124,7 @@ fn stop_reading(out: &[u8], at: usize) {
 
 // The program between two reads: the batch, how many bytes of the block are left of its last line, and the place after what is written and
 // not yet put out. It goes on or has ended.
-#[derive(Drop)]
+#[derive(Clone, Copy)]
 struct State {
     more: bool,
     batch: Batch,

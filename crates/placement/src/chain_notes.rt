@@ -9,7 +9,7 @@ use drawn_chain::MAX_CHAINS;
 // first variable, how many indices it has, those of the template among them; whether it is acyl, its double bonds without a position; the atoms
 // of its first flexible carbon and of its first floating group, both counted from its first; what its variables add up to, and how many
 // groups float.
-#[derive(Drop)]
+#[derive(Clone, Copy)]
 pub struct Placed {
     pub sn: u8,
     pub role: Role,
@@ -92,7 +92,7 @@ fn wide(n: u16) -> u32
 }
 
 // Four of the numbers, side by side.
-#[derive(Drop)]
+#[derive(Clone, Copy)]
 struct Four {
     a: u32,
     b: u32,

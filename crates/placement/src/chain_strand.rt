@@ -18,7 +18,7 @@ use writer::FIRST_ROOM;
 
 // A chain that is laid down: the places after its text, its indices and its rows; how many indices it has; and, counted from its first atom, the
 // atoms of its first flexible carbon and of its first floating group, and the atom after its last.
-#[derive(Drop)]
+#[derive(Clone, Copy)]
 pub struct Strand {
     pub at: usize,
     pub used: usize,

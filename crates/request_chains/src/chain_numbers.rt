@@ -55,7 +55,7 @@ fn no_shape() -> Shape
 }
 
 // Four of the numbers, side by side.
-#[derive(Drop)]
+#[derive(Clone, Copy)]
 struct Four {
     a: u64,
     b: u64,

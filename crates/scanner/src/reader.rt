@@ -8,14 +8,14 @@ ghost use Rattle.scanner.specs.reader.Reading.{place_in, part_from};
 use super::part;
 
 // The bytes, and the place that is read next. The bytes stay the caller's.
-#[derive(Drop)]
+#[derive(Clone, Copy)]
 pub struct TokenReader<'a> {
     pub src: &'a [u8],
     pub at: usize,
 }
 
 // A part by its places, and the place after the byte that ends it.
-#[derive(Drop)]
+#[derive(Clone, Copy)]
 pub struct Part {
     pub from: usize,
     pub to: usize,

@@ -6,7 +6,7 @@ ghost use Rattle.scanner.specs.scan.Number.{after_plus, digits_up_to, number_up_
 use super::digits::is_digit;
 
 // A number as it was read.
-#[derive(Drop)]
+#[derive(Clone, Copy)]
 pub enum Number {
     Value(u64),
     Unreadable,

@@ -20,7 +20,7 @@ pub fn put_titles(out: &mut [u8], at: usize) -> usize
 pub const UNREADABLE_ROW: u16 = 42;
 
 // An answer that was written: its number, and the place after its row.
-#[derive(Drop)]
+#[derive(Clone, Copy)]
 pub struct Answered {
     pub number: u16,
     pub next: usize,
@@ -39,7 +39,7 @@ pub fn put_unreadable(out: &mut [u8], at: usize) -> Answered
 }
 
 // Where a sheet is: before its header, among its rows, or after a header that ends the batch.
-#[derive(Drop)]
+#[derive(Clone, Copy)]
 pub enum Stage {
     Header,
     Rows,
@@ -47,7 +47,7 @@ pub enum Stage {
 }
 
 // A batch between two lines.
-#[derive(Drop)]
+#[derive(Clone, Copy)]
 pub struct Batch {
     pub stage: Stage,
     pub plan: Plan,
@@ -74,7 +74,7 @@ impl Batch {
 }
 
 // A batch after a line, and the place after what was written.
-#[derive(Drop)]
+#[derive(Clone, Copy)]
 pub struct Lined {
     pub batch: Batch,
     pub next: usize,

@@ -18,7 +18,7 @@ fn one_more(n: u64) -> u64
 }
 
 // How often each answer was met.
-#[derive(Drop)]
+#[derive(Clone, Copy)]
 pub struct Counts {
     pub times: [u64; ANSWERS],
 }

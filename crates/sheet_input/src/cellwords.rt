@@ -4,7 +4,7 @@ ghost use Rattle.std.specs.Prelude.{◌≡◌, [], ◌∷◌};
 ghost use Rattle.sheet_input.specs.cellwords.Words.{swap_of, last_nonblank};
 
 // A swap cell.
-#[derive(Drop)]
+#[derive(Clone, Copy)]
 pub enum Swap {
     No,
     Yes,

@@ -37,7 +37,7 @@ pub fn cut(row: &[u8], starts: &mut [usize]) -> usize
 }
 
 // A line that is cut: how many cells it has, and where it ends.
-#[derive(Drop)]
+#[derive(Clone, Copy)]
 pub struct Line {
     pub cells: usize,
     pub end: usize,

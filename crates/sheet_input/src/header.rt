@@ -21,7 +21,7 @@ pub const SN3: usize = 5;
 pub const SN4: usize = 6;
 
 // What a header says: how many cells a row has and, by column, which cell it is, from 1; 0 where the header leaves it out.
-#[derive(Drop)]
+#[derive(Clone, Copy)]
 pub struct Plan {
     pub readable: bool,
     pub cells: usize,

@@ -13,7 +13,7 @@ use super::header::{Plan, SWAP};
 pub const MAX_ROW: usize = 2048;
 
 // What a row asks, beside its cells: whether it is readable, the swap flag, and how many tokens it has.
-#[derive(Drop)]
+#[derive(Clone, Copy)]
 pub struct Asked {
     pub readable: bool,
     pub swap: bool,

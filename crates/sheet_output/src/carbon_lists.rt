@@ -84,7 +84,7 @@ fn store_pair(out: &mut [u8], at: usize, index: u16, pairs: &[u16]) -> usize
 }
 
 // The place after some indices, and the first index that is not among them.
-#[derive(Drop)]
+#[derive(Clone, Copy)]
 struct Reached {
     at: usize,
     next: usize,

@@ -10,7 +10,7 @@ ghost use Rattle.tail_grammar.specs.ringdigits.Grammar.{clashes, with_digit, non
 ghost use Rattle.tail_grammar.specs.ringdigits.Digits.{rings_of, outcome_of, Digits, IsDigit, PastDigits};
 
 // The atoms of a tail so far. They are numbered from 1; atom 0 is the one that the tail hangs on.
-#[derive(Drop)]
+#[derive(Clone, Copy)]
 pub struct Atoms {
     // the last atom, the current one, and the one that the current one joined
     pub last: u8,
@@ -19,7 +19,7 @@ pub struct Atoms {
 }
 
 // What was read from a place on: whether it is right, the place after it, the atoms so far.
-#[derive(Drop)]
+#[derive(Clone, Copy)]
 pub struct Ran {
     pub ok: bool,
     pub next: usize,

@@ -31,7 +31,7 @@ const CARBON: u32 = 67;
 
 // How far a tail was read: the place of the next byte, where the reader stands, the atoms so far. `opened` and `joined` are those of
 // `ringdigits`.
-#[derive(Drop)]
+#[derive(Clone, Copy)]
 struct Reached {
     next: usize,
     place: u32,

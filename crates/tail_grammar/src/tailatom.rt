@@ -7,7 +7,7 @@ ghost use Rattle.tail_grammar.specs.tailatom.Atom.{BondIs, bracket_at, AtomIs};
 const MAX_BRACKET: usize = 16;
 
 // The place after an atom; or nothing, where no atom stands and a tail that needs one is refused, 23.
-#[derive(Drop)]
+#[derive(Clone, Copy)]
 pub enum Found {
     Next(usize),
     Nothing,

@@ -6,7 +6,7 @@ ghost use Rattle.token_features.specs.features.Features.{ring_of, Span, ring_at}
 use chain_record::{Bridge, Mod, Ring};
 
 // The answer of a segment's piece.
-#[derive(Drop)]
+#[derive(Clone, Copy)]
 pub enum Segment {
     // a ring: its two ends and its bridge
     Cycle(Ring),
@@ -20,7 +20,7 @@ pub enum Segment {
 }
 
 // What an abbreviation names.
-#[derive(Drop)]
+#[derive(Clone, Copy)]
 pub enum Feature {
     // an alias ring, by its bridge
     Ring(Bridge),

@@ -10,7 +10,7 @@ use group_table::METHYL;
 use scanner::Number;
 
 // The branch word before the carbons.
-#[derive(Drop)]
+#[derive(Clone, Copy)]
 pub enum Branch {
     Straight,
     Iso,
@@ -91,7 +91,7 @@ fn prefix_length(p: ChainPrefix) -> usize
 }
 
 // What stands before the carbons, and the place where they start.
-#[derive(Drop)]
+#[derive(Clone, Copy)]
 pub struct Opening {
     pub prefix: ChainPrefix,
     pub branch: Branch,
@@ -162,7 +162,7 @@ fn branch_offset(b: Branch) -> u16
 }
 
 // The start of a chain: its prefix; the carbons written, and those left after a branch word; whether there was one, and how many groups it gave.
-#[derive(Drop)]
+#[derive(Clone, Copy)]
 pub struct Start {
     pub prefix: ChainPrefix,
     pub written: u16,
@@ -172,7 +172,7 @@ pub struct Start {
 }
 
 // The start of a chain, or the number by which it is refused.
-#[derive(Drop)]
+#[derive(Clone, Copy)]
 pub enum Started {
     Read(Start),
     Refused(u16),

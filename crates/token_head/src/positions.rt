@@ -10,7 +10,7 @@ use chain_record::{DbPos, Geometry, Pushed};
 use scanner::Number;
 
 // A position as it was read.
-#[derive(Drop)]
+#[derive(Clone, Copy)]
 pub enum Position {
     At(DbPos),
     Unreadable,

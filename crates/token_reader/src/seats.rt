@@ -11,7 +11,7 @@ use chain_record::MAX_CARBONS;
 const PLACES: usize = 256;
 
 // A free seat, or none. What each says is `Found` of specs/seats/Seats.antt.
-#[derive(Drop)]
+#[derive(Clone, Copy)]
 pub enum Seat {
     At(u16),
     Nothing,

@@ -51,7 +51,7 @@ fn all_printable(s: &[u8]) -> bool
 }
 
 // The double bonds that a token declares without a position, where each finds a seat.
-#[derive(Drop)]
+#[derive(Clone, Copy)]
 pub enum Missing {
     Seated(u16),
     Unseated,
@@ -87,14 +87,14 @@ fn bare_oxygens(counts: Counts) -> bool
 }
 
 // What is known from the bond count on: the number of double bonds without a position, and the counts.
-#[derive(Drop)]
+#[derive(Clone, Copy)]
 pub struct Ending {
     pub unlocated: u16,
     pub counts: Counts,
 }
 
 // What is known from the bond count on, or the number by which the token is refused.
-#[derive(Drop)]
+#[derive(Clone, Copy)]
 pub enum Ended {
     Read(Ending),
     Refused(u16),
@@ -235,7 +235,7 @@ fn parse_bonds(
 }
 
 // A chain that was read, but for its arrays.
-#[derive(Drop)]
+#[derive(Clone, Copy)]
 pub struct ReadChain {
     pub prefix: ChainPrefix,
     pub written: u16,
@@ -246,7 +246,7 @@ pub struct ReadChain {
 }
 
 // What a token says: a chain, or the number by which it is refused.
-#[derive(Drop)]
+#[derive(Clone, Copy)]
 pub enum ReadToken {
     Read(ReadChain),
     Refused(u16),
@@ -358,7 +358,7 @@ fn read_any(s: &[u8], bonds: &mut [u64], groups: &mut [u64], rings: &mut [u64]) 
 }
 
 // What a token says that starts as nearly all do: its prefix, carbons and bond count, and where the rest starts (0: it starts otherwise).
-#[derive(Drop)]
+#[derive(Clone, Copy)]
 pub struct Head {
     pub prefix: ChainPrefix,
     pub carbon: u16,
@@ -445,7 +445,7 @@ fn read_head(s: &[u8]) -> Head
 }
 
 // A double bond of a list, as a number of `chain_record::codes`, and how many bytes it has (0: there is none, or it is written otherwise).
-#[derive(Drop)]
+#[derive(Clone, Copy)]
 pub struct Spot {
     pub code: u64,
     pub next: usize,
@@ -500,7 +500,7 @@ fn read_spot(t: &[u8]) -> Spot
 }
 
 // How many double bonds a list gave, or rings, and where the rest starts.
-#[derive(Drop)]
+#[derive(Clone, Copy)]
 pub struct Listed {
     pub count: usize,
     pub rest: usize,
@@ -618,7 +618,7 @@ fn plain_run(s: &[u8]) -> usize
 }
 
 // A position before an abbreviation, or a number of a ring, and how many digits it has.
-#[derive(Drop)]
+#[derive(Clone, Copy)]
 pub struct Lead {
     pub pos: u32,
     pub length: usize,
@@ -649,7 +649,7 @@ fn read_lead(t: &[u8]) -> Lead
 }
 
 // A group or a ring of a segment, as a number of `chain_record::codes`, and how many bytes it has (0: there is none, or it is written otherwise).
-#[derive(Drop)]
+#[derive(Clone, Copy)]
 pub struct Item {
     pub code: u64,
     pub next: usize,
@@ -834,7 +834,7 @@ fn first_ring(v: &[u8], carbon: u16, rings: &mut [u64]) -> Listed
 }
 
 // A token that is written as nearly all are, up to its segments; where those start (0: it is written otherwise).
-#[derive(Drop)]
+#[derive(Clone, Copy)]
 pub struct Usual {
     pub prefix: ChainPrefix,
     pub carbon: u16,

@@ -5,7 +5,7 @@ ghost use Rattle.scanner.specs.scan.Part.{Place, index_of, index_of_text, starts
 ghost use Rattle.token_syntax.specs.form.Form.{Formed, cy_text, form_of, group_form, ends_in_parenthesis, after_place};
 
 // The four forms, with the places that part them.
-#[derive(Drop)]
+#[derive(Clone, Copy)]
 pub enum Form {
     // start-endcysize: the places of the first `-` and of `cy`
     Ring { dash: usize, cy: usize },

@@ -174,7 +174,7 @@ fn write_answer(out: &mut [u8], token: &[u8]) {
 }
 
 // A line as it comes in.
-#[derive(Drop)]
+#[derive(Clone, Copy)]
 struct Line {
     len: usize,
     bytes: [u8; LINE],
@@ -220,7 +220,7 @@ fn answer_block(out: &mut [u8], line: Line, block: &[u8]) -> Line {
 }
 
 // One block of input, and whether there was one.
-#[derive(Drop)]
+#[derive(Clone, Copy)]
 struct Turn {
     more: bool,
     line: Line,
