@@ -1,0 +1,8 @@
+-- src/lib.rt:41:1
+use mathlib.Core.Path.{refl}
+use Rattle.chain_lists.specs.listing.Four.{four}
+use Rattle.answers.proofs.answer.no_lists.Goals as goal
+
+pub returns : goal.returns
+unfolding four
+returns c = refl

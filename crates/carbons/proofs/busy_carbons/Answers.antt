@@ -1,0 +1,10 @@
+use Rattle.carbons.proofs.TokenLaws.{ends-small, busy-all}
+use borrow.Author.Rules.{rules}
+use Rattle.carbons.proofs.busy_carbons.Goals as goal
+
+pub add_groups-requires : goal.add_groups-requires
+add_groups-requires c =
+    (ends-small _ _ c.requires.noughts c.set_rings.ensures c.set_carbonyl.ensures, search rules)
+
+pub returns : goal.returns
+returns c = search busy-all

@@ -1,0 +1,20 @@
+use borrow.Author.Rules.{rules}
+use Prim.Native.Nat.{◌-◌}
+use native.Mathlib.Omega.{arith}
+use Rattle.carbons.proofs.BondLaws.{rising-all, rising-end, rising-one, rising-past, rising-less}
+use Rattle.carbons.proofs.mark_rising.Goals as goal
+
+pub loop-i-init : goal.loop-i-init
+loop-i-init c = (omega arith, search rules, search rising-all)
+
+pub returns-then-carbon-p : goal.returns-then-carbon-p
+returns-then-carbon-p c = search rising-past
+
+pub mark_bond-requires : goal.mark_bond-requires
+mark_bond-requires c = (search rising-one, search rules, search rules)
+
+pub loop-i-preserved : goal.loop-i-preserved
+loop-i-preserved c = (omega arith, search rules, search rising-less)
+
+pub returns : goal.returns
+returns c = search rising-end

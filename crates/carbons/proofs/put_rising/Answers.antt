@@ -1,0 +1,25 @@
+use borrow.Author.Rules.{rules}
+use Prim.Native.Nat.{◌-◌}
+use native.Mathlib.Omega.{arith}
+use lib.ListN.{length, length-set}
+use mathlib.Core.Bool.{false≢true}
+use Rattle.carbons.proofs.Placing.{pass_all, pass-more, pass-room, pass-end}
+use Rattle.carbons.proofs.put_rising.Goals as goal
+
+pub loop-i-init : goal.loop-i-init
+loop-i-init c = (omega arith, search rules, search rules, search pass_all)
+
+pub returns-then-b-last : goal.returns-then-b-last
+returns-then-b-last c = λ e. absurd (false≢true e)
+
+pub returns-then-carbon-p : goal.returns-then-carbon-p
+returns-then-carbon-p c = λ e. absurd (false≢true e)
+
+pub mark_bond-requires : goal.mark_bond-requires
+mark_bond-requires c = (omega arith, search rules, simp length-set (omega arith))
+
+pub loop-i-preserved : goal.loop-i-preserved
+loop-i-preserved c = (omega arith, search pass-room, search rules, search (pass-more, arith))
+
+pub returns : goal.returns
+returns c = λ e. search (pass-end, arith)

@@ -1,0 +1,11 @@
+use Prim.Native.Nat.{◌≤◌}
+use lib.ListN.{length, drop}
+use Rattle.drawn_chain.specs.drawable.Drawn.{Length, bonds_in}
+use Rattle.carbons.specs.ByCarbon.{Geometries}
+use Rattle.carbons.proofs.set_geometries.Given as goal
+
+abbrev pub invariant-loop-i : goal.invariant-loop-i
+invariant-loop-i l = (l.i ≤ l.initial.i) × Length (length l.doubles) (bonds_in l.count l.doubles) l.initial.i × Geometries (drop l.i (bonds_in l.count l.doubles)) l.geoms
+
+abbrev pub decreases-loop-i : goal.decreases-loop-i
+decreases-loop-i l = l.i

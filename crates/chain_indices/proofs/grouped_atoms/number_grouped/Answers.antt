@@ -1,0 +1,36 @@
+use borrow.Author.Rules.{rules}
+use native.Mathlib.Omega.{arith}
+use Rattle.chain_indices.proofs.grouped_atoms.Grouped.{groups-fit, carbon-within, rest-room, rest-small, rest-grows, chain-some, chain-room, grouped-numbered}
+use Rattle.chain_indices.proofs.grouped_atoms.number_grouped.Goals as goal
+
+pub number_groups-r-requires : goal.number_groups-r-requires
+number_groups-r-requires c = search groups-fit
+
+pub overflow_sub-rest : goal.overflow_sub-rest
+overflow_sub-rest c =
+    carbon-within _ _ _ c.requires.grouped.0 c.carbonyl_atoms-lead.ensures c.groups_part.ensures c.requires.grouped.1.1.0 c.requires.grouped.1.1.1 (search rules) c.put_one-p.ensures _ c.number_groups-r.ensures
+
+pub fill-end-requires : goal.fill-end-requires
+fill-end-requires c =
+    (
+      rest-room _ _ _ c.requires.grouped.0 c.carbonyl_atoms-lead.ensures c.groups_part.ensures c.requires.grouped.1.1.0 c.requires.grouped.1.1.1 (search rules) c.put_one-p.ensures _ c.number_groups-r.ensures,
+      rest-small _ _ _ c.requires.grouped.0 c.carbonyl_atoms-lead.ensures c.groups_part.ensures c.requires.grouped.1.1.0 c.requires.grouped.1.1.1 (search rules) c.put_one-p.ensures _ c.number_groups-r.ensures,
+    )
+
+pub overflow_add-next : goal.overflow_add-next
+overflow_add-next c =
+    record { fits = rest-small _ _ _ c.requires.grouped.0 c.carbonyl_atoms-lead.ensures c.groups_part.ensures c.requires.grouped.1.1.0 c.requires.grouped.1.1.1 (search rules) c.put_one-p.ensures _ c.number_groups-r.ensures }
+
+pub overflow_sub-next : goal.overflow_sub-next
+overflow_sub-next c =
+    rest-grows _ _ _ c.requires.grouped.0 c.carbonyl_atoms-lead.ensures c.groups_part.ensures c.requires.grouped.1.1.0 c.requires.grouped.1.1.1 (search rules) c.put_one-p.ensures _ c.number_groups-r.ensures
+
+pub overflow_sub-result : goal.overflow_sub-result
+overflow_sub-result c = chain-some _ _ c.requires.grouped.0
+
+pub overflow_add-result : goal.overflow_add-result
+overflow_add-result c = record { fits = omega (arith, chain-room _ _ c.requires.grouped.0) }
+
+pub returns : goal.returns
+returns c =
+    grouped-numbered _ _ _ c.requires.grouped.0 c.carbonyl_atoms-lead.ensures c.groups_part.ensures c.requires.grouped.1.1.0 c.requires.grouped.1.1.1 (search rules) c.put_one-p.ensures _ c.number_groups-r.ensures c.requires.grouped.1.0 c.fill-end.ensures (omega arith)

@@ -1,0 +1,16 @@
+use Prim.Native.Nat.{◌-◌}
+use mathlib.Core.Path.{refl}
+use Rattle.drawn_chain.proofs.drawable.Through.{any_here, any_next, any_none}
+use Rattle.chain_refusals.proofs.clash.bond_from.Goals as goal
+
+pub loop-i-init : goal.loop-i-init
+loop-i-init c = refl
+
+pub returns-then-starts_at : goal.returns-then-starts_at
+returns-then-starts_at c = search any_here
+
+pub loop-i-preserved : goal.loop-i-preserved
+loop-i-preserved c = search any_next
+
+pub returns : goal.returns
+returns c = search any_none

@@ -1,0 +1,13 @@
+use Prim.Native.Nat.{◌-◌}
+use mathlib.Core.Path.{◌≡◌}
+use lib.ListN.{drop}
+use Rattle.chain_rules.specs.chain.Lists.{any_of}
+use Rattle.drawn_chain.specs.drawable.Drawn.{bonds_in}
+use Rattle.chain_refusals.specs.clash.Places.{bond_at}
+use Rattle.chain_refusals.proofs.clash.bond_from.Given as goal
+
+abbrev pub invariant-loop-i : goal.invariant-loop-i
+invariant-loop-i l = any_of (bond_at l.p) (drop l.from (bonds_in l.count l.bonds)) ≡ any_of (bond_at l.p) (drop l.i (bonds_in l.count l.bonds))
+
+abbrev pub decreases-loop-i : goal.decreases-loop-i
+decreases-loop-i l = l.n - l.i

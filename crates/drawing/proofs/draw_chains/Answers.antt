@@ -1,0 +1,15 @@
+use Rattle.drawing.proofs.Draw.{short-drawn, long-slices}
+use borrow.Author.Rules.{rules}
+use Rattle.drawing.proofs.draw_chains.Goals as goal
+
+pub returns-then-short : goal.returns-then-short
+returns-then-short c = short-drawn c.is_short-short.ensures c.if-short.true c.refused.ensures
+
+pub draw_one-requires : goal.draw_one-requires
+draw_one-requires c = (search rules, (c.if-count-eq1.true, long-slices c.is_short-short.ensures c.if-short.false))
+
+pub draw_slight-requires : goal.draw_slight-requires
+draw_slight-requires c = (search rules, (c.are_slight.ensures c.if-are_slight.true, long-slices c.is_short-short.ensures c.if-short.false))
+
+pub draw_long-requires : goal.draw_long-requires
+draw_long-requires c = (search rules, long-slices c.is_short-short.ensures c.if-short.false)

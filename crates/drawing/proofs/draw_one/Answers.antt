@@ -1,0 +1,12 @@
+use Rattle.drawing.proofs.Draw.{one-writable, drawn-one}
+use native.Mathlib.Omega.{arith}
+use mathlib.Core.Path.{refl}
+use borrow.Author.Rules.{rules}
+use Rattle.drawing.proofs.draw_one.Goals as goal
+
+pub build_line-built-requires : goal.build_line-built-requires
+build_line-built-requires c = search one-writable
+
+pub returns : goal.returns
+returns c =
+    drawn-one _ c.requires.count_value.0 c.build_line-built.ensures refl (omega (arith, (search rules))) c.requires.count_value.1 c.lists_by_sn-listed.ensures

@@ -1,0 +1,6 @@
+use Rattle.sheet_frame.proofs.row_heads.Laws.{ended-text}
+use native.Mathlib.Omega.{arith}
+use Rattle.sheet_output.proofs.rows.put_text_cell.Goals as goal
+
+pub returns : goal.returns
+returns c = search (ended-text, arith)

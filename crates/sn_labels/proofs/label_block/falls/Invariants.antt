@@ -1,0 +1,12 @@
+use Prim.Native.Nat.{◌≤◌}
+use mathlib.Core.Path.{◌≡◌}
+use lib.ListN.{length, take, drop}
+use Rattle.sn_labels.specs.label_block.Falling.{Under}
+use Rattle.sn_labels.proofs.label_block.falls.Given as goal
+
+abbrev pub invariant-loop-i : goal.invariant-loop-i
+invariant-loop-i l =
+    (l.i ≤ l.n) × (l.n ≤ 4) × (length l.sites ≡ 4) × Under l.last (drop l.i (take l.n l.sites))
+
+abbrev pub decreases-loop-i : goal.decreases-loop-i
+decreases-loop-i l = l.i

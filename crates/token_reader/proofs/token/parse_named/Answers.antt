@@ -1,0 +1,16 @@
+use Rattle.token_reader.proofs.token.Laws.{no-colon, carbons-refused, carbons-then}
+use Rattle.token_head.proofs.opening.Laws.{start-few}
+use borrow.Author.Rules.{rules}
+use Rattle.token_reader.proofs.token.parse_named.Goals as goal
+
+pub returns-then-n-s : goal.returns-then-n-s
+returns-then-n-s c = search no-colon
+
+pub parse_bonds-ended-requires : goal.parse_bonds-ended-requires
+parse_bonds-ended-requires c = (search start-few, search rules)
+
+pub returns-in-Refused : goal.returns-in-Refused
+returns-in-Refused c = search carbons-refused
+
+pub returns-in-Read : goal.returns-in-Read
+returns-in-Read c = search carbons-then

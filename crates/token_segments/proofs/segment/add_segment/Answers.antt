@@ -1,0 +1,20 @@
+use Rattle.token_segments.proofs.segment.Laws.{adds-ring, adds-group, adds-too-many, adds-many, adds-oxygens, adds-nothing}
+use Rattle.token_segments.proofs.segment.add_segment.Goals as goal
+
+pub returns-in-Cycle : goal.returns-in-Cycle
+returns-in-Cycle c = search adds-ring
+
+pub returns-in-Located : goal.returns-in-Located
+returns-in-Located c = search adds-group
+
+pub returns-in-Refused : goal.returns-in-Refused
+returns-in-Refused c = search adds-too-many
+
+pub returns-in-Read : goal.returns-in-Read
+returns-in-Read c = search adds-many
+
+pub returns-in-Oxygens : goal.returns-in-Oxygens
+returns-in-Oxygens c = search adds-oxygens
+
+pub returns-in-Unreadable : goal.returns-in-Unreadable
+returns-in-Unreadable c = search adds-nothing

@@ -1,0 +1,16 @@
+use Prim.Native.Nat.{◌≤◌}
+use mathlib.Core.Path.{◌≡◌}
+use mathlib.Core.List.{[]}
+use lib.ListN.{length}
+use Rattle.token_syntax.specs.form.Parts.{parts_at}
+use Rattle.chain_record.specs.parsed.Parsed.{gather, unbonded_as, on}
+use Rattle.token_head.specs.positions.Each.{each}
+use Rattle.token_head.proofs.positions.Each.{Onward}
+use Rattle.token_segments.specs.segment.Segment.{listed_at, plain_list}
+use Rattle.token_segments.proofs.segment.parse_plain_position_list.Given as goal
+
+abbrev pub invariant-loop-more : goal.invariant-loop-more
+invariant-loop-more l = Onward (on l.carbon unbonded_as) (gather l.initial.so_far [] l.initial.groups l.initial.rings) (gather l.so_far [] l.groups l.rings) (plain_list l.feature l.s) (each (listed_at l.feature) (parts_at 44 l.t)) × (length l.t ≤ length l.s) × (length l.groups ≡ length l.initial.groups) × (length l.rings ≡ length l.initial.rings)
+
+abbrev pub decreases-loop-more : goal.decreases-loop-more
+decreases-loop-more l = length l.t

@@ -1,0 +1,16 @@
+use native.Mathlib.Omega.{arith}
+use lib.ListN.{length-set}
+use Rattle.writer.proofs.index_runs.Runs.{four-filled}
+use Rattle.writer.proofs.index_runs.fill_four.Goals as goal
+
+pub bounds-index-at-2 : goal.bounds-index-at-2
+bounds-index-at-2 c = simp length-set (omega arith)
+
+pub bounds-index-at-3 : goal.bounds-index-at-3
+bounds-index-at-3 c = simp length-set (omega arith)
+
+pub bounds-index-at-4 : goal.bounds-index-at-4
+bounds-index-at-4 c = simp length-set (omega arith)
+
+pub returns : goal.returns
+returns c = search four-filled
