@@ -3,7 +3,7 @@ use Rattle.token_reader.proofs.token.Short.{numbered_is, head-counted}
 use Rattle.token_reader.proofs.token.head_at.Goals as goal
 
 pub returns-then-not-is_counted : goal.returns-then-not-is_counted
-returns-then-not-is_counted c = absurd (n c.no_head.ensures)
+returns-then-not-is_counted c n = absurd (n c.no_head.ensures)
 
 pub bounds-t-0 : goal.bounds-t-0
 bounds-t-0 c = omega (arith, (numbered_is _ _ c.is_counted.ensures c.if-not-is_counted.false-raw).room)
@@ -24,4 +24,4 @@ pub figure-declared-requires : goal.figure-declared-requires
 figure-declared-requires c = (numbered_is _ _ c.is_counted.ensures c.if-not-is_counted.false-raw).bonds
 
 pub returns : goal.returns
-returns c = search head-counted
+returns c n = search head-counted

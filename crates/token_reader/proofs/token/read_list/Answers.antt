@@ -8,7 +8,7 @@ pub loop-count-init : goal.loop-count-init
 loop-count-init c = (search so-none, omega arith, search rules, refl)
 
 pub returns-then-n-eq0 : goal.returns-then-n-eq0
-returns-then-n-eq0 c = absurd (n (ap rest-of c.not_listed.ensures))
+returns-then-n-eq0 c n = absurd (n (ap rest-of c.not_listed.ensures))
 
 pub bounds-t-n : goal.bounds-t-n
 bounds-t-n c = search (rules, (c.read_spot-spot.ensures c.if-n-eq0.false).room)
@@ -17,13 +17,13 @@ pub overflow_add-result : goal.overflow_add-result
 overflow_add-result c = search (rules, (c.read_spot-spot.ensures c.if-n-eq0.false).room)
 
 pub returns-then-t-n-eq41 : goal.returns-then-t-n-eq41
-returns-then-t-n-eq41 c = search list-last
+returns-then-t-n-eq41 c n = search list-last
 
 pub bounds-t-n-in-loop-count : goal.bounds-t-n-in-loop-count
 bounds-t-n-in-loop-count c = search (rules, (c.read_spot-spot.ensures c.if-n-eq0.false).room)
 
 pub returns-then-t-n-ne44 : goal.returns-then-t-n-ne44
-returns-then-t-n-ne44 c = absurd (n (ap rest-of c.not_listed-then-t-n-ne44.ensures))
+returns-then-t-n-ne44 c n = absurd (n (ap rest-of c.not_listed-then-t-n-ne44.ensures))
 
 pub overflow_add-t : goal.overflow_add-t
 overflow_add-t c = search (rules, (c.read_spot-spot.ensures c.if-n-eq0.false).room)
@@ -41,4 +41,4 @@ pub loop-count-preserved : goal.loop-count-preserved
 loop-count-preserved c = (search so-more, search rules, search rules, search rules)
 
 pub returns : goal.returns
-returns c = absurd (n (ap rest-of c.not_listed-2.ensures))
+returns c n = absurd (n (ap rest-of c.not_listed-2.ensures))
