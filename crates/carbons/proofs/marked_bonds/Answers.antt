@@ -5,7 +5,7 @@ use borrow.Author.Rules.{rules}
 use Rattle.carbons.proofs.marked_bonds.Goals as goal
 
 pub mark_rising-requires : goal.mark_rising-requires
-mark_rising-requires c = (search rises-so, search rules)
+mark_rising-requires c = record { doubles_value = search rises-so; carbon_in_bounds = search rules }
 
 pub returns-then-rises : goal.returns-then-rises
 returns-then-rises c =

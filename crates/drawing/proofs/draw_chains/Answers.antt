@@ -6,10 +6,10 @@ pub returns-then-short : goal.returns-then-short
 returns-then-short c = short-drawn c.is_short-short.ensures c.if-short.true c.refused.ensures
 
 pub draw_one-requires : goal.draw_one-requires
-draw_one-requires c = (search rules, (c.if-count-eq1.true, long-slices c.is_short-short.ensures c.if-short.false))
+draw_one-requires c = record { readied = search rules; count_value = c.if-count-eq1.true; short_is = long-slices c.is_short-short.ensures c.if-short.false }
 
 pub draw_slight-requires : goal.draw_slight-requires
-draw_slight-requires c = (search rules, (c.are_slight.ensures c.if-are_slight.true, long-slices c.is_short-short.ensures c.if-short.false))
+draw_slight-requires c = record { readied = search rules; slight = c.are_slight.ensures c.if-are_slight.true; short_is = long-slices c.is_short-short.ensures c.if-short.false }
 
 pub draw_long-requires : goal.draw_long-requires
-draw_long-requires c = (search rules, long-slices c.is_short-short.ensures c.if-short.false)
+draw_long-requires c = record { readied = search rules; short_is = long-slices c.is_short-short.ensures c.if-short.false }

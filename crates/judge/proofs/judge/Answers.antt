@@ -8,7 +8,7 @@ pub returns-then-wrong_count : goal.returns-then-wrong_count
 returns-then-wrong_count c = search class-count
 
 pub judge_tokens-requires : goal.judge_tokens-requires
-judge_tokens-requires c = (search count-four, search room-enough)
+judge_tokens-requires c = record { count_bound = search count-four; count_in_bounds = search room-enough }
 
 pub returns : goal.returns
 returns c = search class-known

@@ -8,8 +8,6 @@ use mathlib.Core.Bool.{Bool, true, false, not}
 use mathlib.Core.List.{List, [], ◌∷◌}
 use lib.ListN.{length, take, drop}
 use borrow.Author.Tests.{lt-ltb, le-ltb, eq-eqb, ne_eqb, not-true, not-false}
-use denote.Enum.Declared.{tag_of}
-use types.Run.{OneOf, miss}
 use Rattle.token_features.specs.contracts.features.Segment.{the_type}
 use Rattle.scanner.specs.scan.Part.{Place, index_of}
 use Rattle.scanner.specs.declared.scan.Number.{Number}
@@ -92,8 +90,8 @@ module _ (g : Ring) (s : List ℕ) (q : ℕ) (p : Place s (index_of 40 s) q) (a 
     bonds-listed c r k w = fills_same w (λ x d u. rw (to_end (q + 1) s, add-one q) (sym (rw (count_at ∙ h, ← p.is, ne_eqb q (length s) k))))
 
 -- an answer whose variant is not the ring's, the first
-no-ring : (g : Segment) (f : Ring → Outcome) → OneOf (1 ∷ 2 ∷ 3 ∷ 4 ∷ []) (tag_of the_type g) → ring_or11 g f ≡ Refused 11
-no-ring (Cycle r) f n = absurd (miss (1 ∷ 2 ∷ 3 ∷ 4 ∷ []) 0 tt n)
+no-ring : (g : Segment) (f : Ring → Outcome) → ((r : Ring) → g ≡ Cycle r → ⊥) → ring_or11 g f ≡ Refused 11
+no-ring (Cycle r) f n = absurd (n r refl)
 no-ring (Located g) f n = refl
 no-ring (Repeated row m) f n = refl
 no-ring (Oxygens m) f n = refl
@@ -108,7 +106,7 @@ module _ (start end : ℕ) (s : List ℕ) (carbon : ℕ) (c : Gathered) (m : ℕ
   size-unreadable h = fills-refused 11 c (ring_sized start end s) (λ x d u. rw (size-at ∙ h))
 
   module _ (size : ℕ) (h : a ≡ Number-as-Value size) (g : Segment) (f : g ≡ ring_of start end size carbon) where
-    pub size-wrong : OneOf (1 ∷ 2 ∷ 3 ∷ 4 ∷ []) (tag_of the_type g) → Fills (on carbon ungrouped_as) c (Refuses 11) (ring_sized start end s)
+    pub size-wrong : ((r : Ring) → g ≡ Cycle r → ⊥) → Fills (on carbon ungrouped_as) c (Refuses 11) (ring_sized start end s)
     unfolding ring_sized
     size-wrong n =
         fills-refused 11 c (ring_sized start end s)

@@ -7,7 +7,7 @@ pub returns-then-n-eq0 : goal.returns-then-n-eq0
 returns-then-n-eq0 c = search (block_none, arith)
 
 pub put_label_text-requires : goal.put_label_text-requires
-put_label_text-requires c = (omega arith, search digits-counted)
+put_label_text-requires c = record { count_le_max_sites = omega arith; digits = search digits-counted }
 
 pub returns : goal.returns
 returns c = search (block-some, arith)

@@ -7,7 +7,7 @@ pub returns-then-n-eq0 : goal.returns-then-n-eq0
 returns-then-n-eq0 c = search (swap-none, arith)
 
 pub put_swap_text-requires : goal.put_swap_text-requires
-put_swap_text-requires c = (omega arith, search digits-counted)
+put_swap_text-requires c = record { count_le_max_sites = omega arith; digits = search digits-counted }
 
 pub returns : goal.returns
 returns c = search (swap-some, arith)

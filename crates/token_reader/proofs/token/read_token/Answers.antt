@@ -7,7 +7,7 @@ pub returns-then-s-gt-MAX_BYTES : goal.returns-then-s-gt-MAX_BYTES
 returns-then-s-gt-MAX_BYTES c = search token-long
 
 pub end_plain-requires : goal.end_plain-requires
-end_plain-requires c = let k = c.read_usual-usual.ensures c.if-from-eq0.false in (k.few, k.stored)
+end_plain-requires c = let k = c.read_usual-usual.ensures c.if-from-eq0.false in record { carbon_le_max_carbons = k.few; count_in_bounds = k.stored }
 
 pub returns-then-from-s : goal.returns-then-from-s
 returns-then-from-s c = search token-plain
