@@ -8,7 +8,7 @@ use Rattle.carbons.proofs.Left.{Left}
 use Rattle.chain_pieces.proofs.labels.put_labels.Given as goal
 
 abbrev pub invariant-loop-i : goal.invariant-loop-i
-invariant-loop-i l = Length (length l.l.rings) (rings_in l.l.count l.l.rings) l.l.n × (l.l ≡ l.l.label + l.i) × Left l.l.initial.out l.l.at (labels_text l.l.k l.l.label (ring_pairs (rings_in l.l.count l.l.rings))) l.l.out l.l.p (labels_text l.l.k l.l (ring_pairs (drop l.i (rings_in l.l.count l.l.rings))))
+invariant-loop-i l = Length (length l.rings) (rings_in l.count l.rings) l.n × (l.l ≡ l.label + l.i) × Left l.initial.out l.at (labels_text l.k l.label (ring_pairs (rings_in l.count l.rings))) l.out l.p (labels_text l.k l.l (ring_pairs (drop l.i (rings_in l.count l.rings))))
 
 abbrev pub decreases-loop-i : goal.decreases-loop-i
-decreases-loop-i l = l.l.n - l.i
+decreases-loop-i l = l.n - l.i

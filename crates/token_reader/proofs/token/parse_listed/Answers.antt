@@ -7,7 +7,7 @@ pub returns-then-n-s : goal.returns-then-n-s
 returns-then-n-s c = search list_open
 
 pub missing_bonds-missing-requires : goal.missing_bonds-missing-requires
-missing_bonds-missing-requires c = let h : c.listed-in-Read-1.given.0.0.bonds ≤ 32 = search listed-few-bonds in record { carbon_le_max_carbons = search rules; n_in_bounds = search rules }
+missing_bonds-missing-requires c = let h : c.in-Read.more.bonds ≤ 32 = search listed-few-bonds in record { carbon_le_max_carbons = search rules; n_in_bounds = search rules }
 
 pub returns-in-Refused : goal.returns-in-Refused
 returns-in-Refused c = search listed-refused
