@@ -23,7 +23,7 @@ use Rattle.chain_rules.specs.declared.chain.Role.{Role}
 use Rattle.chain_rules.specs.declared.chain.Role.TheVariants.{Slot, Acyl, Base}
 use Rattle.chain_rules.specs.chain.Lists.{largest, values_from}
 use Rattle.chain_rules.specs.chain.Features.{first_drawn, doubles, groups_on, prefix_end, literal_end}
-use Rattle.chain_rules.specs.chain.Bonds.{bonds_of, bond_at, mark_of}
+use Rattle.chain_rules.specs.chain.Bonds.{bonds_of, bond_at, mark_of, mark_from, plain_bonds}
 use Rattle.chain_rules.specs.chain.Drawing.{branches, carbonyl, groups_at, carbon_at, literal, flexible, carbons, ring_pairs, floats, chain_drawn}
 use Rattle.drawn_chain.specs.declared.drawable.Shape.{Shape}
 use Rattle.drawn_chain.specs.drawable.Drawn.{Drawn, groups_in, rings_in, groups_part, floats_part, rings_part, drawn_of, groups_drawn, floats_drawn, rings_drawn, Draws}
@@ -37,6 +37,13 @@ use Rattle.chain_text.specs.fragment.Segment.{segment_text, RingsOn, Readable, S
 use Rattle.carbons.proofs.Left.{written-three}
 use Rattle.carbons.proofs.TokenLaws.{length-values, values_same}
 use Rattle.chain_pieces.proofs.backbone.Laws.{chain-append, unlabelled}
+
+-- the bonds of a drawing, from numbers and lists that are those of the chain
+bonds-from : (r : Role) (d : read.Chain) (c : ℕ) (bs : List DbPos) (rs : List Closed) → c ≡ d.carbon → bs ≡ doubles r d → rs ≡ d.rings → mark_from c bs 1 c (plain_bonds bs rs c) ≡ bonds_of r d
+unfolding bonds_of plain_bonds
+bonds-from r d c bs rs p q s =
+    ap (λ (n : ℕ). mark_from n bs 1 n (plain_bonds bs rs n)) p ∙ ap (λ (b : List DbPos). mark_from d.carbon b 1 d.carbon (plain_bonds b rs d.carbon)) q
+    ∙ ap (λ (z : List Closed). mark_from d.carbon (doubles r d) 1 d.carbon (plain_bonds (doubles r d) z d.carbon)) s
 
 -- ---- what holds of every chain that x draws
 
@@ -57,8 +64,7 @@ module _ (r : Role) (d : read.Chain) (x : Drawn) (t : ChainTokens) (w : Draws r 
 
   -- the bonds by carbon are those of the drawing
   pub bonds-are : take (suc d.carbon) t.bonds ≡ bonds_of r d
-  unfolding bonds_of
-  bonds-are = rw (← w.carbon, ← w.bonds, ← w.rings) (k.bonds.are small)
+  bonds-are = ap (λ (n : ℕ). take (suc n) t.bonds) (sym w.carbon) ∙ k.bonds.are small ∙ bonds-from r d _ _ _ w.carbon w.bonds w.rings
 
   pub bond-is : (i : ℕ) → i ≤ d.carbon → bond_at r d i ≡ get_or t.bonds i 0
   unfolding bond_at

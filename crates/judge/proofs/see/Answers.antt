@@ -1,4 +1,5 @@
 use native.Mathlib.Omega.{arith}
+use borrow.Rule.Slice.PartMut.{put_mid}
 use Rattle.drawn_chain.proofs.fitted.Drawing.{fits-some}
 use Rattle.judge.proofs.Laws.{looked-refused, looked}
 use borrow.Author.Rules.{rules}
@@ -12,9 +13,9 @@ draw_refusal-requires c = fits-some c.drawn_as-shape.ensures
 
 pub returns-in-Refused : goal.returns-in-Refused
 returns-in-Refused c =
-    looked-refused _ _ _ _ _ _ c.args.part.now _ _ c.requires (omega (arith, c.parse_token-arg-1.given)) (omega (arith, c.parse_token-arg-2-1.given)) c.parse_token-read.ensures _ _ (search rules)
+    looked-refused c.args.role _ _ _ _ _ c.args.part.now _ _ c.requires (omega (arith, c.told-bonds)) (omega (arith, c.told-groups)) c.parse_token-read.ensures (put_mid 69 8 c.args.part.now c.parse_token-read.new.rings) c.in-Refused.number c.in-Refused.is
 
 pub returns-in-Read : goal.returns-in-Read
 returns-in-Read c =
-    looked _ _ _ _ _ _ c.args.part.now _ _ c.requires (omega (arith, c.parse_token-arg-1.given)) (omega (arith, c.parse_token-arg-2-1.given)) c.parse_token-read.ensures c.read-in-Read-1.given.0.0 _ _ _ _ _
-    c.part-1.given.0 c.read-in-Read-1.given.1 c.drawn_as-shape.ensures c.kind_refusal.ensures c.place_refusal.ensures c.draw_refusal.ensures
+    looked _ _ _ _ _ _ c.args.part.now _ _ c.requires (omega (arith, c.told-bonds)) (omega (arith, c.told-groups)) c.parse_token-read.ensures c.in-Read.said _ _ _ _ _
+    c.parse_token-read.auto.rings c.in-Read.is c.drawn_as-shape.ensures c.kind_refusal.ensures c.place_refusal.ensures c.draw_refusal.ensures
