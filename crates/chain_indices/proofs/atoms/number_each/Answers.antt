@@ -1,3 +1,5 @@
+use Prim.Native.Nat.{◌<◌, ◌^◌}
+use lib.ListN.{length}
 use borrow.Author.Rules.{rules}
 use Prim.Native.Nat.{◌-◌}
 use native.Mathlib.Omega.{arith}
@@ -12,12 +14,12 @@ loop-k-init c = (search rules, search rules, omega arith, omega arith, numbering
 
 pub loop-k-preserved-then-busy-i-eq0 : goal.loop-k-preserved-then-busy-i-eq0
 loop-k-preserved-then-busy-i-eq0 c =
-    (
+    let long : length c.args.index.now < 2 ^ 64 = omega arith in (
       search rules,
       search rules,
       omega arith,
       omega arith,
-      search (number-bare, arith, (search rules), c.requires.busy, c.put_index-p.ensures, c.to_index.ensures, c.bare_atoms-next.ensures, c.loop-k.invariant.4),
+      search (number-bare, arith, long, c.requires.busy, c.put_index-p.ensures, c.to_index.ensures, c.bare_atoms-next.ensures, c.loop-k.invariant.4),
     )
 
 pub busy_atoms-next-requires : goal.busy_atoms-next-requires
