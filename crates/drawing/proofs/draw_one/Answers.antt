@@ -9,4 +9,4 @@ build_line-built-requires c = search one-writable
 
 pub returns : goal.returns
 returns c =
-    drawn-one _ c.requires.count_value c.build_line-built.ensures refl (omega (arith, (search rules))) c.requires.short_is c.lists_by_sn-listed.ensures
+    drawn-one _ c.requires.count_value c.build_line-built.ensures refl (omega arith) c.requires.short_is c.lists_by_sn-listed.ensures

@@ -9,4 +9,4 @@ build_line-built-requires c = search some-writable
 
 pub returns : goal.returns
 returns c =
-    drawn-some _ c.build_line-built.ensures c.requires.index_room refl (omega (arith, (search rules))) c.requires.short_is c.lists_by_sn-listed.ensures c.write_indices-end.ensures
+    drawn-some _ c.build_line-built.ensures c.requires.index_room refl (omega arith) c.requires.short_is c.lists_by_sn-listed.ensures c.write_indices-end.ensures

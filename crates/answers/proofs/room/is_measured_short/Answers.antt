@@ -11,4 +11,4 @@ pub returns-then-line-built : goal.returns-then-line-built
 returns-then-line-built c = short-line c.build_line-built.ensures refl refl c.if-line-built.true
 
 pub returns : goal.returns
-returns c = short-index c.build_line-built.ensures refl refl (omega (arith, (search rules))) c.if-line-built.false
+returns c = short-index c.build_line-built.ensures refl refl (omega arith) c.if-line-built.false
