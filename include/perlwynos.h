@@ -1,6 +1,6 @@
 /* Perlwynos: chain names of lipids to one CXSMILES line with the atom number of
  * every chain carbon. The library is target/staticlib/libcapi.a, written by
- * `rt staticlib capi` for x86-64 Linux, or lib/libperlwynos.a of a release; it
+ * tools/build/staticlib for x86-64 Linux, or lib/libperlwynos.a of a release; it
  * allocates nothing, keeps nothing between calls and may be called from several
  * threads at once.
  */

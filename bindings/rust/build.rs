@@ -1,6 +1,6 @@
 //! Links the static library: libcapi.a or libperlwynos.a of the folder that the environment
 //! variable PERLWYNOS_LIB names, else of target/staticlib of the project, where
-//! `rt staticlib capi` writes it, or of lib of a release.
+//! tools/build/staticlib writes it, or of lib of a release.
 
 use std::env;
 use std::path::PathBuf;
@@ -24,7 +24,7 @@ fn main() {
     let Some((name, archive)) = found else {
         let [(_, first), (_, second)] = &places;
         panic!(
-            "there is neither {} nor {}: `rt staticlib capi` writes the first, a release has the second, and \
+            "there is neither {} nor {}: tools/build/staticlib writes the first, a release has the second, and \
              PERLWYNOS_LIB names another folder",
             first.display(),
             second.display()

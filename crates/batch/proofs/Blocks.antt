@@ -1,7 +1,7 @@
 -- The input in blocks. Of the bytes so far some are left after the last LF that was answered; `Fed` says that they and what was answered
 -- stand for all bytes so far, whatever comes next. It holds at the start, after one more block, after lines were answered, and where what
 -- is left is cut to its first 2,049 bytes; at the end it gives the whole batch. Assumes nothing.
-use Prim.Native.Nat.{ℕ, zero, suc, ◌+◌, ◌-◌}
+use Prim.Native.Nat.{ℕ, zero, suc}
 use native.Mathlib.Omega.{arith}
 use mathlib.Core.Path.{◌≡◌, refl, sym, ap, ◌∙◌}
 use mathlib.Core.Bool.{Bool, true, false, cond}

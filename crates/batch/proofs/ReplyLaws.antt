@@ -1,13 +1,12 @@
 -- Laws of the answer to a row: what is written of an answer of the call is the reply to the row.
 -- Assumes nothing.
-use Prim.Native.Nat.{ℕ, suc, ◌+◌, ◌-◌, ◌≤◌, ◌<◌, ◌^◌, min}
+use Prim.Native.Nat.{ℕ, ◌-◌, ◌≤◌, ◌<◌, ◌^◌, min}
 use native.Mathlib.Omega.{arith}
 use mathlib.Core.Path.{◌≡◌, refl, sym, ap, ◌∙◌, subst}
-use mathlib.Core.Bool.{Bool, true, false, cond, not, ◌||◌, true≢false}
+use mathlib.Core.Bool.{Bool, true, false, cond, not}
 use mathlib.Core.List.{List, [], ◌∷◌, ◌++◌, map, append_assoc}
-use lib.ListN.{length, take, drop, replicate, length-map}
-use lib.Seq.{take-take, take-append_seam, drop-append_seam}
-use lib.Dec.{leb}
+use lib.ListN.{length, take, drop, length-map}
+use lib.Seq.{take-append_seam, drop-append_seam}
 use borrow.Author.Tests.{ltb-false}
 use Rattle.writer.specs.emit.Text.{Written}
 use Rattle.chain_record.specs.plain.Chain.{Chain}
@@ -16,7 +15,6 @@ use Rattle.template_rules.specs.Drawn.{Placed, placed, by_sn}
 use Rattle.template_rules.specs.Written.{indices_of, all_indices, index_of, line_of}
 use Rattle.chain_rules.proofs.chain.Lists.{or_left}
 use Rattle.judge.specs.Verdict.{Verdict, Refused, Drawable, verdict, tokens}
-use Rattle.chain_lists.specs.declared.listing.Listed.{Listed}
 use Rattle.chain_lists.specs.listing.Four.{four}
 use Rattle.chain_lists.specs.listing.Lists.{no_list, list_of}
 use Rattle.template_rules.proofs.Sorted.{length-sorted}

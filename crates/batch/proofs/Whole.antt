@@ -1,6 +1,6 @@
 -- The batch line by line is the whole batch. And while the input comes in blocks, what is left of it may be cut: `Fed` holds from its first
 -- byte to its last, whatever the blocks are. Assumes nothing.
-use Prim.Native.Nat.{ℕ, ◌+◌, ◌-◌, ◌≤◌}
+use Prim.Native.Nat.{ℕ, ◌≤◌}
 use native.Mathlib.Omega.{arith}
 use mathlib.Core.Path.{◌≡◌, refl, sym, ap, ◌∙◌}
 use mathlib.Core.Bool.{Bool, true, false, cond}

@@ -5,7 +5,7 @@ use Rattle.writer.specs.emit.Text.{Written}
 use Rattle.chain_record.specs.plain.Chain.{Chain}
 use Rattle.template_rules.specs.declared.Class.{Class}
 use Rattle.template_rules.specs.Drawn.{Placed, placed, by_sn}
-use Rattle.template_rules.specs.Written.{indices_of, index_of, line_of}
+use Rattle.template_rules.specs.Written.{indices_of, line_of}
 use Rattle.judge.specs.Verdict.{Verdict, Refused, Drawable, verdict}
 use Rattle.answers.specs.declared.answer.Answer.{Answer}
 use Rattle.forward.specs.Answer.{short, index_after}

@@ -1,6 +1,8 @@
 // A sheet of requests answered row by row: each row is taken apart, drawn, and written as a row of the output; the answers are counted. What
 // is written of a row is said by specs/Reply.antt, and of a sheet by specs/Batch.antt. Every input has an output; what a row is refused for,
 // 42 among it, is written in its row.
+#![tactic(auto)]
+
 ghost use Rattle.std.specs.Prelude.{◌≡◌, min, ◌+◌, ◌≤◌, length, take};
 ghost use Rattle.writer.specs.emit.Text.{Written};
 ghost use Rattle.judge.specs.Verdict.{tokens, verdict};

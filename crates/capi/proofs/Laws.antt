@@ -1,7 +1,7 @@
 -- The law of the report: its 21 numbers, from those of the answer. Assumes nothing.
 use Prim.Native.Nat.{ℕ, min}
-use mathlib.Core.Path.{◌≡◌, refl}
-use mathlib.Core.List.{List, [], ◌∷◌}
+use mathlib.Core.Path.{◌≡◌}
+use mathlib.Core.List.{[], ◌∷◌}
 use lib.ListN.{get_or}
 use Rattle.line_parts.specs.declared.shown.Site.{Site}
 use Rattle.chain_lists.specs.declared.listing.Listed.{Listed}

@@ -1,7 +1,5 @@
 -- The answer as 21 numbers, and the contract of the call from C. Assumes nothing.
 use Rattle.std.specs.Prelude.{ℕ, min, ◌≡◌, Bool, List, [], ◌∷◌, ◌++◌, get_or}
-use Rattle.line_parts.specs.declared.shown.Site.{Site}
-use Rattle.chain_lists.specs.declared.listing.Listed.{Listed}
 use Rattle.chain_lists.specs.declared.listing.Lists.{Lists}
 use Rattle.chain_lists.specs.declared.sn_sites.Sites.{Sites}
 use Rattle.chain_lists.specs.listing.Lists.{no_list}

@@ -1,6 +1,8 @@
 // The call for programs in C and for whatever calls as C does: `perlwynos_draw` of include/perlwynos.h. A slice crosses as its pointer and its
 // length, the swap flag as a byte, and the answer as 21 numbers. What is reported is said by specs/Report.antt; it is what `forward::draw`
 // answers and nothing else.
+#![tactic(auto)]
+
 ghost use Rattle.std.specs.Prelude.{◌≡◌, not, ◌<◌, min, eqb, get_or};
 ghost use Rattle.judge.specs.Verdict.{verdict, tokens};
 ghost use Rattle.chain_lists.specs.listing.Lists.{no_list};

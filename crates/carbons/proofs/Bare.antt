@@ -4,7 +4,7 @@ use Prim.Native.Nat.{ℕ, suc, ◌<◌, min}
 use native.Mathlib.Omega.{arith}
 use mathlib.Core.Path.{◌≡◌, refl, sym}
 use mathlib.Core.List.{List, [], ◌∷◌}
-use lib.ListN.{length, replicate, length-replicate}
+use lib.ListN.{replicate, length-replicate}
 use Rattle.drawn_chain.specs.drawable.Drawn.{Drawn, bonds_in, groups_in, bonds_drawn, groups_drawn, rings_drawn}
 use Rattle.carbons.specs.ByCarbon.{double_at, bridge_at, rises_from, Noughts, PlainBonds, BondsBy}
 use Rattle.carbons.specs.Tokens.{Grouped}

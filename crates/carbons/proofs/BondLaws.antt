@@ -15,9 +15,7 @@ use Rattle.chain_record.specs.declared.plain.Geometry.TheVariants.{Unstated, Cis
 use Rattle.chain_record.specs.declared.plain.Bridge.TheVariants.{Epoxide, Carbocycle}
 use Rattle.chain_record.specs.declared.plain.DbPos.{DbPos}
 use Rattle.chain_record.specs.declared.plain.Ring.{Ring}
-use Rattle.chain_rules.specs.chain.Lists.{any_of}
-use Rattle.chain_rules.specs.chain.Refusals.{is_epoxide}
-use Rattle.chain_rules.specs.chain.Bonds.{open_mark, opens_down, close_mark, close_byte, mark_bond, mark_from, geometry_at, plain_bond, bridged, double}
+use Rattle.chain_rules.specs.chain.Bonds.{open_mark, opens_down, close_mark, close_byte, mark_bond, mark_from, geometry_at}
 use Rattle.drawn_chain.specs.drawable.Drawn.{Length, no_bond, no_ring}
 use Rattle.carbons.specs.ByCarbon.{geometry_byte, geometry_of, double_at, bridge_at, ring_on, rises_from, SetWhere, Geometries, Marks}
 use Rattle.carbons.proofs.Fronts.{next_of, back_one, none_left}

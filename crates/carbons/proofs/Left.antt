@@ -1,8 +1,8 @@
 -- A text that is written part by part: so much of it is written, and so much is left. The invariant of every loop that writes.
 -- Assumes nothing.
 use Prim.Native.Nat.{ℕ, ◌<◌, ◌^◌}
-use mathlib.Core.Path.{◌≡◌, refl, sym, ap, ◌∙◌}
-use mathlib.Core.List.{List, [], ◌∷◌, ◌++◌, append-nil, append_assoc}
+use mathlib.Core.Path.{◌≡◌, refl, ◌∙◌}
+use mathlib.Core.List.{List, [], ◌++◌, append-nil, append_assoc}
 use lib.ListN.{length}
 use Rattle.writer.specs.emit.Text.{Written}
 use Rattle.writer.proofs.emit.Laws.{written-nil, written-append, written-length}

@@ -1,6 +1,8 @@
 // The bonds of a chain in an array by carbon, with their marks, and the atoms of the carbons that carry anything: the groups and rings are gone
 // through once, and after that each carbon is looked up. What stands there is what `chain_rules` draws. Arrays of noughts that reach the last
 // carbon have to be lent; nothing is refused.
+#![tactic(auto)]
+
 ghost use Rattle.std.specs.Prelude.{◌≡◌, true, [], ℕ, ◌+◌, ◌≤◌, ◌<◌, min, max, length, get_or, set, replicate};
 ghost use Rattle.chain_rules.specs.chain.Bonds.{open_mark, close_mark, mark_bond, close_byte, mark_from, bridged, double};
 ghost use Rattle.drawn_chain.specs.drawable.Drawn.{bonds_in, groups_in, rings_in, drawn_of, bonds_drawn, rings_drawn, DrawsSome};

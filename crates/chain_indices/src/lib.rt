@@ -1,6 +1,8 @@
 // The index of each carbon of a chain, and what is counted of its atoms and its variables. The indices are those of the carbons in the drawn
 // molecule; what falls past the end of the lent slice is dropped and counted, and the quicker way of `grouped_atoms` asks for room. Nothing is
 // refused.
+#![tactic(auto)]
+
 pub mod atoms;
 mod carried_atoms;
 mod grouped_atoms;

@@ -1,6 +1,8 @@
 // The pieces of a chain's text, each written at a place of a lent slice: ring labels, groups, the carbons with the flexible tail, and runs of
 // carbons that carry nothing. What stands there is `show` of the pieces that the reading rules read. Nothing is refused: what falls past the
 // end is dropped and counted; but a run, which is written four carbons at a time, asks for bonds that reach its last carbon and mostly for room.
+#![tactic(auto)]
+
 pub mod backbone;
 pub mod branches;
 mod four_bytes;

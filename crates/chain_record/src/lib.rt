@@ -1,5 +1,7 @@
 // What one token says of a chain: plain types, the same as plain numbers so that they can be lent, and the record with its arrays. A number
 // gives back what it was made of; a push keeps the list with one element more. 31 is answered here, where a count is over its limit.
+#![tactic(auto)]
+
 mod bondcodes;
 pub mod codes;
 mod groupcodes;

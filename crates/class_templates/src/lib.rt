@@ -1,5 +1,7 @@
 // The templates of the classes, each as 01 writes it: texts of its own, slots and chains, in the order of the text. A chain is named by its sn;
 // the builder takes it from those of the request. Text, indices and counters afterwards are those of `template_rules`. Nothing is refused.
+#![tactic(auto)]
+
 ghost use Rattle.template_rules.specs.declared.Class.TheVariants.{Fa, Gp, Cl, Sb, Sa};
 ghost use Rattle.template_rules.specs.Template.{elements, glycerol, role_of};
 ghost use Rattle.request_chains.specs.chain_numbers.Shapes.{chains_kept};

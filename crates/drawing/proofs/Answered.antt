@@ -1,16 +1,15 @@
 -- What is answered, where a line was built.
 -- Assumes nothing.
-use Prim.Native.Nat.{ℕ, zero, suc, ◌+◌, ◌-◌, ◌≤◌, ◌<◌, ◌^◌, min}
-use native.Mathlib.Nat.{zero-add, sub-zero}
+use Prim.Native.Nat.{ℕ, ◌≤◌, ◌<◌, ◌^◌}
+use native.Mathlib.Nat.{zero-add}
 use native.Mathlib.Omega.{arith}
-use mathlib.Core.Path.{◌≡◌, refl, sym, ap, ap₂, ◌∙◌}
+use mathlib.Core.Path.{◌≡◌, refl, ap, ap₂, ◌∙◌}
 use mathlib.Core.Bool.{Bool, true, false}
-use mathlib.Core.List.{List, [], ◌∷◌, ◌++◌, map}
-use lib.ListN.{length, take, drop, length-take, length-map}
+use mathlib.Core.List.{List, [], ◌∷◌, map}
+use lib.ListN.{length, length-take, length-map}
 use lib.Seq.{sets, sets-eq, take_all}
 use Rattle.writer.specs.emit.Text.{Written}
 use Rattle.chain_record.specs.plain.Chain.{Chain}
-use Rattle.reading_rules.specs.reading.Molecule.{at}
 use Rattle.line_parts.specs.declared.shown.Site.{Site}
 use Rattle.line_parts.specs.shown.Notes.{labels_of}
 use Rattle.template_rules.specs.declared.Class.{Class}
@@ -20,13 +19,12 @@ use Rattle.placement.specs.declared.chain_notes.Placed.{Placed}
 use Rattle.placement.specs.chain_notes.Fragment.{noted}
 use Rattle.placement.proofs.chain_notes.Ready.{sns-few}
 use Rattle.chain_lists.specs.declared.rising.Rising.{Rising}
-use Rattle.chain_lists.specs.rising.Four.{four}
 use Rattle.chain_lists.specs.rising.Order.{places_in, picked}
 use Rattle.chain_lists.proofs.rising.Picked.{picked-few}
 use Rattle.chain_lists.specs.declared.listing.Listed.{Listed}
 use Rattle.chain_lists.specs.declared.listing.Lists.{Lists}
 use Rattle.chain_lists.specs.declared.sn_sites.Sites.{Sites}
-use Rattle.chain_lists.specs.listing.Lists.{no_list, list_of, list_in, lists_at, ListsHeld}
+use Rattle.chain_lists.specs.listing.Lists.{list_of, list_in, lists_at, ListsHeld}
 use Rattle.chain_lists.specs.listing.Sites.{all_site_list, SitesAre}
 use Rattle.chain_lists.proofs.listing.PlacedLaws.{sns-told, places-few, sites-placed}
 use Rattle.chain_lists.proofs.listing.ListsLaws.{lists-told}

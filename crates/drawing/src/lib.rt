@@ -1,5 +1,7 @@
 // A request that was judged, drawn: its line and its index lists, or 41 where a slice is too short for them. The answer, and what both slices
 // hold afterwards, are said by specs/answer/Answer.antt of `answers`.
+#![tactic(auto)]
+
 ghost use Rattle.std.specs.Prelude.{◌≡◌, false, length};
 ghost use Rattle.request_chains.specs.chain_numbers.Shapes.{chains_kept};
 ghost use Rattle.class_lines.specs.longest.Covered.{Slight};

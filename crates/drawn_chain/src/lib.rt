@@ -1,5 +1,7 @@
 // A chain as it is drawn in its place: its numbers by value, its lists in a part of a lent array, and how far it is drawn as it is written. The
 // contracts promise the chain of `chain_rules`, for every count: one past its limit counts as the limit. Nothing is refused here.
+#![tactic(auto)]
+
 pub mod drawable;
 pub mod fitted;
 pub mod reach;

@@ -1,9 +1,9 @@
 -- The call: what is answered to a request that was judged, and the promise that is kept where it is accepted.
 -- Assumes nothing.
-use Prim.Native.Nat.{ℕ, zero, suc, ◌+◌, ◌≤◌, ◌<◌}
+use Prim.Native.Nat.{ℕ, ◌≤◌}
 use native.Mathlib.Omega.{arith}
-use mathlib.Core.Path.{◌≡◌, refl, sym, ap, ◌∙◌, subst}
-use mathlib.Core.Bool.{Bool, true, false, cond, not, false≢true}
+use mathlib.Core.Path.{◌≡◌, refl, sym, ap, ◌∙◌}
+use mathlib.Core.Bool.{Bool, true, false, cond, false≢true}
 use mathlib.Core.List.{List, [], ◌∷◌, ◌++◌, map}
 use lib.ListN.{length, take, drop, length-map}
 use borrow.Author.Tests.{not-false}
@@ -27,7 +27,7 @@ use Rattle.judge.specs.Judged.{JudgedIs}
 use Rattle.judge.specs.Verdict.{Verdict, Refused, Drawable, wrong_tail, verdict, tokens, is_refusal}
 use Rattle.judge.proofs.Accepted.{judged-accepted, judged-fits, refused-number, answer-drawable, answer-refused}
 use Rattle.answers.specs.declared.answer.Answer.{Answer}
-use Rattle.answers.specs.answer.Answer.{site_of, refusal, acceptance, short, answer_to, at_start, line_after, index_after, Answers}
+use Rattle.answers.specs.answer.Answer.{site_of, refusal, acceptance, short, at_start, Answers}
 use Rattle.answers.specs.room.Ready.{Readied}
 use Rattle.drawing.specs.Draw.{ChainsDrawn}
 use Rattle.forward.specs.Call.{Kept, Called}

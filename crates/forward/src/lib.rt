@@ -1,6 +1,8 @@
 // The call: a class, a swap flag, a tail and up to four tokens to one line and the index lists of its chains. Every request has an answer,
 // and a request that is refused leaves both slices as they were. What is answered and written is said by specs/answer/Answer.antt of `answers`, and
 // what an accepted line promises by specs/Call.antt.
+#![tactic(auto)]
+
 ghost use Rattle.std.specs.Prelude.{◌*◌, ◌≤◌, min, length};
 ghost use Rattle.judge.specs.Verdict.{verdict, tokens};
 ghost use Rattle.forward.specs.Call.{Called};

@@ -1,5 +1,7 @@
 // The group table of 01 and what an abbreviation means: a row of the table, or a ring of two or three carbons. Every byte string has an answer,
 // and a row past the table is blank; nothing is refused here.
+#![tactic(auto)]
+
 mod abbreviations;
 mod aliases;
 pub mod groups;

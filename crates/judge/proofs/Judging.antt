@@ -29,7 +29,7 @@ use Rattle.judge.specs.declared.Judged.{Judged}
 use Rattle.judge.specs.declared.Judged.TheVariants.{Drawable as Judged-as-Drawable, Refused as Judged-as-Refused}
 use Rattle.judge.specs.declared.Seen.{Seen}
 use Rattle.judge.specs.declared.Seen.TheVariants.{Refused as Seen-as-Refused}
-use Rattle.judge.specs.Verdict.{Verdict, Refused, Drawable, tokens, earlier_of, first_of, kind_refusal, wrong_tail, or_else, judge_drawn, judge_chains, judge_read, wrong_count, judge_tokens, verdict}
+use Rattle.judge.specs.Verdict.{Refused, Drawable, tokens, earlier_of, first_of, kind_refusal, wrong_tail, or_else, judge_drawn, judge_chains, judge_read, wrong_count, judge_tokens, verdict}
 use Rattle.judge.specs.Judged.{Drawing, JudgedIs, SeenIs, due_of, or_drawable}
 use Rattle.drawn_chain.proofs.drawable.Parts.{items-length}
 use Rattle.judge.proofs.Laws.{Met, draws-length, met-stop}

@@ -1,6 +1,8 @@
 // Whether a request is refused, before its slices are looked at: class, number of tokens, tokens, kinds, tail, and what cannot be drawn, in
 // the order of document 01. Every request has an answer. Which, is said by specs/Verdict.antt. The numbers of its chains (`request_chains::chain_numbers`) and
 // their lists are laid into lent arrays, a part for each token.
+#![tactic(auto)]
+
 ghost use Rattle.std.specs.Prelude.{◌≡◌, ◌+◌, ◌*◌, ◌<◌, ◌≤◌, min, [], ◌∷◌, length, get_or};
 ghost use Rattle.token_reader.specs.token.Token.{token_of};
 ghost use Rattle.token_reader.specs.token.Request.{tokens_of};

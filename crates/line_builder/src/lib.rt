@@ -2,6 +2,8 @@
 // Texts go to the line at once, and so do the indices of each chain, the rows of its floating groups and where it stands to slices of their
 // own; marks, sites and sums are numbers until the line is finished. On empty slices the same functions measure. What is built is said
 // by the definitions of `template_rules` (crates/template_rules/specs); what a push adds, by specs/Build.antt.
+#![tactic(auto)]
+
 ghost use Rattle.std.specs.Prelude.{◌≡◌};
 ghost use Rattle.drawn_chain.specs.drawable.Drawn.{drawn_of};
 ghost use Rattle.request_chains.specs.chain_numbers.Shapes.{chains_kept};

@@ -1,6 +1,8 @@
 // The parts of a line after its text, one by one: names of variables, repeat marks, site lists, sums, and what stands between them. What is
 // written is what the reading rules show. Writers: past the end of the slice they drop and count; atoms and variables have to stay below 2^32,
 // and an sn has one digit. Nothing is refused.
+#![tactic(auto)]
+
 mod marks;
 pub mod shown;
 pub mod sites;

@@ -1,10 +1,12 @@
 // The batch program: answers the sheet on standard input and writes the answers to standard output, both in large blocks. What is answered
 // and written is the library's, `batch`; here are the blocks alone. Its memory does not grow: of a line that is longer than a row may be,
 // only the start is kept. Where reading or writing fails it says so on standard error and ends; what it has written by then are whole rows.
+#![tactic(auto)]
+
 ghost use Rattle.std.specs.Prelude.{◌≤◌, length};
 
 use batch::Batch;
-use libc::{STDERR_FILENO, STDIN_FILENO, STDOUT_FILENO};
+use std::io::Read;
 
 // Bytes that are read at once, less what is left of the block before.
 const BLOCK: usize = 65536;
@@ -19,19 +21,21 @@ const OUT: usize = 262144;
 
 const LIMIT: usize = 163840;
 
+// Says on standard error what failed. Where that cannot be written either, nothing is left to say it on.
+fn say(rt: HostRuntime, message: &str) {
+    let _ = eprintln!(rt; "perlwynos: {message}");
+}
+
 // Writes the output, and answers whether that went well.
-fn flush(out: &[u8], at: usize) -> bool {
+fn flush(rt: HostRuntime, out: &[u8], at: usize) -> bool {
     if out.len() < at {
-        io::write_all(STDERR_FILENO, b"perlwynos: no room for an answer\n");
+        say(rt, "no room for an answer");
         return false;
     }
-    if io::write_all(STDOUT_FILENO, &out[0..at]) {
+    if rt.write_all(&out[0..at]).is_ok() {
         return true;
     }
-    io::write_all(
-        STDERR_FILENO,
-        b"perlwynos: cannot write to standard output\n",
-    );
+    say(rt, "cannot write to standard output");
     false
 }
 
@@ -45,7 +49,14 @@ struct Step {
 }
 
 // All lines of a text that end in LF. The output is put out whenever it is full enough.
-fn answer_text(batch: Batch, text: &[u8], index: &mut [u16], out: &mut [u8], at: usize) -> Step {
+fn answer_text(
+    rt: HostRuntime,
+    batch: Batch,
+    text: &[u8],
+    index: &mut [u16],
+    out: &mut [u8],
+    at: usize,
+) -> Step {
     let mut b = batch;
     let mut rest = text;
     let mut p = at;
@@ -66,7 +77,7 @@ fn answer_text(batch: Batch, text: &[u8], index: &mut [u16], out: &mut [u8], at:
                 at: p,
             };
         }
-        if !flush(out, p) {
+        if !flush(rt, out, p) {
             break;
         }
         p = 0;
@@ -86,7 +97,7 @@ struct Block {
     total: usize,
 }
 
-fn read_more(block: &mut [u8], fill: usize) -> Block
+fn read_more(rt: HostRuntime, block: &mut [u8], fill: usize) -> Block
     ensures { result.total ≤ length block.old }
 {
     if block.len() <= fill {
@@ -95,31 +106,36 @@ fn read_more(block: &mut [u8], fill: usize) -> Block
             total: 0,
         };
     }
-    let part = &mut block[fill..];
-    let got = libc::read(STDIN_FILENO, part);
-    if got < 0 {
-        return Block {
+    let mut input = rt.stdin();
+    match input.read(&mut block[fill..]) {
+        Ok(n) => Block {
+            ok: true,
+            total: fill + n,
+        },
+        Err(_) => Block {
             ok: false,
             total: 0,
-        };
-    }
-    let n = io::count(got, part);
-    Block {
-        ok: true,
-        total: fill + n,
+        },
     }
 }
 
 // The end of the input, with what is left of it.
-fn end_all(batch: Batch, text: &[u8], index: &mut [u16], out: &mut [u8], at: usize) {
+fn end_all(
+    rt: HostRuntime,
+    batch: Batch,
+    text: &[u8],
+    index: &mut [u16],
+    out: &mut [u8],
+    at: usize,
+) {
     let end = batch::finish(batch, text, index, out, at);
-    flush(out, end);
+    flush(rt, out, end);
 }
 
 // The input could not be read: the rows that were answered are still put out.
-fn stop_reading(out: &[u8], at: usize) {
-    flush(out, at);
-    io::write_all(STDERR_FILENO, b"perlwynos: cannot read standard input\n");
+fn stop_reading(rt: HostRuntime, out: &[u8], at: usize) {
+    flush(rt, out, at);
+    say(rt, "cannot read standard input");
 }
 
 // The program between two reads: the batch, how many bytes of the block are left of its last line, and the place after what is written and
@@ -143,6 +159,7 @@ fn ended(batch: Batch) -> State {
 
 // The lines of a block of which so many bytes are read.
 fn answer_block(
+    rt: HostRuntime,
     state: State,
     block: &mut [u8],
     total: usize,
@@ -152,7 +169,7 @@ fn answer_block(
     requires { total ≤ length block.old }
 {
     let b = state.batch;
-    let step = answer_text(b, &block[0..total], index, out, state.at);
+    let step = answer_text(rt, b, &block[0..total], index, out, state.at);
     let after = step.batch;
     if !step.ok {
         return ended(after);
@@ -167,29 +184,35 @@ fn answer_block(
 }
 
 // One read and what it brings.
-fn turn(state: State, block: &mut [u8], index: &mut [u16], out: &mut [u8]) -> State {
+fn turn(
+    rt: HostRuntime,
+    state: State,
+    block: &mut [u8],
+    index: &mut [u16],
+    out: &mut [u8],
+) -> State {
     let b = state.batch;
     let fill = state.fill;
-    let read = read_more(block, fill);
+    let read = read_more(rt, block, fill);
     let total = read.total;
     if !read.ok {
-        stop_reading(out, state.at);
+        stop_reading(rt, out, state.at);
         return ended(b);
     }
     if total == fill {
-        end_all(b, &block[0..total], index, out, state.at);
+        end_all(rt, b, &block[0..total], index, out, state.at);
         return ended(b);
     }
-    answer_block(state, block, total, index, out)
+    answer_block(rt, state, block, total, index, out)
 }
 
 // A proved loop ends, and nothing says that the input does: the turns count down from a number that no run uses up.
-fn answer_all(state: State, block: &mut [u8], index: &mut [u16], out: &mut [u8]) {
+fn answer_all(rt: HostRuntime, state: State, block: &mut [u8], index: &mut [u16], out: &mut [u8]) {
     let mut s = state;
     let mut turns = u64::MAX;
     while turns > 0 {
         turns -= 1;
-        let after = turn(s, block, index, out);
+        let after = turn(rt, s, block, index, out);
         if !after.more {
             return;
         }
@@ -197,7 +220,7 @@ fn answer_all(state: State, block: &mut [u8], index: &mut [u16], out: &mut [u8])
     }
 }
 
-fn main() {
+fn main(rt: HostRuntime) {
     let mut block = [0u8; BLOCK];
     let mut index = [0u16; INDICES];
     let mut out = [0u8; OUT];
@@ -209,5 +232,5 @@ fn main() {
         fill: 0,
         at,
     };
-    answer_all(start, &mut block, &mut index, &mut out);
+    answer_all(rt, start, &mut block, &mut index, &mut out);
 }

@@ -1,5 +1,7 @@
 // The chains of a request as numbers of lent arrays: how many there are at most, and what is known of each beside its lists. What is kept of
 // a chain is what is found again. Every place has an answer; past the last stands an empty chain. Nothing is refused.
+#![tactic(auto)]
+
 mod chain_count;
 pub mod chain_numbers;
 

@@ -1,6 +1,8 @@
 // Looking into lent bytes: places, the part between spaces, digits, numbers, and a reader that goes from part to part. Each promises the very
 // place, part or number that its definition gives, for every byte string of every length. Nothing is refused: a number that cannot be read is
 // an answer.
+#![tactic(auto)]
+
 mod digits;
 pub mod part;
 pub mod reader;

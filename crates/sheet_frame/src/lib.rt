@@ -1,6 +1,8 @@
 // What stands around the lines of the output: the titles, what is written of the header, the head of a row, and how often each answer was met.
 // The bytes are those of the definitions, and every answer is counted once for each row. Writers: past the end of the output they drop and
 // count. What is written of a 42 is said here; nothing else is refused.
+#![tactic(auto)]
+
 pub mod beginning;
 pub mod row_heads;
 pub mod tally;

@@ -1,5 +1,7 @@
 // A sheet as it comes in: what is left of a block, the header, the cells of a row, and the request that a row makes. Every byte string has the
 // answer that the definitions give; an unreadable header or row is 42.
+#![tactic(auto)]
+
 mod cells;
 mod cellwords;
 pub mod cutting;

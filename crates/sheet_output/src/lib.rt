@@ -1,5 +1,7 @@
 // A row of the output, written: its head, the line, and the indices of its chains. The bytes are those of the definitions. Writers: past the
 // end of the output they drop and count. Nothing is refused; the table of digits that saves divisions has to be filled.
+#![tactic(auto)]
+
 mod carbon_lists;
 mod digit_pairs;
 pub mod rows;

@@ -1,19 +1,18 @@
 -- Laws of the builder's state: elements one after the other.
 -- Assumes nothing.
-use Prim.Native.Nat.{ℕ, zero, suc, ◌+◌}
-use native.Mathlib.Nat.{add_assoc, add-zero}
-use mathlib.Core.Path.{◌≡◌, refl, sym, ap, ap₂, ◌∙◌}
+use Prim.Native.Nat.{ℕ, suc, ◌+◌}
+use mathlib.Core.Path.{◌≡◌, refl, sym, ap, ◌∙◌}
 use mathlib.Core.Option.{Option, none, some}
 use mathlib.Core.List.{List, [], ◌∷◌, ◌++◌, append_assoc, append-nil, map}
 use lib.ListN.{length}
 use Rattle.chain_record.specs.plain.Chain.{Chain}
 use Rattle.reading_rules.specs.reading.Piece.{Piece, show}
-use Rattle.reading_rules.specs.reading.Template.{Item, piece, part, chain as drawn_chain, item_pieces, next_label, template_pieces}
+use Rattle.reading_rules.specs.reading.Template.{Item, piece, item_pieces, next_label, template_pieces}
 use Rattle.reading_rules.proofs.reading.ShowLex.{show-append}
 use Rattle.chain_rules.specs.declared.chain.Role.{Role}
 use Rattle.chain_rules.specs.chain.Drawing.{chain_drawn, ring_pairs}
 use Rattle.template_rules.specs.Template.{Element, fixed, tail, slot, chain}
-use Rattle.template_rules.specs.Drawn.{Placed, place, nonempty, placed_from, chain_item, slot_oxygen, fixed_pieces, items_of, all_items}
+use Rattle.template_rules.specs.Drawn.{Placed, nonempty, placed_from, chain_item, slot_oxygen, fixed_pieces, items_of, all_items}
 use Rattle.template_rules.specs.Built.{chain_in, element_atoms, element_variables, labels_after, element_labels, element_placed, atoms_from, variables_from, labels_from}
 
 -- the chains of elements, the first taken off

@@ -1,6 +1,5 @@
 -- What the fields of the promise say of single requests: FA 5:0;5Me, 5:0;OH and 6:1, GL2 4:0/4:0 with swap, SA d6:0/4:0.
 -- Assumes nothing.
-use Prim.Native.Nat.{ℕ}
 use mathlib.Core.Path.{◌≡◌, refl}
 use mathlib.Core.Bool.{true, false}
 use mathlib.Core.Option.{none, some}
@@ -12,7 +11,7 @@ use Rattle.reading_rules.specs.reading.Ascii.{ascii}
 use Rattle.reading_rules.specs.reading.Molecule.{at}
 use Rattle.chain_rules.specs.chain.Drawing.{chain_drawn, carbon_atoms, marks, sites, sums, atoms_end}
 use Rattle.template_rules.specs.declared.Class.TheVariants.{Fa, Gl2, Sa}
-use Rattle.template_rules.specs.Drawn.{Placed, nonempty, atoms_of_pieces, fixed_pieces, placed, by_sn, sn_sites, molecule_drawn}
+use Rattle.template_rules.specs.Drawn.{nonempty, atoms_of_pieces, fixed_pieces, placed, by_sn, sn_sites, molecule_drawn}
 use Rattle.reading_rules.specs.reading.Chain.{own, other, places}
 use Rattle.reading_rules.specs.reading.Template.{members}
 use Rattle.template_rules.specs.Chains.{hangs_on, own_members, own_carbons}

@@ -1,17 +1,17 @@
 -- What a molecule of rows says of an atom, and the set of its sums.
 -- Assumes nothing.
-use Prim.Native.Nat.{ℕ, zero, suc, ◌+◌, ◌-◌, ◌≤◌, ◌<◌}
+use Prim.Native.Nat.{ℕ, zero, suc, ◌+◌, ◌≤◌, ◌<◌}
 use native.Mathlib.Decide.{ℕ_discrete}
 use native.Mathlib.Omega.{arith}
 use mathlib.Core.Path.{◌≡◌, refl, sym, ap, ◌∙◌, subst}
-use mathlib.Core.Option.{Option, none, some}
+use mathlib.Core.Option.{Option, some}
 use mathlib.Core.Bool.{true}
 use borrow.Author.Tests.{eq-eqb, ne_eqb}
 use mathlib.Core.List.{List, [], ◌∷◌, ◌++◌, map}
 use Rattle.reading_rules.specs.reading.Ascii.{ascii}
 use Rattle.reading_rules.specs.reading.Row.{link, Row, row}
 use lib.ListN.{length}
-use Rattle.reading_rules.specs.reading.Molecule.{At, at, atoms_of, look, Bond, bond, bond_key, bonds_to, bonds_from, bonds_of, Sum, set_of, sum_key, atoms_from, molecule_of}
+use Rattle.reading_rules.specs.reading.Molecule.{At, at, atoms_of, look, bond, bond_key, bonds_to, bonds_from, bonds_of, Sum, set_of, sum_key, atoms_from, molecule_of}
 use Rattle.reading_rules.proofs.reading.SetLaws.{Has, set_to, set-from, bond-told, sum_told}
 use mathlib.Core.Logic.{inl, inr, ⊎_elim}
 use Rattle.reading_rules.proofs.reading.PartingLaws.{All, all_map}

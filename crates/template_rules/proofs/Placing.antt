@@ -31,7 +31,7 @@ use Rattle.chain_rules.specs.declared.chain.Role.{Role}
 use Rattle.chain_rules.specs.declared.chain.Role.TheVariants as role
 use Rattle.chain_rules.specs.chain.Lists.{any_of, all_of}
 use Rattle.chain_rules.specs.chain.Refusals.{wrong_kind, place_refusal, draw_refusal}
-use Rattle.chain_rules.specs.chain.Drawing.{chain_drawn, carbons, floats, carbon_atoms, atoms_end, variables}
+use Rattle.chain_rules.specs.chain.Drawing.{chain_drawn, carbons, floats, atoms_end, variables}
 use Rattle.chain_rules.proofs.chain.Lists.{all_append}
 use Rattle.chain_rules.proofs.chain.Accepted.{Drawable}
 use Rattle.chain_rules.proofs.chain.Few.{atoms-most}

@@ -14,8 +14,8 @@ use Rattle.reading_rules.specs.reading.Ascii.{ascii}
 use Rattle.reading_rules.specs.reading.Lexer.{memb, pieces_of}
 use Rattle.reading_rules.specs.reading.Piece.{show}
 use Rattle.reading_rules.specs.reading.Row.{Row}
-use Rattle.reading_rules.specs.reading.Molecule.{At, at, atoms_of, notes_of, look, variables_of, Molecule, molecule_of, set_of, sum_key}
-use Rattle.reading_rules.specs.reading.Line.{flat, below, distinct, rising, once}
+use Rattle.reading_rules.specs.reading.Molecule.{At, atoms_of, notes_of, look, variables_of, Molecule, molecule_of, set_of, sum_key}
+use Rattle.reading_rules.specs.reading.Line.{flat, below, distinct, rising}
 use Rattle.reading_rules.specs.reading.Chain.{chain_end}
 use Rattle.reading_rules.proofs.reading.PartingLaws.{All, all_map, NonEmpty, and_left, and_right}
 use Rattle.reading_rules.proofs.reading.ListLaws.{below_all, all-below, once-self}

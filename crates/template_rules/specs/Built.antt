@@ -1,9 +1,7 @@
 -- What the builder has after some elements of a template: its three counters, and the chains that it placed. Assumes nothing.
-use Rattle.std.specs.Prelude.{ℕ, zero, suc, ◌+◌, List, [], ◌∷◌, ◌++◌, map, length}
+use Rattle.std.specs.Prelude.{ℕ, suc, ◌+◌, List, [], ◌∷◌, length}
 use Rattle.std.proofs.Math.Option.{Option, none, some}
 use Rattle.chain_record.specs.plain.Chain.{Chain}
-use Rattle.reading_rules.specs.reading.Part.{Part}
-use Rattle.chain_rules.specs.declared.chain.Role.{Role}
 use Rattle.chain_rules.specs.declared.chain.Role.TheVariants as role
 use Rattle.template_rules.specs.Template.{Element, fixed, tail, slot, chain}
 use Rattle.template_rules.specs.Drawn.{Placed, place, site_of, nonempty, fixed_pieces, tail_part, atoms_of_pieces, atoms_after, variables_after}

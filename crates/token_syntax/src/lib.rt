@@ -1,6 +1,8 @@
 // How a segment of a token is written: its text without brackets, the parts of a list, its numbers, and which of 01's four forms it has. Each
 // promises what the sentence of 01 beside its definition says, for every byte string. Nothing is refused: a number that cannot be read is an
 // answer.
+#![tactic(auto)]
+
 mod brackets;
 pub mod form;
 mod numbers;

@@ -1,15 +1,22 @@
 // Reads tokens from standard input, one to a line, and writes for each, on a line of its own, the record that the token reader makes of it:
 // `prefix c n bonds groups rings`, or the number of its refusal. It is run on stored vectors and held to the stored answers.
+#![tactic(auto)]
+
+ghost use Rattle.std.specs.Prelude.{◌≤◌, length};
+
 use chain_record::{
     Bridge, ChainPrefix, DbPos, GROUP_ROOM, Geometry, MAX_BONDS, MAX_RINGS, Mod, ParsedChain, Ring,
 };
-use libc::{STDIN_FILENO, STDOUT_FILENO};
+use std::io::Read;
 use token_reader::ReadToken;
 
 // One byte past the longest token: a longer line answers as its first 256 bytes do.
 const LINE: usize = 256;
 
 const OUT: usize = 2048;
+
+// Bytes that are read at once.
+const BLOCK: usize = 4096;
 
 fn prefix_letter(p: ChainPrefix) -> u8 {
     match p {
@@ -166,10 +173,11 @@ fn put_answer(out: &mut [u8], token: &[u8]) -> usize {
     }
 }
 
-fn write_answer(out: &mut [u8], token: &[u8]) {
+// An answer that cannot be written is left out, and the next one tried.
+fn write_answer(rt: HostRuntime, out: &mut [u8], token: &[u8]) {
     let n = put_answer(out, token);
     if n <= out.len() {
-        io::write_all(STDOUT_FILENO, &out[0..n]);
+        let _ = rt.write_all(&out[0..n]);
     }
 }
 
@@ -194,29 +202,48 @@ fn with_byte(mut line: Line, b: u8) -> Line {
     line
 }
 
-fn answer_line(out: &mut [u8], line: Line) {
+fn answer_line(rt: HostRuntime, out: &mut [u8], line: Line) {
     let n = line.len;
     let bytes = line.bytes;
     if n <= LINE {
-        write_answer(out, &bytes[0..n]);
+        write_answer(rt, out, &bytes[0..n]);
     }
 }
 
 // The lines that end in a block, and what is left of the last.
-fn answer_block(out: &mut [u8], line: Line, block: &[u8]) -> Line {
+fn answer_block(rt: HostRuntime, out: &mut [u8], line: Line, block: &[u8]) -> Line {
     let mut l = line;
     let mut i = 0;
     while i < block.len() {
         let b = block[i];
         i += 1;
         if b == b'\n' {
-            answer_line(out, l);
+            answer_line(rt, out, l);
             l = empty_line();
             continue;
         }
         l = with_byte(l, b);
     }
     l
+}
+
+// Reads until the block is full, the input ends or a read fails, and answers how many bytes stand at its start.
+fn read_full(rt: HostRuntime, block: &mut [u8]) -> usize
+    ensures { result ≤ length block.new }
+{
+    let mut input = rt.stdin();
+    let mut done = 0;
+    while done < block.len() {
+        let n = match input.read(&mut block[done..]) {
+            Ok(n) => n,
+            Err(_) => 0,
+        };
+        if n == 0 {
+            break;
+        }
+        done += n;
+    }
+    done
 }
 
 // One block of input, and whether there was one.
@@ -226,13 +253,13 @@ struct Turn {
     line: Line,
 }
 
-fn read_block(out: &mut [u8], line: Line) -> Turn {
-    let mut block = io::buffer();
-    let n = io::read_full(STDIN_FILENO, &mut block);
+fn read_block(rt: HostRuntime, out: &mut [u8], line: Line) -> Turn {
+    let mut block = [0u8; BLOCK];
+    let n = read_full(rt, &mut block);
     if n == 0 {
         return Turn { more: false, line };
     }
-    let rest = answer_block(out, line, &block[..n]);
+    let rest = answer_block(rt, out, line, &block[..n]);
     Turn {
         more: true,
         line: rest,
@@ -240,15 +267,15 @@ fn read_block(out: &mut [u8], line: Line) -> Turn {
 }
 
 // A proved loop ends, and nothing says that the input does: the turns count down from a number that no run uses up.
-fn answer_all(out: &mut [u8]) {
+fn answer_all(rt: HostRuntime, out: &mut [u8]) {
     let mut line = empty_line();
     let mut turns = u64::MAX;
     while turns > 0 {
-        let turn = read_block(out, line);
+        let turn = read_block(rt, out, line);
         let rest = turn.line;
         if !turn.more {
             if rest.len > 0 {
-                answer_line(out, rest);
+                answer_line(rt, out, rest);
             }
             return;
         }
@@ -257,7 +284,7 @@ fn answer_all(out: &mut [u8]) {
     }
 }
 
-fn main() {
+fn main(rt: HostRuntime) {
     let mut out = [0u8; OUT];
-    answer_all(&mut out);
+    answer_all(rt, &mut out);
 }

@@ -1,9 +1,9 @@
 -- A slice is too short, or both are long enough.
 -- Assumes nothing.
-use Prim.Native.Nat.{ℕ, ◌*◌, ◌≤◌, ◌<◌, ◌^◌}
+use Prim.Native.Nat.{ℕ, ◌≤◌, ◌<◌, ◌^◌}
 use native.Mathlib.Omega.{arith}
-use mathlib.Core.Path.{◌≡◌, refl, sym, ap, ◌∙◌}
-use mathlib.Core.Bool.{Bool, true, false, true≢false, ◌||◌}
+use mathlib.Core.Path.{◌≡◌, sym, ap, ◌∙◌}
+use mathlib.Core.Bool.{Bool, true, false}
 use mathlib.Core.List.{List}
 use lib.ListN.{length}
 use lib.Dec.{ltb}
@@ -14,9 +14,7 @@ use Rattle.chain_record.specs.plain.Chain.{Chain}
 use Rattle.drawn_chain.specs.drawable.Chains.{Chains}
 use Rattle.request_chains.specs.chain_numbers.Shapes.{chains_kept}
 use Rattle.template_rules.specs.declared.Class.{Class}
-use Rattle.template_rules.specs.Drawn.{placed}
-use Rattle.template_rules.specs.Written.{indices_of, line_of, index_of}
-use Rattle.placement.specs.chain_notes.Fragment.{gathered}
+use Rattle.template_rules.specs.Written.{line_of, index_of}
 use Rattle.line_builder.specs.Build.{rooms}
 use Rattle.class_lines.specs.declared.lines.Line.{Line}
 use Rattle.class_lines.specs.lines.Line.{Writes, Writable, LineIs, LineBuilt}

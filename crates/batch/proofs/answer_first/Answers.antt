@@ -1,6 +1,5 @@
 use native.Mathlib.Omega.{arith}
 use Rattle.batch.proofs.LineLaws.{first-full, first-last, first-within, first_more}
-use borrow.Author.Rules.{rules}
 use Rattle.batch.proofs.answer_first.Goals as goal
 
 pub returns-then-limit-at : goal.returns-then-limit-at

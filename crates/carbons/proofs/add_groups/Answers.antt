@@ -1,6 +1,5 @@
 use borrow.Author.Rules.{rules}
 use native.Mathlib.Omega.{arith}
-use lib.ListN.{length}
 use Rattle.carbons.proofs.Loads.{added_none, group-added, added-all, added-length, added-room}
 use Rattle.carbons.proofs.add_groups.Goals as goal
 

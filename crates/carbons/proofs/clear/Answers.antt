@@ -1,8 +1,7 @@
 use borrow.Author.Rules.{rules}
-use Prim.Native.Nat.{◌-◌}
 use native.Mathlib.Omega.{arith}
 use mathlib.Core.Path.{refl}
-use lib.ListN.{length, length-set}
+use lib.ListN.{length-set}
 use Rattle.carbons.proofs.Placing.{cleared-none, cleared_more, cleared-all}
 use Rattle.carbons.proofs.clear.Goals as goal
 

@@ -1,4 +1,3 @@
-use Prim.Native.Nat.{◌-◌}
 use native.Mathlib.Omega.{arith}
 use Rattle.carbons.proofs.BondLaws.{marks-all, marks-less, marks-end}
 use Rattle.carbons.proofs.mark_bonds.Goals as goal

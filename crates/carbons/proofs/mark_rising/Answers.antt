@@ -1,5 +1,4 @@
 use borrow.Author.Rules.{rules}
-use Prim.Native.Nat.{◌-◌}
 use native.Mathlib.Omega.{arith}
 use Rattle.carbons.proofs.BondLaws.{rising-all, rising-end, rising-one, rising-past, rising-less}
 use Rattle.carbons.proofs.mark_rising.Goals as goal

@@ -1,7 +1,6 @@
 use borrow.Author.Rules.{rules}
-use Prim.Native.Nat.{◌-◌}
 use native.Mathlib.Omega.{arith}
-use lib.ListN.{length, length-set}
+use lib.ListN.{length-set}
 use mathlib.Core.Bool.{false≢true}
 use Rattle.carbons.proofs.Placing.{pass_all, pass-more, pass-room, pass-end}
 use Rattle.carbons.proofs.put_rising.Goals as goal

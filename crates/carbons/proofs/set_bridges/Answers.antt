@@ -1,6 +1,5 @@
 use borrow.Author.Rules.{rules}
 use native.Mathlib.Omega.{arith}
-use lib.ListN.{length}
 use Rattle.carbons.proofs.BondLaws.{bridges-none, bridge-set, bridge-not, bridges-all, where-length}
 use Rattle.carbons.proofs.set_bridges.Goals as goal
 

@@ -1,6 +1,5 @@
 use borrow.Author.Rules.{rules}
 use native.Mathlib.Omega.{arith}
-use lib.ListN.{length}
 use Rattle.carbons.proofs.BondLaws.{doubles-none, double-set, doubles-all, where-length}
 use Rattle.carbons.proofs.set_doubles.Goals as goal
 

@@ -1,6 +1,5 @@
 use borrow.Author.Rules.{rules}
 use native.Mathlib.Omega.{arith}
-use lib.ListN.{length}
 use Rattle.carbons.proofs.BondLaws.{geometries-none, geometry-set, geometries-length, geometries-all}
 use Rattle.carbons.proofs.set_geometries.Goals as goal
 

@@ -1,6 +1,5 @@
 use borrow.Author.Rules.{rules}
 use native.Mathlib.Omega.{arith}
-use lib.ListN.{length}
 use Rattle.carbons.proofs.BondLaws.{rings-none, ring-set, rings-all, where-length}
 use Rattle.carbons.proofs.set_rings.Goals as goal
 

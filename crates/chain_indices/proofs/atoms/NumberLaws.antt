@@ -4,18 +4,16 @@ use Prim.Native.Nat.{ℕ, zero, suc, ◌+◌, ◌-◌, ◌*◌, ◌^◌, ◌≤�
 use native.Mathlib.Omega.{arith}
 use mathlib.Core.Path.{◌≡◌, refl, sym, ap, ◌∙◌}
 use mathlib.Core.List.{List, [], ◌∷◌, ◌++◌, map, map-append}
-use lib.Dec.{eqb}
 use lib.ListN.{length, drop, get_or, length-append}
-use borrow.Author.Tests.{eq-eqb, ne_eqb}
+use borrow.Author.Tests.{ne_eqb}
 use Rattle.writer.specs.emit.Text.{Written}
 use Rattle.writer.proofs.emit.Laws.{written-nil, written-append, written-length}
 use Rattle.chain_record.specs.declared.plain.Mod.{Mod}
 use Rattle.chain_record.specs.plain.Chain as read
-use Rattle.reading_rules.specs.reading.Part.{Part}
 use Rattle.reading_rules.specs.reading.Chain.{Carbon, carbon_end, chain_end, float_end, atom_from, atom_of}
 use Rattle.chain_rules.specs.declared.chain.Role.{Role}
 use Rattle.chain_rules.specs.chain.Lists.{values_from}
-use Rattle.chain_rules.specs.chain.Features.{first_drawn, literal_end, flexible_count, drawn_count, floating}
+use Rattle.chain_rules.specs.chain.Features.{first_drawn, literal_end, flexible_count, drawn_count}
 use Rattle.chain_rules.specs.chain.Bonds.{bond_at, mark_of}
 use Rattle.chain_rules.specs.chain.Drawing.{branch_part, branches, bare, pairs, flexible, literal, carbons, floats, carbon_atoms, flexible_atom, atoms_end}
 use Rattle.drawn_chain.specs.declared.drawable.Shape.{Shape}
@@ -25,7 +23,7 @@ use Rattle.carbons.specs.Tokens.{ChainTokens, TokensOf}
 use Rattle.chain_text.specs.fragment.Segment.{Readable}
 use Rattle.writer.specs.index_runs.Index.{index_from, indices, ups}
 use Rattle.chain_indices.specs.carried_atoms.Counts.{Counts}
-use Rattle.chain_indices.specs.atoms.Atoms.{starts, tail_count, literal_of, Numbered, LiteralNumbers, TailNumbers, AtomsAre, AtomsOf}
+use Rattle.chain_indices.specs.atoms.Atoms.{starts, tail_count, literal_of, Numbered, LiteralNumbers, TailNumbers, AtomsOf}
 use Rattle.carbons.proofs.Fronts.{next_of, none_left}
 use Rattle.chain_indices.proofs.atoms.AtomLaws.{carbon-shift, chain-shift, float-shift}
 use Rattle.chain_indices.proofs.atoms.Runs.{Bares, bares-starts, bares-end, starts-append, end-append}

@@ -6,11 +6,10 @@ use mathlib.Core.Path.{◌≡◌, refl}
 use mathlib.Core.List.{List, [], ◌∷◌}
 use lib.ListN.{length}
 use Rattle.writer.specs.emit.Text.{Written}
-use Rattle.writer.proofs.emit.Laws.{written-nil, written-length}
-use Rattle.chain_record.specs.declared.plain.Mod.{Mod}
+use Rattle.writer.proofs.emit.Laws.{written-nil}
 use Rattle.reading_rules.specs.reading.Chain.{parts_end}
 use Rattle.drawn_chain.specs.declared.drawable.Shape.{Shape}
-use Rattle.drawn_chain.specs.drawable.Drawn.{Drawn, groups_part, groups_drawn, drawn_of}
+use Rattle.drawn_chain.specs.drawable.Drawn.{Drawn, groups_drawn, drawn_of}
 use Rattle.chain_text.specs.fragment.Text.{carbonyl_of}
 use Rattle.carbons.specs.Tokens.{Grouped}
 use Rattle.carbons.proofs.Bare.{Bare, bare, bare-groups}

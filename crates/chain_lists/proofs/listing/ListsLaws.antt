@@ -1,16 +1,14 @@
 -- Laws of the listed chains.
 -- Assumes nothing.
-use Prim.Native.Nat.{ℕ, suc, ◌+◌, ◌*◌, ◌≤◌, ◌<◌, min}
-use native.Mathlib.Numerals.{add-one}
+use Prim.Native.Nat.{ℕ, ◌+◌, ◌≤◌, ◌<◌, min}
 use native.Mathlib.Omega.{arith}
-use mathlib.Core.Path.{◌≡◌, refl, ap, ap₂, ◌∙◌}
-use mathlib.Core.List.{List, [], ◌∷◌, ◌++◌, map, map-append}
-use lib.ListN.{length, take, get_or, set, replicate, length-append}
-use lib.Seq.{take-suc}
+use mathlib.Core.Path.{◌≡◌, refl, ap, ◌∙◌}
+use mathlib.Core.List.{List, [], ◌∷◌, map, map-append}
+use lib.ListN.{length, take, get_or, set, replicate}
 use Rattle.reading_rules.proofs.reading.PartingLaws.{All}
 use Rattle.template_rules.specs.Drawn as request
 use Rattle.template_rules.specs.Drawn.{by_sn}
-use Rattle.template_rules.specs.Written.{indices_of, all_indices}
+use Rattle.template_rules.specs.Written.{indices_of}
 use Rattle.placement.specs.declared.chain_notes.Placed.{Placed}
 use Rattle.placement.specs.chain_notes.Fragment.{noted, gathered}
 use Rattle.chain_lists.specs.declared.rising.Rising.{Rising}

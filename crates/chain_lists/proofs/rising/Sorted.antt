@@ -6,8 +6,8 @@ use native.Mathlib.Decide.{dec_le}
 use mathlib.Core.Path.{◌≡◌, refl, sym, ap, ap₂, ◌∙◌}
 use mathlib.Core.Bool.{Bool, true, false, cond, false≢true}
 use mathlib.Core.List.{List, [], ◌∷◌, ◌++◌, map}
-use lib.Dec.{eqb, leb}
-use lib.ListN.{length, take, length-map, length-take}
+use lib.Dec.{eqb}
+use lib.ListN.{length, take, length-map}
 use borrow.Author.Tests.{le-leb, lt-leb, eqb-true, eq-eqb, ne_eqb}
 use Rattle.reading_rules.proofs.reading.PartingLaws.{All, all_map}
 use Rattle.chain_rules.specs.chain.Lists.{only}

@@ -1,5 +1,5 @@
 -- The listed chains, by numbers alone. Assumes nothing.
-use Rattle.std.specs.Prelude.{ℕ, ◌+◌, ◌≤◌, ◌≡◌, List, [], ◌∷◌, map, length}
+use Rattle.std.specs.Prelude.{ℕ, List, map, length}
 use Rattle.template_rules.specs.Drawn as request
 use Rattle.template_rules.specs.Written.{indices_of}
 use Rattle.placement.specs.declared.chain_notes.Placed.{Placed}

@@ -1,6 +1,6 @@
 -- What a token says of a chain, and what may be added to it: what the contracts of the token reader cite. The lists here have no limit; 31 is
 -- a test of their lengths after each list or segment. Assumes nothing.
-use Rattle.std.specs.Prelude.{ℕ, ◌≤◌, List, [], ◌∷◌, ◌++◌, Bool, true, false, cond, length, ltb}
+use Rattle.std.specs.Prelude.{ℕ, ◌≤◌, List, [], ◌∷◌, ◌++◌, Bool, cond, length, ltb}
 use Rattle.chain_record.specs.declared.plain.ChainPrefix.{ChainPrefix}
 use Rattle.chain_record.specs.declared.plain.DbPos.{DbPos}
 use Rattle.chain_record.specs.declared.plain.Mod.{Mod}

@@ -1,7 +1,7 @@
 -- The bonds of a chain, each by the carbon that it starts from. 01, Drawing a chain: "Bond k joins k and k+1: double, bridged, marked or
 -- plain", and "Marks: by rising p with stated geometry, an empty bond p−1 (p > 1) becomes `/`; open is down if it is `\`, else up. If
 -- p+1 < c and bond p+1 is empty it is `/` (up) or `\`, unlike open for Z, like for E." Assumes nothing.
-use Rattle.std.specs.Prelude.{ℕ, zero, suc, ◌-◌, Bool, true, false, cond, ◌||◌, ◌&&◌, List, [], ◌∷◌, get_or, set, eqb, ltb}
+use Rattle.std.specs.Prelude.{ℕ, zero, suc, ◌-◌, Bool, true, false, cond, ◌&&◌, List, [], ◌∷◌, get_or, set, eqb, ltb}
 use Prim.Native.Char.{code}
 use Rattle.chain_record.specs.declared.plain.Geometry.{Geometry}
 use Rattle.chain_record.specs.declared.plain.Geometry.TheVariants.{Unstated, Cis, Trans}

@@ -1,6 +1,6 @@
 -- What is drawn of a chain, and its carbons, marks, sum and site lists, as functions of the record, the chain's role and three offsets: the
 -- atom of its first carbon, its first variable and (in the text alone) its first label. 01, Drawing a chain. Assumes nothing.
-use Rattle.std.specs.Prelude.{ℕ, zero, suc, ◌+◌, ◌-◌, ◌*◌, Bool, true, false, cond, List, [], ◌∷◌, ◌++◌, map, length, drop, eqb}
+use Rattle.std.specs.Prelude.{ℕ, zero, suc, ◌+◌, ◌-◌, ◌*◌, false, cond, List, [], ◌∷◌, ◌++◌, map, length, drop, eqb}
 use Rattle.std.proofs.Math.Option.{Option, none, some}
 use Rattle.chain_record.specs.declared.plain.ChainPrefix.{ChainPrefix}
 use Rattle.chain_record.specs.declared.plain.Mod.{Mod}

@@ -1,13 +1,12 @@
 -- What a chain has in its place. 01, Accepted, or refused by whom: "Let c be the written carbons, less one after an iso or anteiso word, f
 -- the first drawn carbon (3 for a base, else 1). A chain without prefix is acyl, `O-` ether, `P-` alkenyl, which adds a located, unlettered
 -- double bond at 1; a base is none of these, and has no carbonyl." c is the record's `carbon`. Assumes nothing.
-use Rattle.std.specs.Prelude.{ℕ, suc, ◌+◌, ◌-◌, ◌*◌, ◌≤◌, min, Bool, true, false, cond, not, ◌&&◌, List, [], ◌∷◌, ◌++◌, map, eqb}
+use Rattle.std.specs.Prelude.{ℕ, suc, ◌+◌, ◌-◌, ◌*◌, min, Bool, true, false, cond, not, List, [], ◌∷◌, ◌++◌, map, eqb}
 use Rattle.chain_record.specs.declared.plain.ChainPrefix.{ChainPrefix}
 use Rattle.chain_record.specs.declared.plain.ChainPrefix.TheVariants as prefix
 use Rattle.chain_record.specs.declared.plain.Geometry.TheVariants.{Unstated}
 use Rattle.chain_record.specs.declared.plain.DbPos.{DbPos}
 use Rattle.chain_record.specs.declared.plain.Mod.{Mod}
-use Rattle.chain_record.specs.declared.plain.Ring.{Ring}
 use Rattle.chain_record.specs.plain.Chain.{Chain}
 use Rattle.group_table.specs.groups.Groups.{hydroxy}
 use Rattle.chain_rules.specs.declared.chain.Role.{Role}

@@ -1,5 +1,5 @@
 -- What cannot be drawn: the tests for 22, 32, 33 and 12 to 15, for one chain and its place. 01, Accepted, or refused by whom. Assumes nothing.
-use Rattle.std.specs.Prelude.{ℕ, suc, ◌+◌, ◌*◌, Bool, true, false, cond, not, ◌||◌, ◌&&◌, List, eqb, ltb, leb}
+use Rattle.std.specs.Prelude.{ℕ, ◌+◌, ◌*◌, Bool, true, false, cond, not, ◌||◌, ◌&&◌, List, eqb, ltb, leb}
 use Rattle.chain_record.specs.declared.plain.ChainPrefix.{ChainPrefix}
 use Rattle.chain_record.specs.declared.plain.ChainPrefix.TheVariants as prefix
 use Rattle.chain_record.specs.declared.plain.Bridge.{Bridge}

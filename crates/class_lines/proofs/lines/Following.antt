@@ -1,20 +1,19 @@
 -- What is written after the text makes it the line.
 -- Assumes nothing.
-use Prim.Native.Nat.{ℕ, zero, suc, ◌+◌, ◌≤◌, ◌<◌, ◌^◌, min}
+use Prim.Native.Nat.{ℕ, zero, suc, ◌≤◌}
 use native.Mathlib.Nat.{zero-add}
 use native.Mathlib.Omega.{arith}
-use mathlib.Core.Path.{◌≡◌, refl, sym, ap, ◌∙◌}
+use mathlib.Core.Path.{◌≡◌, refl, ap, ◌∙◌}
 use mathlib.Core.Bool.{Bool}
 use mathlib.Core.List.{List, [], ◌∷◌, ◌++◌, map}
 use lib.ListN.{length, take, drop}
 use lib.Seq.{sets-eq}
 use Rattle.writer.specs.emit.Text.{Written}
-use Rattle.writer.proofs.emit.Laws.{written-append, written-length}
+use Rattle.writer.proofs.emit.Laws.{written-append}
 use Rattle.chain_record.specs.plain.Chain.{Chain}
 use Rattle.line_parts.specs.declared.shown.Site.{Site}
 use Rattle.drawn_chain.specs.drawable.Chains.{Chains}
 use Rattle.template_rules.specs.declared.Class.{Class}
-use Rattle.template_rules.specs.Drawn as request
 use Rattle.template_rules.specs.Drawn.{placed, by_sn, sn_sites, labels, all_marks, all_sites, all_sums}
 use Rattle.template_rules.specs.Written.{indices_of, text_of, line_of}
 use Rattle.chain_rules.specs.chain.Lists.{Each}

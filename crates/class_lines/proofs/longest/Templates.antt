@@ -11,7 +11,7 @@ use Rattle.chain_record.specs.plain.Chain.{Chain}
 use Rattle.reading_rules.specs.reading.Ascii.{ascii}
 use Rattle.reading_rules.specs.reading.Piece.{Piece, show_piece, show_labels, show}
 use Rattle.reading_rules.specs.reading.Template.{Item, piece, item_pieces, next_label, template_pieces}
-use Rattle.reading_rules.specs.reading.Molecule.{At, at}
+use Rattle.reading_rules.specs.reading.Molecule.{At}
 use Rattle.reading_rules.specs.reading.Show.{up_to_last}
 use Rattle.reading_rules.proofs.reading.PartingLaws.{All}
 use Rattle.reading_rules.proofs.reading.ShowLex.{show-append}

@@ -1,7 +1,6 @@
 use Rattle.drawing.proofs.Draw.{one-writable, drawn-one}
 use native.Mathlib.Omega.{arith}
 use mathlib.Core.Path.{refl}
-use borrow.Author.Rules.{rules}
 use Rattle.drawing.proofs.draw_one.Goals as goal
 
 pub build_line-built-requires : goal.build_line-built-requires

@@ -1,7 +1,6 @@
 use Rattle.drawing.proofs.Draw.{some-writable, drawn-some}
 use native.Mathlib.Omega.{arith}
 use mathlib.Core.Path.{refl}
-use borrow.Author.Rules.{rules}
 use Rattle.drawing.proofs.draw_some.Goals as goal
 
 pub build_line-built-requires : goal.build_line-built-requires

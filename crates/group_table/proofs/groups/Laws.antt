@@ -1,6 +1,6 @@
 -- Laws of the group table: its rule by one computed test over the whole table, the look through its rows, and what callers use.
 -- Assumes nothing.
-use Prim.Native.Nat.{ℕ, zero, suc, ◌+◌, ◌-◌, ◌≤◌, ◌<◌}
+use Prim.Native.Nat.{ℕ, zero, suc, ◌+◌, ◌≤◌, ◌<◌}
 use native.Mathlib.Nat.{not-suc-le-zero, le_of_suc-le-suc}
 use native.Mathlib.Omega.{arith}
 use mathlib.Core.Path.{◌≡◌, refl, sym, ap, ◌∙◌}
@@ -10,11 +10,10 @@ use lib.Dec.{leb}
 use lib.ListN.{length, get_or}
 use borrow.Author.Tests.{leb-true, eqb-true}
 use Rattle.scanner.specs.scan.Part.{same_bytes}
-use Rattle.group_table.specs.declared.groups.Found.{Found}
 use Rattle.group_table.specs.declared.groups.Found.TheVariants.{At}
 use Rattle.group_table.specs.declared.groups.RingSize.TheVariants.{Carbons, Nothing as NoRing}
 use Rattle.group_table.specs.declared.groups.Row.{Row}
-use Rattle.group_table.specs.groups.Groups.{Entry, entries, blank, entry_at, entry_of, RowIs, lookup_from, substituent_of, alias_ring_size, atoms_in, atoms_from, opens_atom, count_is_right, hydroxy, keto, hydroxy_text, keto_text, ep_upper_text, ep_lower_text, epox_text, cyc_text, cyclo_text}
+use Rattle.group_table.specs.groups.Groups.{Entry, entries, blank, entry_at, entry_of, RowIs, lookup_from, substituent_of, alias_ring_size, atoms_in, atoms_from, opens_atom, count_is_right, hydroxy, hydroxy_text, keto_text, ep_upper_text, ep_lower_text, epox_text, cyc_text, cyclo_text}
 
 -- ---- a table's rule
 

@@ -1,5 +1,5 @@
 -- 01, Token reader: the group table, the abbreviations beside it and the alias rings. Assumes nothing.
-use Rattle.std.specs.Prelude.{ℕ, suc, ◌+◌, ◌≤◌, List, [], ◌∷◌, Bool, true, false, cond, ◌≡◌, take, get_or, eqb}
+use Rattle.std.specs.Prelude.{ℕ, suc, ◌≤◌, List, [], ◌∷◌, Bool, true, false, cond, ◌≡◌, take, get_or, eqb}
 use Prim.Native.Char.{code}
 use Prim.Native.String.{String}
 use Rattle.scanner.specs.scan.Ascii.{ascii}

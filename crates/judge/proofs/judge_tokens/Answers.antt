@@ -1,4 +1,3 @@
-use Prim.Native.Nat.{◌-◌}
 use native.Mathlib.Omega.{arith}
 use Rattle.judge.proofs.Laws.{met-first, met_next, met-clear}
 use Rattle.judge.proofs.Judging.{token-refused, tokens-judged}

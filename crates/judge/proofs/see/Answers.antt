@@ -2,7 +2,6 @@ use native.Mathlib.Omega.{arith}
 use borrow.Rule.Slice.PartMut.{put_mid}
 use Rattle.drawn_chain.proofs.fitted.Drawing.{fits-some}
 use Rattle.judge.proofs.Laws.{looked-refused, looked}
-use borrow.Author.Rules.{rules}
 use Rattle.judge.proofs.see.Goals as goal
 
 pub place_refusal-requires : goal.place_refusal-requires

@@ -1,5 +1,5 @@
 -- Laws of blocks, and of parts of the trailer, that are written one after the other. Assumes nothing.
-use Prim.Native.Nat.{ℕ, ◌+◌, ◌≤◌, ◌<◌, ◌^◌, min}
+use Prim.Native.Nat.{ℕ, ◌≤◌, ◌<◌, ◌^◌, min}
 use native.Mathlib.Omega.{arith}
 use native.Mathlib.Decide.{dec_le}
 use mathlib.Core.Path.{◌≡◌, refl, sym, ap, ◌∙◌}
@@ -8,7 +8,7 @@ use mathlib.Core.List.{List, [], ◌++◌}
 use lib.ListN.{length, take}
 use lib.Seq.{take_all}
 use Rattle.writer.proofs.emit.Laws.{written-length}
-use Rattle.line_parts.specs.shown.Chained.{shown, still_first}
+use Rattle.line_parts.specs.shown.Chained.{still_first}
 use Rattle.line_parts.proofs.shown.Chained.{shown-then, still-append, none-shown}
 use Rattle.placement.specs.declared.chain_notes.Placed.{Placed}
 use Rattle.line_blocks.specs.declared.chain_marks.Next.{Next}

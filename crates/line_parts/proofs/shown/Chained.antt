@@ -12,7 +12,7 @@ use Rattle.writer.proofs.emit.Laws.{written-append, written-nil}
 use Rattle.chain_record.specs.plain.Chain.{Chain}
 use Rattle.reading_rules.specs.reading.Ascii.{ascii}
 use Rattle.reading_rules.specs.reading.Parting.{joined, led}
-use Rattle.reading_rules.specs.reading.Molecule.{At, at, Sum, sum}
+use Rattle.reading_rules.specs.reading.Molecule.{At, Sum, sum}
 use Rattle.reading_rules.specs.reading.Show.{label_blocks, show_mark, show_sites, block_texts, swap_texts, show_sum, trailer_texts, show_trailer, show_blocks, show_line}
 use Rattle.chain_rules.specs.declared.chain.Role.{Role}
 use Rattle.chain_rules.specs.chain.Lists.{values_from}

@@ -1,6 +1,4 @@
-use Prim.Native.Nat.{◌≤◌}
-use mathlib.Core.Path.{◌≡◌}
-use lib.ListN.{length}
+use Rattle.std.proofs.Common.{◌≡◌, ◌≤◌, length}
 use Rattle.perlwynos.proofs.answer_text.Given as goal
 
 abbrev pub invariant-loop-turns : goal.invariant-loop-turns

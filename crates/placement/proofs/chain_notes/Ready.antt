@@ -1,35 +1,33 @@
 -- An accepted request: every chain stands in its place, and the numbers of its place leave room.
 -- Assumes nothing.
-use Prim.Native.Nat.{ℕ, zero, suc, ◌+◌, ◌*◌, ◌≤◌, ◌<◌}
+use Prim.Native.Nat.{ℕ, zero, suc, ◌+◌, ◌≤◌, ◌<◌}
 use native.Mathlib.Omega.{arith}
-use mathlib.Core.Path.{◌≡◌, refl, sym, ap, ◌∙◌, subst}
-use mathlib.Core.Bool.{Bool, true, false, cond, ◌&&◌, false≢true}
-use mathlib.Core.Option.{Option, none, some}
-use mathlib.Core.List.{List, [], ◌∷◌, ◌++◌, map}
-use lib.Dec.{eqb, ltb, leb}
+use mathlib.Core.Path.{◌≡◌, refl, sym, ◌∙◌}
+use mathlib.Core.Bool.{Bool, true, false, cond, false≢true}
+use mathlib.Core.Option.{none, some}
+use mathlib.Core.List.{List, [], ◌∷◌}
+use lib.Dec.{eqb, ltb}
 use lib.ListN.{length}
 use borrow.Author.Tests.{ltb-true, leb-true, eqb-true}
 use Rattle.chain_record.specs.plain.Chain.{Chain}
 use Rattle.reading_rules.proofs.reading.PartingLaws.{All, all_map, and_left, and_right}
 use Rattle.reading_rules.proofs.reading.ListLaws.{below_all}
 use Rattle.chain_rules.specs.declared.chain.Role.{Role}
-use Rattle.chain_rules.specs.declared.chain.Role.TheVariants as role
 use Rattle.chain_rules.specs.chain.Lists.{all_of, Each}
-use Rattle.chain_rules.specs.chain.Features.{first_drawn}
 use Rattle.chain_rules.specs.chain.Drawing.{carbons, variables}
-use Rattle.chain_rules.proofs.chain.Lists.{all-each, all_append, all_both}
+use Rattle.chain_rules.proofs.chain.Lists.{all-each}
 use Rattle.chain_rules.proofs.chain.Atoms.{chain_end-le, atoms_end-le}
 use Rattle.chain_rules.proofs.chain.Accepted.{Drawable, first_one, drawn-most, carbon-most, unlocated-most}
 use Rattle.drawn_chain.specs.drawable.Drawn.{Drawn, Draws}
 use Rattle.chain_indices.proofs.atoms.Readable.{sound-readable}
 use Rattle.template_rules.specs.declared.Class.{Class}
-use Rattle.template_rules.specs.Template.{Element, fixed, tail, slot, chain, elements, most, role_of, has_tail}
-use Rattle.template_rules.specs.Drawn.{Placed, chain_at, unless_empty, nonempty, place, site_of, fixed_pieces, tail_part, atoms_of_pieces, atoms_after, variables_after, placed_from, placed}
+use Rattle.template_rules.specs.Template.{elements}
+use Rattle.template_rules.specs.Drawn.{Placed, unless_empty, placed_from, placed}
 use Rattle.template_rules.specs.Written.{indices_of}
 use Rattle.template_rules.specs.Chains.{parent_of}
-use Rattle.template_rules.proofs.Templates.{sns_of, same_role, in_role, Fitting, fitting}
-use Rattle.template_rules.proofs.Placing.{Accepts, AcceptsFrom, Placing, same-role, variables_to}
-use Rattle.template_rules.proofs.Notes.{end_of, placing-within, placing-drawable, variables-most}
+use Rattle.template_rules.proofs.Templates.{sns_of, fitting}
+use Rattle.template_rules.proofs.Placing.{Accepts, Placing, variables_to}
+use Rattle.template_rules.proofs.Notes.{end_of, placing-within, variables-most}
 use Rattle.template_rules.proofs.Sorted.{sns-placed, length-placed}
 use Rattle.template_rules.proofs.Whole as Whole
 use Rattle.template_rules.proofs.Theorem.{Accepted, drawn-request, indices-small}

@@ -1,5 +1,5 @@
 -- What a chain leaves that is laid down at its place. Assumes nothing.
-use Rattle.std.specs.Prelude.{ℕ, ◌≤◌, ◌<◌, ◌≡◌, List, [], ◌∷◌, ◌++◌, length}
+use Rattle.std.specs.Prelude.{ℕ, ◌≤◌, ◌<◌, ◌≡◌, List, ◌++◌, length}
 use Rattle.writer.specs.emit.Text.{Written}
 use Rattle.chain_record.specs.plain.Chain.{Chain}
 use Rattle.reading_rules.specs.reading.Piece.{show}

@@ -1,28 +1,28 @@
 -- Blocks that are shown are read as what they show.
 -- Assumes nothing.
-use Prim.Native.Nat.{ℕ, zero, suc, ◌+◌, ◌-◌, ◌^◌, ◌≤◌, ◌<◌, max}
+use Prim.Native.Nat.{ℕ, zero, suc, ◌+◌, ◌^◌, ◌≤◌, ◌<◌}
 use native.Mathlib.Decide.{ℕ_discrete, dec_le}
 use native.Mathlib.Omega.{arith}
 use mathlib.Core.Path.{◌≡◌, refl, sym, ap, ◌∙◌}
-use mathlib.Core.Bool.{Bool, true, false, cond, not, ◌||◌, ◌&&◌, false≢true}
+use mathlib.Core.Bool.{Bool, true, false, cond, not, ◌||◌, false≢true}
 use mathlib.Core.Option.{Option, none, some}
 use mathlib.Core.List.{List, [], ◌∷◌, ◌++◌, map}
 use lib.ListN.{length}
 use lib.Dec.{eqb}
-use borrow.Author.Tests.{le-leb, le-ltb, eqb-true, ne_eqb, eq-eqb, not-true}
+use borrow.Author.Tests.{le-leb, le-ltb, ne_eqb, eq-eqb, not-true}
 use Rattle.reading_rules.specs.smiles.Ascii.{ascii}
 use Rattle.reading_rules.specs.smiles.Lexer.{memb, within}
-use Rattle.reading_rules.specs.words.Parting.{◌>>=◌, each, parted, two, three, follows, closed, enclosed, joined}
+use Rattle.reading_rules.specs.words.Parting.{each, parted, follows, joined}
 use Rattle.writer.specs.emit.Text.{decimal}
 use Rattle.scanner.specs.scan.Number.{is_digit}
 use Rattle.scanner.specs.scan.Part.{same_bytes}
 use Rattle.reading_rules.specs.words.Numeral.{number}
-use Rattle.reading_rules.specs.words.Names.{name_count, small, name_of, variable}
+use Rattle.reading_rules.specs.words.Names.{name_count, small, name_of}
 use Rattle.reading_rules.specs.molecule.Molecule.{At, at, atoms_of, notes_of, look}
 use Rattle.reading_rules.specs.reading.Blocks.{sn_digit, label_of, entry_of, labelled, some_labels, entries_of, mark_of, sites_of, Blocks, blocks, only_sites, marks_then, read_blocks}
 use Rattle.reading_rules.specs.reading.Line.{distinct, times}
 use Rattle.reading_rules.specs.reading.Show.{show_label, show_entry, entries, up_to_last, label_block, show_mark, show_sites, label_blocks, block_texts}
-use Rattle.reading_rules.proofs.words.PartingLaws.{and_left, and_right, every, All, all_map, all_any, NonEmpty, clear, Clears, clear-append, clear-class, clear-one, clear-joined, clears-shown, clears-append, parted-one, parted-then, each-shown, enclosed-between, list_read}
+use Rattle.reading_rules.proofs.words.PartingLaws.{and_left, and_right, every, All, all_map, all_any, NonEmpty, clear, Clears, clear-append, clear-class, clear-joined, clears-shown, clears-append, parted-one, parted-then, each-shown, enclosed-between, list_read}
 use Rattle.reading_rules.proofs.words.NumeralLaws.{decimal-digits, number-decimal}
 use Rattle.reading_rules.proofs.words.NameLaws.{name-small, variable-name}
 

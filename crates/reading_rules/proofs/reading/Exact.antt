@@ -21,7 +21,7 @@ use Rattle.reading_rules.specs.reading.Blocks.{sn_digit, label_of, entry_of, lab
 use Rattle.reading_rules.specs.reading.Trailer.{swap_of, sum_of, Trailer, trailer, only_sums, read_trailer}
 use Rattle.reading_rules.specs.reading.Line.{Apart, apart, barred, apart_of}
 use Rattle.reading_rules.specs.reading.Show.{show_label, show_entry, show_mark, show_sites, show_swap, show_sum, show_trailer, show_blocks}
-use Rattle.reading_rules.proofs.words.PartingLaws.{and_left, and_right, NonEmpty}
+use Rattle.reading_rules.proofs.words.PartingLaws.{and_left, NonEmpty}
 use Rattle.reading_rules.proofs.words.NumeralLaws.{number-told}
 use Rattle.reading_rules.proofs.words.NameLaws.{name-variable}
 

@@ -3,26 +3,25 @@
 use Prim.Native.Nat.{ℕ, zero, suc, ◌^◌, ◌≤◌, ◌<◌}
 use native.Mathlib.Nat.{le_trans}
 use native.Mathlib.Omega.{arith}
-use mathlib.Core.Path.{◌≡◌, refl, sym, ap, ap₂, ◌∙◌}
-use mathlib.Core.Bool.{Bool, true, false, cond, not, ◌&&◌, and-false}
-use mathlib.Core.Option.{Option, none, some}
-use mathlib.Core.List.{List, [], ◌∷◌, ◌++◌, map, append_assoc, append-nil}
+use mathlib.Core.Path.{◌≡◌, refl, sym, ap, ◌∙◌}
+use mathlib.Core.Bool.{true}
+use mathlib.Core.Option.{Option, some}
+use mathlib.Core.List.{List, [], ◌∷◌, ◌++◌, append_assoc, append-nil}
 use lib.ListN.{length}
-use lib.Dec.{leb}
 use borrow.Author.Tests.{le-leb}
 use Rattle.reading_rules.specs.smiles.Ascii.{ascii}
-use Rattle.reading_rules.specs.smiles.Lexer.{memb, within}
+use Rattle.reading_rules.specs.smiles.Lexer.{memb}
 use Rattle.reading_rules.specs.smiles.Row.{Row, row}
 use Rattle.reading_rules.specs.smiles.Text.{read_text}
-use Rattle.reading_rules.specs.words.Parting.{◌>>=◌, parted, follows, closed, enclosed, joined}
+use Rattle.reading_rules.specs.words.Parting.{parted, joined}
 use Rattle.reading_rules.specs.words.Names.{name_count}
-use Rattle.reading_rules.specs.molecule.Molecule.{At, at, atoms_of, notes_of, look, Atom, atom, Bond, Sum, sum, variables_of, number_of, Molecule, molecule, atoms_from, bonds_of, set_of, sum_key, molecule_of}
-use Rattle.reading_rules.specs.reading.Blocks.{Blocks, blocks, read_blocks, labelled}
+use Rattle.reading_rules.specs.molecule.Molecule.{At, at, atoms_of, notes_of, look, Atom, Sum, sum, variables_of, number_of, molecule, atoms_from, bonds_of, set_of, sum_key, molecule_of}
+use Rattle.reading_rules.specs.reading.Blocks.{Blocks, blocks, read_blocks}
 use Rattle.reading_rules.specs.reading.Trailer.{Trailer, trailer, read_trailer}
 use Rattle.reading_rules.specs.reading.Line.{Apart, apart, barred, apart_of, flat, summed, below, distinct, times, once, rising, placed_well, swaps_well, sums_well, judged, judged_apart, read_line}
-use Rattle.reading_rules.specs.reading.Show.{block_texts, trailer_texts, label_blocks, swap_texts, show_trailer, show_blocks, show_line, entries, up_to_last}
-use Rattle.reading_rules.proofs.words.PartingLaws.{and_left, and_right, and_both, All, all_map, NonEmpty, clear, Clears, clear-append, clear-one, clear-joined, parted-one, parted-then, parted-again, enclosed-between}
-use Rattle.reading_rules.proofs.reading.ListLaws.{below_all, all-below, times-all, all-times, once-elim, once-intro, distinct-times, once-self, rising-distinct}
+use Rattle.reading_rules.specs.reading.Show.{block_texts, trailer_texts, label_blocks, swap_texts, show_blocks, show_line, entries, up_to_last}
+use Rattle.reading_rules.proofs.words.PartingLaws.{All, all_map, NonEmpty, clear, Clears, clear-append, clear-one, clear-joined, parted-one, parted-then, parted-again, enclosed-between}
+use Rattle.reading_rules.proofs.reading.ListLaws.{below_all, times-all, all-times, once-elim, once-intro, distinct-times, once-self, rising-distinct}
 use Rattle.reading_rules.proofs.reading.BlockLaws.{LabelFits, MarkFits, SitesFit, blocks-clear, blocks-read, entries_shown, entries-length, all-last, read_labels, labels-look, labels-times}
 use Rattle.reading_rules.proofs.reading.TrailerLaws.{SumFits, trailer-clear, trailer-read}
 use Rattle.reading_rules.proofs.reading.NoBlank.{text-clear}

@@ -2,15 +2,14 @@
 -- Assumes nothing.
 use Prim.Native.Nat.{ℕ}
 use native.Mathlib.Omega.{arith}
-use mathlib.Core.Path.{◌≡◌, refl, sym, ap, ◌∙◌, subst}
-use mathlib.Core.Bool.{Bool, true, false, cond, not, ◌||◌, ◌&&◌}
+use mathlib.Core.Path.{◌≡◌, refl, ap, ◌∙◌, subst}
+use mathlib.Core.Bool.{Bool, true, false, not, ◌||◌}
 use mathlib.Core.Option.{Option, none, some}
-use mathlib.Core.List.{List, [], ◌∷◌, ◌++◌}
-use lib.ListN.{length}
+use mathlib.Core.List.{List, [], ◌∷◌}
 use lib.Dec.{eqb}
 use borrow.Author.Tests.{eqb-true}
 use Rattle.reading_rules.specs.smiles.Row.{Row}
-use Rattle.reading_rules.specs.smiles.Piece.{Piece, atom}
+use Rattle.reading_rules.specs.smiles.Piece.{Piece}
 use Rattle.reading_rules.specs.smiles.Lexer.{memb, within, bracketed, organic, marks, pairs, second, Lex, between, in_atom, in_bracket, in_label, in_tens, Fed, halt, fed, begin, ended, feed, before, on_fed, lex, pieces_of}
 use Rattle.reading_rules.specs.smiles.Text.{read_lexed, read_text}
 use Rattle.reading_rules.proofs.words.PartingLaws.{and_both, clear}

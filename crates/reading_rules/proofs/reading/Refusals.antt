@@ -5,16 +5,16 @@ use native.Mathlib.Omega.{arith}
 use mathlib.Core.Path.{◌≡◌, refl, sym, ap, ◌∙◌}
 use mathlib.Core.Bool.{Bool, true, false, cond, ◌&&◌}
 use mathlib.Core.Option.{Option, none, some}
-use mathlib.Core.List.{List, [], ◌∷◌}
+use mathlib.Core.List.{List}
 use lib.ListN.{length}
 use lib.Dec.{leb}
 use borrow.Author.Tests.{leb-true}
 use Rattle.reading_rules.specs.smiles.Row.{Row}
 use Rattle.reading_rules.specs.smiles.Text.{read_text}
 use Rattle.reading_rules.specs.words.Parting.{◌>>=◌, parted}
-use Rattle.reading_rules.specs.molecule.Molecule.{At, at, atoms_of, notes_of, Sum, Molecule, molecule_of}
-use Rattle.reading_rules.specs.reading.Blocks.{Blocks, blocks, labelled}
-use Rattle.reading_rules.specs.reading.Trailer.{Trailer, trailer}
+use Rattle.reading_rules.specs.molecule.Molecule.{At, atoms_of, notes_of, Sum, Molecule, molecule_of}
+use Rattle.reading_rules.specs.reading.Blocks.{blocks, labelled}
+use Rattle.reading_rules.specs.reading.Trailer.{trailer}
 use Rattle.reading_rules.specs.reading.Line.{Apart, apart, apart_of, flat, summed, below, distinct, times, once, rising, placed_well, swaps_well, sums_well, judged, judged_apart, read_line}
 use Rattle.reading_rules.proofs.words.PartingLaws.{and_left, and_right, All}
 use Rattle.reading_rules.proofs.reading.ListLaws.{below_all, once-elim, distinct-times}

@@ -1,20 +1,19 @@
 -- `swappable(..)` and `constrain(..)` that are shown are read as what they show.
 -- Assumes nothing.
 use Prim.Native.Nat.{ℕ, ◌^◌, ◌<◌}
-use mathlib.Core.Path.{◌≡◌, refl, ◌∙◌}
-use mathlib.Core.Bool.{Bool, true, false, not}
-use mathlib.Core.Option.{Option, none, some}
+use mathlib.Core.Path.{◌≡◌, refl}
+use mathlib.Core.Bool.{true, false, not}
+use mathlib.Core.Option.{some}
 use mathlib.Core.List.{List, [], ◌∷◌, ◌++◌, map, append_assoc}
 use Rattle.scanner.specs.scan.Number.{is_digit}
 use Rattle.writer.specs.emit.Text.{decimal}
 use Rattle.reading_rules.specs.smiles.Ascii.{ascii}
 use Rattle.reading_rules.specs.smiles.Lexer.{memb, within}
-use Rattle.reading_rules.specs.words.Parting.{◌>>=◌, each, parted, two, follows, closed, enclosed, joined}
-use Rattle.reading_rules.specs.words.Numeral.{number}
+use Rattle.reading_rules.specs.words.Parting.{joined}
 use Rattle.reading_rules.specs.words.Names.{name_count, small, name_of, variable}
 use Rattle.reading_rules.specs.molecule.Molecule.{At, at, notes_of, Sum, sum}
 use Rattle.reading_rules.specs.reading.Blocks.{label_of}
-use Rattle.reading_rules.specs.reading.Trailer.{swap_of, sum_of, Trailer, trailer, only_sums, read_trailer}
+use Rattle.reading_rules.specs.reading.Trailer.{swap_of, sum_of, trailer, only_sums, read_trailer}
 use Rattle.reading_rules.specs.reading.Show.{show_label, show_swap, show_sum, swap_texts, trailer_texts}
 use Rattle.reading_rules.proofs.words.PartingLaws.{every, All, all_map, all_any, NonEmpty, clear, Clears, clear-append, clear-joined, clears-shown, clears-append, parted-one, parted-then, each-shown, enclosed-between, list_read}
 use Rattle.reading_rules.proofs.words.NumeralLaws.{number-decimal}

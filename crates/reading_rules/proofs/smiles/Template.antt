@@ -7,7 +7,7 @@ use Rattle.reading_rules.specs.smiles.Row.{Row}
 use Rattle.reading_rules.specs.smiles.Piece.{Piece, atom, mark, dot, lpar, rpar}
 use Rattle.reading_rules.specs.smiles.Machine.{Phase, fresh, opened, after, marked, State, st, Out, fail, ok, lookup, labels, step, and_then, prepend, run, whole, read_pieces}
 use Rattle.reading_rules.specs.smiles.Part.{Part}
-use Rattle.reading_rules.specs.smiles.Chain.{chain_end, chain_members, float_members, rows_of}
+use Rattle.reading_rules.specs.smiles.Chain.{chain_end, chain_members, float_members}
 use Rattle.reading_rules.specs.smiles.Template.{Chain, Item, piece, part, chain, item_pieces, next_label, template_pieces, draw_part, members, draw_chain, draw, draw_all, drawn}
 use Rattle.reading_rules.proofs.smiles.Members.{rows_append}
 use Rattle.reading_rules.proofs.smiles.Reading.{Reads, reads-nil, reads-cons, reads-append, Stands, reads-stands}

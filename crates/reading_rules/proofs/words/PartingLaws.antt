@@ -1,15 +1,14 @@
 -- Parts joined by a byte that none of them has are parted again by it.
 -- Assumes nothing.
 use Prim.Native.Nat.{ℕ}
-use native.Mathlib.Omega.{arith}
 use mathlib.Core.Path.{◌≡◌, refl, sym, ap, ◌∙◌}
-use mathlib.Core.Bool.{Bool, true, false, cond, not, ◌||◌, ◌&&◌, false≢true}
-use mathlib.Core.Option.{Option, none, some}
-use mathlib.Core.List.{List, [], ◌∷◌, ◌++◌, append_assoc, append-nil, map}
+use mathlib.Core.Bool.{Bool, true, false, not, ◌||◌, ◌&&◌, false≢true}
+use mathlib.Core.Option.{Option, some}
+use mathlib.Core.List.{List, [], ◌∷◌, ◌++◌, append-nil, map}
 use lib.Dec.{eqb}
 use borrow.Author.Tests.{eqb-true, eq-eqb}
 use Rattle.reading_rules.specs.smiles.Lexer.{memb}
-use Rattle.reading_rules.specs.words.Parting.{◌>>=◌, each, on_first, parted, closed, follows, enclosed, led, joined}
+use Rattle.reading_rules.specs.words.Parting.{each, parted, closed, follows, enclosed, led, joined}
 
 -- ---- tests
 

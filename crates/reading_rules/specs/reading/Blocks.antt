@@ -6,7 +6,7 @@ use Rattle.std.proofs.Math.Option.{Option, none, some}
 use Rattle.scanner.specs.scan.Part.{same_bytes}
 use Rattle.reading_rules.specs.smiles.Ascii.{ascii}
 use Rattle.reading_rules.specs.smiles.Lexer.{within}
-use Rattle.reading_rules.specs.words.Parting.{dollar, point, colon, semicolon, ◌>>=◌, each, parted, two, three, follows, closed, enclosed}
+use Rattle.reading_rules.specs.words.Parting.{dollar, point, colon, semicolon, ◌>>=◌, each, parted, two, three, follows, enclosed}
 use Rattle.reading_rules.specs.words.Numeral.{number}
 use Rattle.reading_rules.specs.words.Names.{variable}
 use Rattle.reading_rules.specs.molecule.Molecule.{At, at}

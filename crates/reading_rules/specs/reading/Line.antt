@@ -1,12 +1,12 @@
 -- A line, read: the molecule, or none where the line is unreadable. 01, The line and its reading.
-use Rattle.std.specs.Prelude.{ℕ, zero, suc, Bool, true, false, cond, not, ◌||◌, ◌&&◌, List, [], ◌∷◌, ◌++◌, length, eqb, ltb, leb}
+use Rattle.std.specs.Prelude.{ℕ, zero, suc, Bool, true, cond, not, ◌&&◌, List, [], ◌∷◌, ◌++◌, length, eqb, ltb, leb}
 use Rattle.std.proofs.Math.Option.{Option, none, some}
 use Rattle.reading_rules.specs.smiles.Ascii.{ascii}
 use Rattle.reading_rules.specs.smiles.Lexer.{memb}
 use Rattle.reading_rules.specs.smiles.Row.{Row}
 use Rattle.reading_rules.specs.smiles.Text.{read_text}
-use Rattle.reading_rules.specs.words.Parting.{blank, comma, semicolon, bar, ◌>>=◌, parted, follows, closed, enclosed}
-use Rattle.reading_rules.specs.molecule.Molecule.{At, at, atoms_of, notes_of, Sum, variables_of, Molecule, molecule_of}
+use Rattle.reading_rules.specs.words.Parting.{blank, comma, semicolon, bar, ◌>>=◌, parted, enclosed}
+use Rattle.reading_rules.specs.molecule.Molecule.{atoms_of, notes_of, Sum, variables_of, Molecule, molecule_of}
 use Rattle.reading_rules.specs.reading.Blocks.{Blocks, blocks, read_blocks, labelled}
 use Rattle.reading_rules.specs.reading.Trailer.{Trailer, trailer, read_trailer}
 

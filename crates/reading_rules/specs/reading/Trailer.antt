@@ -4,7 +4,7 @@
 use Rattle.std.specs.Prelude.{ℕ, List, [], ◌∷◌}
 use Rattle.std.proofs.Math.Option.{Option, none, some}
 use Rattle.reading_rules.specs.smiles.Ascii.{ascii}
-use Rattle.reading_rules.specs.words.Parting.{closing, plus, comma, equals, ◌>>=◌, each, parted, two, follows, closed, enclosed}
+use Rattle.reading_rules.specs.words.Parting.{closing, plus, comma, equals, ◌>>=◌, each, parted, two, enclosed}
 use Rattle.reading_rules.specs.words.Numeral.{number}
 use Rattle.reading_rules.specs.words.Names.{variable}
 use Rattle.reading_rules.specs.molecule.Molecule.{Sum, sum}

@@ -2,9 +2,9 @@
 -- Assumes nothing.
 use Prim.Native.Nat.{ℕ, zero, suc, ◌+◌, ◌-◌, ◌*◌, ◌≤◌, ◌<◌}
 use native.Mathlib.Omega.{arith}
-use mathlib.Core.Path.{◌≡◌, refl, sym, ap, ◌∙◌}
+use mathlib.Core.Path.{◌≡◌, refl, sym, ◌∙◌}
 use mathlib.Core.Bool.{Bool, true, false}
-use mathlib.Core.Option.{Option, none, some}
+use mathlib.Core.Option.{none, some}
 use mathlib.Core.List.{List, [], ◌∷◌}
 use lib.Dec.{ltb}
 use lib.ListN.{length, take, drop, get_or, length-take}
@@ -12,7 +12,7 @@ use lib.Seq.{get_or-take, drop-drop}
 use borrow.Author.Tests.{ltb-true, ltb-false}
 use Rattle.drawn_chain.specs.declared.drawable.Shape.{Shape}
 use Rattle.drawn_chain.specs.drawable.Drawn.{Drawn, drawn_of}
-use Rattle.drawn_chain.specs.drawable.Chains.{Chains, drawn_in, part_of, items_of}
+use Rattle.drawn_chain.specs.drawable.Chains.{drawn_in, part_of, items_of}
 use Rattle.drawn_chain.proofs.drawable.Parts.{items-length}
 use Rattle.request_chains.specs.chain_numbers.Shapes.{no_shape, shapes_in, chains_kept}
 use Rattle.request_chains.specs.chain_numbers.Sn.{drawn_at, IsDrawn, ChainAt, ShapeAt}

@@ -9,7 +9,7 @@ use lib.ListN.{length, take, drop, get_or, length-drop}
 use lib.Seq.{take_all}
 use lib.Dec.{eqb}
 use borrow.Author.Tests.{eq-eqb, ne_eqb, eqb-true}
-use Rattle.scanner.specs.part.Part.{part, Place, first_byte, index_of, starts_with, index_of_text, same_bytes}
+use Rattle.scanner.specs.part.Part.{Place, first_byte, index_of, starts_with, index_of_text, same_bytes}
 
 -- the part `&t[a..]` is what is left after a elements
 pub to_end : (a : ℕ) (t : List ℕ) → take (length t - a) (drop a t) ≡ drop a t

@@ -11,7 +11,6 @@ use mathlib.Core.List.{List, [], ◌∷◌}
 use lib.ListN.{length, take, drop, get_or, length-drop}
 use lib.Dec.{ltb, leb}
 use borrow.Author.Tests.{lt-ltb, le-ltb, eq-eqb, ne_eqb, ltb-false, leb-true}
-use Rattle.scanner.specs.part.Part.{Place}
 use Rattle.scanner.specs.declared.scan.Number.{Number}
 use Rattle.scanner.specs.declared.scan.Number.TheVariants.{Value, Unreadable}
 use Rattle.scanner.specs.scan.Number.{is_digit, all_digits, value_from, checked, digits_up_to, after_plus, number_up_to}

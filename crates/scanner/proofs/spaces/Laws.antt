@@ -10,7 +10,7 @@ use lib.ListN.{length, take, drop, get_or}
 use lib.Seq.{take-suc, take_all, length-take-le}
 use lib.Dec.{eqb}
 use borrow.Author.Tests.{eq-eqb, ne_eqb}
-use Rattle.scanner.specs.part.Part.{part, Place, first_byte, leading, ending_after, ending, trimmed}
+use Rattle.scanner.specs.part.Part.{Place, first_byte, leading, ending_after, ending, trimmed}
 use Rattle.scanner.proofs.part.Laws.{first-here, first_more}
 
 -- the test for a space, by what the code asks

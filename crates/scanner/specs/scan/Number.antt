@@ -1,7 +1,7 @@
 -- Numbers in lent bytes. 01, Token reader: "A number is digits after at most one `+`, at most 4,294,967,295 (a ring's n: below 2^64); the
 -- bond count and a group's leading position are digits only." The limit is a parameter; it bounds the value and not the count of digits.
 -- Assumes nothing.
-use Rattle.std.specs.Prelude.{ℕ, ◌+◌, ◌*◌, ◌-◌, List, [], ◌∷◌, Bool, true, false, not, cond, ltb, leb, eqb}
+use Rattle.std.specs.Prelude.{ℕ, ◌+◌, ◌*◌, ◌-◌, List, [], ◌∷◌, Bool, true, false, cond, ltb, eqb}
 unfoldable pub use Rattle.scanner.specs.digits.Digit.{is_digit}
 pub use Rattle.scanner.specs.digits.Digit.{digit_run}
 use Rattle.scanner.specs.declared.scan.Number.{Number}

@@ -1,6 +1,6 @@
 -- How often each answer was met. 01, Batch program: "Last, per answer met, `#`, answer, times." The order is the program's choice: by rising
 -- answer. The answers are those of 01, from 0 to 42. Byte: `#` 35. Assumes nothing.
-use Rattle.std.specs.Prelude.{ℕ, suc, ◌+◌, cond, List, [], ◌∷◌, ◌++◌, get_or, set, replicate, eqb}
+use Rattle.std.specs.Prelude.{ℕ, suc, cond, List, [], ◌∷◌, ◌++◌, get_or, set, replicate, eqb}
 use Rattle.writer.specs.emit.Text.{decimal, after}
 use Rattle.reading_rules.specs.reading.Ascii.{ascii}
 use Rattle.sheet_frame.specs.declared.tally.Counts.{Counts}

@@ -1,16 +1,14 @@
 -- Laws of the indices that are written where there is room: a law for each way out and for a turn of the loop. Assumes nothing.
 use Prim.Native.Nat.{ℕ, ◌+◌, ◌*◌, ◌-◌, ◌/◌, ◌%◌, ◌^◌, ◌≤◌, ◌<◌}
-use native.Mathlib.Decide.{dec_le}
 use native.Mathlib.Omega.{arith}
 use mathlib.Core.Path.{◌≡◌, refl, ap, ◌∙◌}
 use mathlib.Core.Bool.{Bool, true, false}
 use mathlib.Core.List.{List, [], ◌∷◌, map}
 use lib.ListN.{length, take, get_or, set, length-set}
-use lib.Seq.{get_or-set_same, get_or-set_other}
 use lib.Dec.{ltb}
 use borrow.Author.Tests.{lt-ltb}
 use Rattle.writer.specs.emit.Text.{Written, decimal}
-use Rattle.writer.proofs.emit.Laws.{written-append, written-nil, written_small, written-two, written-three, written-length}
+use Rattle.writer.proofs.emit.Laws.{written-append, written_small, written-two, written-three, written-length}
 use Rattle.reading_rules.specs.reading.Parting.{joined}
 use Rattle.line_parts.specs.shown.Chained.{listed, parting}
 use Rattle.line_parts.proofs.sites.Laws.{sites-more}

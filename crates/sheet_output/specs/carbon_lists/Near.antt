@@ -1,5 +1,5 @@
 -- What is written of the indices of a chain where there is room for them. Assumes nothing.
-use Rattle.std.specs.Prelude.{ℕ, ◌+◌, ◌*◌, ◌-◌, ◌^◌, ◌≤◌, ◌<◌, ◌≡◌, List, map, length, take}
+use Rattle.std.specs.Prelude.{ℕ, ◌+◌, ◌*◌, ◌-◌, ◌^◌, ◌≤◌, ◌<◌, List, map, length, take}
 use Rattle.writer.specs.emit.Text.{Written, decimal}
 use Rattle.reading_rules.specs.reading.Parting.{joined}
 

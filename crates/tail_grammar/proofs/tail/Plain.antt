@@ -2,10 +2,9 @@
 use Prim.Native.Nat.{ℕ, zero, suc, ◌+◌, ◌-◌, ◌≤◌, ◌<◌}
 use native.Mathlib.Omega.{arith}
 use mathlib.Core.Path.{◌≡◌, refl, sym, ap, ◌∙◌}
-use mathlib.Core.Bool.{Bool, true, false, cond}
+use mathlib.Core.Bool.{Bool, true}
 use mathlib.Core.List.{List, [], ◌∷◌}
 use lib.ListN.{length, drop, get_or}
-use lib.Dec.{eqb, leb, ltb}
 use borrow.Author.Tests.{lt-ltb, le-leb}
 use Rattle.reading_rules.specs.reading.Ascii.{ascii}
 use Rattle.reading_rules.specs.reading.Lexer.{memb, within, organic, marks, pairs}
@@ -13,7 +12,7 @@ use Rattle.tail_grammar.specs.declared.tailatom.Found.{Found}
 use Rattle.tail_grammar.specs.declared.tailatom.Found.TheVariants.{Next}
 use Rattle.tail_grammar.specs.tailatom.Atom.{AtomIs}
 use Rattle.tail_grammar.proofs.tailatom.Scan.{found-scans}
-use Rattle.tail_grammar.specs.ringdigits.Grammar.{Rings, no_rings, with_atom, back_to, none_open, State, stands, opening, after_bond, whole, closed, letter, branch_closes, branch_opens, goes_on, digit_or, bond_or_atom, atom_begins, step, finished, done, scan, atoms_of_tail}
+use Rattle.tail_grammar.specs.ringdigits.Grammar.{Rings, no_rings, with_atom, back_to, none_open, stands, opening, after_bond, branch_closes, branch_opens, goes_on, digit_or, bond_or_atom, step, finished, scan, atoms_of_tail}
 use Rattle.tail_grammar.proofs.ringdigits.Scan.{scan-at, scan-end, same_at}
 use Rattle.tail_grammar.specs.tail.Contract.{place_of}
 use Rattle.tail_grammar.proofs.tail.Scan.{letter-step, letter-place, letter-large, opens-step, closes-step, ends-late}

@@ -21,7 +21,6 @@ use Rattle.chain_record.specs.parsed.Parsed.{Grows, first, groups_as}
 use Rattle.chain_record.proofs.parsed.Laws.{holds-none, stands_read}
 use Rattle.token_head.specs.declared.opening.Branch.{Branch}
 use Rattle.token_head.specs.declared.opening.Branch.TheVariants.{Straight, Iso, Anteiso}
-use Rattle.token_head.specs.declared.opening.Opening.{Opening}
 use Rattle.token_head.specs.declared.opening.Start.{Start}
 use Rattle.token_head.specs.declared.opening.Started.{Started}
 use Rattle.token_head.specs.declared.opening.Started.TheVariants.{Read as Started-as-Read, Refused as Started-as-Refused}

@@ -1,6 +1,6 @@
 -- 01, Token reader: what stands before the bond count. "Otherwise `iso-` or `anteiso-`, then `O-`, `P-`, or d/D/t/T before a digit, then the
 -- branch word if not yet seen. Carbon text to the first colon". Assumes nothing.
-use Rattle.std.specs.Prelude.{ℕ, ◌+◌, ◌-◌, ◌≤◌, ◌≡◌, List, [], ◌∷◌, Bool, true, false, cond, length, drop, eqb, ltb}
+use Rattle.std.specs.Prelude.{ℕ, ◌+◌, ◌-◌, ◌≤◌, ◌≡◌, List, [], ◌∷◌, true, false, cond, length, drop, eqb, ltb}
 use Rattle.scanner.specs.scan.Part.{starts_with}
 use Rattle.scanner.specs.scan.Number.{is_digit, number_up_to, number_limit}
 use Rattle.scanner.specs.declared.scan.Number.{Number}

@@ -15,7 +15,6 @@ use lib.Dec.{eqb, ltb, eqb-zero-suc}
 use borrow.Author.Tests.{lt-ltb, le-ltb, eq-eqb, ne_eqb, eqb-false, ltb-false, not-false}
 use Rattle.scanner.specs.scan.Part.{first_byte, index_of, index_of_text, starts_with, trimmed, ending, Place}
 use Rattle.scanner.specs.scan.Number.{is_digit, digit_run}
-use Rattle.scanner.specs.declared.scan.Number.TheVariants.{Value}
 use Rattle.scanner.proofs.scan.Laws.{to_end, digit-from}
 use Rattle.scanner.proofs.part.Laws.{first-within}
 use Rattle.scanner.proofs.spaces.Laws.{trim-whole}

@@ -19,11 +19,11 @@ use Rattle.chain_record.specs.declared.plain.ChainPrefix.{ChainPrefix}
 use Rattle.chain_record.specs.declared.plain.DbPos.{DbPos}
 use Rattle.chain_record.specs.declared.plain.Ring.{Ring}
 use Rattle.chain_record.specs.declared.plain.Bridge.TheVariants.{Carbocycle}
-use Rattle.chain_record.specs.plain.Chain.{Chain, Outcome, Read, and_then, with_ring, counts_of}
+use Rattle.chain_record.specs.plain.Chain.{Chain, Read, with_ring, counts_of}
 use Rattle.chain_record.specs.codes.Codes.{ring_in, ring_code}
 use Rattle.chain_record.proofs.codes.Laws.{ring-back}
 use Rattle.token_syntax.specs.form.Parts.{parts_at}
-use Rattle.token_syntax.specs.form.Form.{segment_text, after_opening, before_closing, cy_text, span_form, form_of, after_place}
+use Rattle.token_syntax.specs.form.Form.{segment_text, after_opening, before_closing, cy_text, span_form, form_of}
 use Rattle.token_syntax.specs.form.Numbers.{ring_count}
 use Rattle.token_syntax.specs.declared.form.Form.TheVariants.{Ring as Form-as-Ring}
 use Rattle.token_head.specs.positions.Each.{each}
@@ -36,7 +36,7 @@ use Rattle.token_segments.proofs.segment.Laws.{segments-none}
 use Rattle.token_reader.specs.declared.token.Lead.{Lead}
 use Rattle.token_reader.specs.declared.token.Item.{Item}
 use Rattle.token_reader.specs.declared.token.Listed.{Listed}
-use Rattle.token_reader.specs.token.Short.{Passed, bonded, may_follow, Follows, Digits, Numeral, Leads, laden, Sized, Spanned, Enclosed, rings_in, RingFirst}
+use Rattle.token_reader.specs.token.Short.{Passed, bonded, may_follow, Digits, Numeral, Leads, laden, Sized, Spanned, Enclosed, rings_in, RingFirst}
 use Rattle.token_reader.proofs.token.Short.{digit-most, passed_here, passed-one}
 use Rattle.token_reader.proofs.token.Grouping.{first-empty, laden-counts}
 

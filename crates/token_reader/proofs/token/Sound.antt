@@ -3,12 +3,12 @@
 -- Assumes nothing.
 use Prim.Native.Nat.{ℕ, zero, suc, ◌+◌, ◌-◌, ◌≤◌, ◌<◌}
 use native.Mathlib.Omega.{arith}
-use mathlib.Core.Path.{◌≡◌, refl, sym, ap, ◌∙◌}
+use mathlib.Core.Path.{◌≡◌, refl}
 use mathlib.Core.Bool.{Bool, true, false, cond}
 use mathlib.Core.List.{List, [], ◌∷◌, ◌++◌}
 use lib.ListN.{length, take, drop}
 use lib.Dec.{eqb, ltb}
-use borrow.Author.Tests.{ltb-false, eqb-true}
+use borrow.Author.Tests.{ltb-false}
 use Rattle.scanner.specs.scan.Part.{part, trimmed, index_of, starts_with, same_bytes}
 use Rattle.scanner.specs.scan.Number.{digit_run, digits_up_to, number_up_to, number_limit}
 use Rattle.scanner.specs.declared.scan.Number.{Number}
@@ -41,12 +41,12 @@ use Rattle.token_features.specs.declared.features.Segment.{Segment}
 use Rattle.token_features.specs.declared.features.Segment.TheVariants.{Cycle, Located, Repeated, Oxygens, Unreadable as Segment-as-Unreadable}
 use Rattle.token_features.specs.declared.features.Feature.{Feature}
 use Rattle.token_features.specs.declared.features.Feature.TheVariants.{Ring as Feature-as-Ring, Group as Feature-as-Group, Other as Feature-as-Other}
-use Rattle.token_features.specs.features.Features.{ring_of, ring_at, span_of, bridge_of, named, feature_of, placed, placed_by, listed_as, oxygens_by, oxygen_count, oxygens_in, feature_or, item_at, item_by, part_of, times_by, repeated_of}
+use Rattle.token_features.specs.features.Features.{ring_of, ring_at, span_of, named, feature_of, placed_by, listed_as, oxygens_by, oxygen_count, oxygens_in, feature_or, item_at, item_by, part_of, times_by, repeated_of}
 use Rattle.token_segments.specs.ring.Ring.{value_or11, ring_or11, closed_or11, ring_list, ring_listed, ring_listed_or, ring_bonds, ring_sized, ring_segment}
 use Rattle.token_segments.specs.segment.Segment.{copies, unless_over, many_times, with_segment, listed_at, plain_list, listed_feature, listed_segment, part_at, comma_parts, by_form, modification, segment_at, segments}
 use Rattle.token_head.specs.declared.opening.Branch.{Branch}
 use Rattle.token_head.specs.declared.opening.Branch.TheVariants.{Straight, Iso, Anteiso}
-use Rattle.token_head.specs.opening.Opening.{opening_of, branched, start_chain, carbons_by, carbons_of}
+use Rattle.token_head.specs.opening.Opening.{branched, start_chain, carbons_by, carbons_of}
 use Rattle.token_reader.specs.declared.token.Missing.{Missing}
 use Rattle.token_reader.specs.declared.token.Missing.TheVariants.{Seated, Unseated}
 use Rattle.token_reader.specs.token.Token.{missing_of, bare_oxygens, finished, rest_of, counted_list, listed_of, after_count, count_by, bonds_of, named_chain, empty_text, trimmed_of, all_printable, token_of}

@@ -11,7 +11,6 @@ use Rattle.chain_record.specs.plain.Chain.{Chain, Outcome, Read, Refused, and_th
 use Rattle.token_reader.specs.seats.Seats.{seated, positions}
 use Rattle.token_head.specs.positions.Positions.{bond_list}
 use Rattle.token_head.specs.declared.opening.Branch.{Branch}
-use Rattle.token_head.specs.declared.opening.Opening.{Opening}
 use Rattle.token_head.specs.opening.Opening.{opening_of, carbons_of}
 use Rattle.token_segments.specs.segment.Segment.{segments}
 use Rattle.token_reader.specs.declared.token.Missing.{Missing}

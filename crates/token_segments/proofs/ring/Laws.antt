@@ -5,10 +5,9 @@ use native.Mathlib.Nat.{sub-zero}
 use native.Mathlib.Numerals.{add-one}
 use mathlib.Core.Path.{◌≡◌, refl, sym, ◌∙◌}
 use mathlib.Core.Bool.{Bool, true, false, not}
-use mathlib.Core.List.{List, [], ◌∷◌}
+use mathlib.Core.List.{List, []}
 use lib.ListN.{length, take, drop}
 use borrow.Author.Tests.{lt-ltb, le-ltb, eq-eqb, ne_eqb, not-true, not-false}
-use Rattle.token_features.specs.contracts.features.Segment.{the_type}
 use Rattle.scanner.specs.scan.Part.{Place, index_of}
 use Rattle.scanner.specs.declared.scan.Number.{Number}
 use Rattle.scanner.specs.declared.scan.Number.TheVariants.{Value as Number-as-Value, Unreadable as Number-as-Unreadable}

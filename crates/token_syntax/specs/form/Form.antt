@@ -1,6 +1,6 @@
 -- The four forms in which 01 tries a segment; its text is that of crates/token_syntax/specs/brackets/Brackets.antt. Bytes: `(` 40, `)` 41, `-` 45.
 -- Assumes nothing.
-use Rattle.std.specs.Prelude.{ℕ, suc, ◌+◌, ◌-◌, ◌<◌, ◌≤◌, ◌≡◌, List, [], ◌∷◌, Bool, true, false, cond, length, take, drop, get_or, eqb}
+use Rattle.std.specs.Prelude.{ℕ, suc, ◌+◌, ◌-◌, ◌<◌, ◌≤◌, ◌≡◌, List, [], ◌∷◌, Bool, false, cond, length, take, drop, get_or, eqb}
 use Rattle.scanner.specs.scan.Part.{index_of, index_of_text}
 use Rattle.token_syntax.specs.declared.form.Form.{Form}
 use Rattle.token_syntax.specs.declared.form.Form.TheVariants.{Ring, Repeated, Listed, Parts}

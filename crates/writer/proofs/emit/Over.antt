@@ -3,10 +3,10 @@
 use Prim.Native.Nat.{ℕ, zero, suc, ◌+◌, ◌-◌, ◌^◌, ◌≤◌, ◌<◌}
 use native.Mathlib.Omega.{arith}
 use mathlib.Core.Path.{◌≡◌, refl, sym, ap, ◌∙◌}
-use mathlib.Core.List.{List, [], ◌∷◌, ◌++◌}
+use mathlib.Core.List.{List, [], ◌∷◌}
 use lib.ListN.{length, take, drop, set, take-append-drop, length-drop}
 use lib.Seq.{sets, set-set, set_comm, take-add, length-take-le, take_all}
-use Rattle.writer.specs.store.Text.{Written, after}
+use Rattle.writer.specs.store.Text.{Written}
 use Rattle.writer.proofs.store.Laws.{sets-append}
 
 -- a store before a place and stores from it on may change places

@@ -1,18 +1,17 @@
 -- Reading the digits of a number gives the number back.
 -- Assumes nothing.
-use Prim.Native.Nat.{ℕ, zero, suc, ◌+◌, ◌*◌, ◌-◌, ◌/◌, ◌%◌, ◌≤◌, ◌<◌, ◌^◌}
+use Prim.Native.Nat.{ℕ, zero, suc, ◌+◌, ◌*◌, ◌-◌, ◌/◌, ◌%◌, ◌≤◌, ◌<◌}
 use native.Mathlib.Nat.{not-suc-le-zero}
 use native.Mathlib.Decide.{dec_le}
 use native.Mathlib.Omega.{arith}
-use mathlib.Core.Path.{◌≡◌, refl, sym, ap, ◌∙◌}
+use mathlib.Core.Path.{◌≡◌, refl, ◌∙◌}
 use mathlib.Core.Bool.{Bool, true, false, cond, false≢true}
 use mathlib.Core.List.{List, [], ◌∷◌, ◌++◌}
 use lib.Dec.{ltb}
 use borrow.Author.Tests.{lt-ltb, le-ltb, le-leb, ne_eqb}
 use Rattle.writer.specs.store.Text.{digits, decimal, pick_list}
 use Rattle.scanner.specs.scan.Number.{after_plus, is_digit, all_digits, value_from, checked, digits_up_to, number_up_to}
-use Rattle.scanner.specs.declared.scan.Number.{Number}
-use Rattle.scanner.specs.declared.scan.Number.TheVariants.{Value, Unreadable}
+use Rattle.scanner.specs.declared.scan.Number.TheVariants.{Value}
 
 value-snoc : (v : ℕ) (a : List ℕ) (d : ℕ) → value_from v (a ++ (d ∷ [])) ≡ value_from v a * 10 + (d - 48)
 unfolding value_from

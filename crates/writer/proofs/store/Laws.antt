@@ -1,16 +1,16 @@
 -- Laws of the writers: texts written one after the other, and a number's digits.
 -- Assumes nothing.
-use Prim.Native.Nat.{ℕ, zero, suc, ◌+◌, ◌*◌, ◌-◌, ◌/◌, ◌%◌, ◌^◌, ◌≤◌, ◌<◌, min}
-use native.Mathlib.Nat.{not-suc-le-zero, add-zero, add-suc, suc-add, le-suc, le_trans, min-eq_left, min-eq_right}
+use Prim.Native.Nat.{ℕ, zero, suc, ◌+◌, ◌/◌, ◌%◌, ◌^◌, ◌≤◌, ◌<◌}
+use native.Mathlib.Nat.{not-suc-le-zero, add-zero, add-suc, suc-add, min-eq_left}
 use native.Mathlib.Numerals.{add-one}
 use native.Mathlib.Decide.{dec_le}
 use native.Mathlib.Omega.{arith}
-use mathlib.Core.Path.{◌≡◌, refl, sym, ap, ◌∙◌, subst}
+use mathlib.Core.Path.{◌≡◌, refl, sym, ap, ◌∙◌}
 use mathlib.Core.List.{List, [], ◌∷◌, ◌++◌}
-use lib.ListN.{length, set, take, get_or, length-set, length-append}
+use lib.ListN.{length, set, take, get_or, length-append}
 use lib.Seq.{take-suc, take_all, sets, length-sets, set_out}
 use borrow.Author.Tests.{lt-ltb, le-ltb}
-use Rattle.writer.specs.store.Text.{Written, after, pick_list, digits, decimal}
+use Rattle.writer.specs.store.Text.{Written, after, digits, decimal}
 
 -- past the end nothing is stored
 sets-out : (ts xs : List ℕ) (p : ℕ) → length xs ≤ p → sets xs p ts ≡ xs

@@ -1,7 +1,6 @@
 use native.Mathlib.Omega.{arith}
 use mathlib.Core.Path.{refl}
 use Rattle.answers.proofs.room.Laws.{readied-writable, short-line, short-index}
-use borrow.Author.Rules.{rules}
 use Rattle.answers.proofs.room.is_measured_short.Goals as goal
 
 pub build_line-built-requires : goal.build_line-built-requires

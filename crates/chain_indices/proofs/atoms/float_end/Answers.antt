@@ -1,5 +1,4 @@
 use borrow.Author.Rules.{rules}
-use Prim.Native.Nat.{◌-◌}
 use native.Mathlib.Omega.{arith}
 use Rattle.chain_indices.proofs.atoms.NumberLaws.{floats-start, float-counted, floats-counted}
 use Rattle.chain_indices.proofs.atoms.float_end.Goals as goal

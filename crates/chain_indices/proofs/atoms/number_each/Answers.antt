@@ -1,7 +1,6 @@
 use Prim.Native.Nat.{◌<◌, ◌^◌}
 use lib.ListN.{length}
 use borrow.Author.Rules.{rules}
-use Prim.Native.Nat.{◌-◌}
 use native.Mathlib.Omega.{arith}
 use mathlib.Core.List.{[]}
 use Rattle.chain_indices.specs.atoms.Atoms.{literal_of}
@@ -27,14 +26,13 @@ busy_atoms-next-requires c =
     loaded _ c.requires c.loop-k-test.true c.if-busy-i-eq0.false
 
 pub loop-k-preserved : goal.loop-k-preserved
-loop-k-preserved c =
-    (
-      search rules,
-      search rules,
-      omega arith,
-      omega arith,
-      number-busy _ _ _ [] _ _ c.loop-k.invariant.4 _ _ (search rules) (omega arith) c.to_index.ensures c.put_index-p.ensures c.busy_atoms-next.ensures,
-    )
+loop-k-preserved c = (
+  search rules,
+  search rules,
+  omega arith,
+  omega arith,
+  number-busy _ _ _ [] _ _ c.loop-k.invariant.4 _ _ (search rules) (omega arith) c.to_index.ensures c.put_index-p.ensures c.busy_atoms-next.ensures,
+)
 
 pub shape_of-index : goal.shape_of-index
 shape_of-index c = search numbers-size

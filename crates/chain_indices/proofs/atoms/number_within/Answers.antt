@@ -1,9 +1,8 @@
 use borrow.Author.Rules.{rules}
 use native.Mathlib.Omega.{arith}
-use Prim.Native.Nat.{◌-◌}
 use mathlib.Core.Path.{refl, ◌∙◌}
 use mathlib.Core.List.{[]}
-use lib.ListN.{length, length-set}
+use lib.ListN.{length-set}
 use Rattle.writer.proofs.emit.Laws.{written-length}
 use Rattle.chain_indices.specs.atoms.Atoms.{literal_of}
 use Rattle.chain_indices.proofs.atoms.AtomLaws.{loaded}
@@ -33,32 +32,30 @@ loop-k-preserved-then-idle_four c =
     )
 
 pub loop-k-preserved-then-busy-k-eq0 : goal.loop-k-preserved-then-busy-k-eq0
-loop-k-preserved-then-busy-k-eq0 c =
-    (
-      search rules,
-      search rules,
-      simp length-set c.loop-k.invariant.2,
-      omega arith,
-      omega arith,
-      omega arith,
-      within-bare _ _ _ _ _ _ _ _ _ c.loop-k.invariant.6 (search rules) (omega arith) (omega arith) (omega arith) c.requires.tokens_of.bonds c.requires.tokens_of.busy c.requires.roomy.own c.requires.roomy.literal c.requires.tokens_of.laden (omega arith) c.if-busy-k-eq0.true,
-    )
+loop-k-preserved-then-busy-k-eq0 c = (
+  search rules,
+  search rules,
+  simp length-set c.loop-k.invariant.2,
+  omega arith,
+  omega arith,
+  omega arith,
+  within-bare _ _ _ _ _ _ _ _ _ c.loop-k.invariant.6 (search rules) (omega arith) (omega arith) (omega arith) c.requires.tokens_of.bonds c.requires.tokens_of.busy c.requires.roomy.own c.requires.roomy.literal c.requires.tokens_of.laden (omega arith) c.if-busy-k-eq0.true,
+)
 
 pub busy_atoms-next-requires : goal.busy_atoms-next-requires
 busy_atoms-next-requires c =
     loaded _ c.requires.tokens_of c.loop-k-test.true c.if-busy-k-eq0.false
 
 pub loop-k-preserved : goal.loop-k-preserved
-loop-k-preserved c =
-    (
-      search rules,
-      search rules,
-      simp length-set c.loop-k.invariant.2,
-      omega arith,
-      omega arith,
-      omega arith,
-      within-busy _ _ [] _ [] [] 0 _ _ c.loop-k.invariant.6 (search rules) (omega arith) (omega arith) _ (omega arith) (omega arith) c.busy_atoms-next.ensures,
-    )
+loop-k-preserved c = (
+  search rules,
+  search rules,
+  simp length-set c.loop-k.invariant.2,
+  omega arith,
+  omega arith,
+  omega arith,
+  within-busy _ _ [] _ [] [] 0 _ _ c.loop-k.invariant.6 (search rules) (omega arith) (omega arith) _ (omega arith) (omega arith) c.busy_atoms-next.ensures,
+)
 
 pub shape_of-index : goal.shape_of-index
 shape_of-index c = search within-size

@@ -11,11 +11,10 @@ overflow_sub-rest c =
     carbon-within _ _ _ c.requires.grouped c.carbonyl_atoms-lead.ensures c.groups_part.ensures c.requires.carbon_in_bounds.0 c.requires.carbon_in_bounds.1 (search rules) c.put_one-p.ensures _ c.number_groups-r.ensures
 
 pub fill-end-requires : goal.fill-end-requires
-fill-end-requires c =
-    (
-      rest-room _ _ _ c.requires.grouped c.carbonyl_atoms-lead.ensures c.groups_part.ensures c.requires.carbon_in_bounds.0 c.requires.carbon_in_bounds.1 (search rules) c.put_one-p.ensures _ c.number_groups-r.ensures,
-      rest-small _ _ _ c.requires.grouped c.carbonyl_atoms-lead.ensures c.groups_part.ensures c.requires.carbon_in_bounds.0 c.requires.carbon_in_bounds.1 (search rules) c.put_one-p.ensures _ c.number_groups-r.ensures,
-    )
+fill-end-requires c = (
+  rest-room _ _ _ c.requires.grouped c.carbonyl_atoms-lead.ensures c.groups_part.ensures c.requires.carbon_in_bounds.0 c.requires.carbon_in_bounds.1 (search rules) c.put_one-p.ensures _ c.number_groups-r.ensures,
+  rest-small _ _ _ c.requires.grouped c.carbonyl_atoms-lead.ensures c.groups_part.ensures c.requires.carbon_in_bounds.0 c.requires.carbon_in_bounds.1 (search rules) c.put_one-p.ensures _ c.number_groups-r.ensures,
+)
 
 pub overflow_add-next : goal.overflow_add-next
 overflow_add-next c =

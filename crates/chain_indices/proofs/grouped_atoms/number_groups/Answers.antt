@@ -1,5 +1,4 @@
 use borrow.Author.Rules.{rules}
-use Prim.Native.Nat.{◌-◌}
 use native.Mathlib.Omega.{arith}
 use Rattle.chain_indices.proofs.grouped_atoms.Groups.{going-none, going-size, group-reaches, group-room, group-last, group-run, group-atoms, group-next, group-carbon, group-numbered, fewer, groups-numbered}
 use Rattle.chain_indices.proofs.grouped_atoms.number_groups.Goals as goal

@@ -1,6 +1,4 @@
 use native.Mathlib.Omega.{arith}
-use Prim.Native.Nat.{◌-◌}
-use lib.ListN.{length}
 use Rattle.writer.proofs.emit.Laws.{written-length}
 use Rattle.placement.proofs.chain_notes.Notes.{length-chains}
 use Rattle.chain_lists.proofs.indices.IndexLaws.{indices-none, indices-more, indices-past, indices-all}

@@ -1,6 +1,4 @@
 use native.Mathlib.Omega.{arith}
-use Prim.Native.Nat.{◌-◌}
-use lib.ListN.{length}
 use Rattle.placement.proofs.chain_notes.Notes.{length-chains}
 use Rattle.chain_lists.proofs.listing.ListsLaws.{lists-first, lists-more, lists-past, lists-all}
 use borrow.Author.Rules.{rules}

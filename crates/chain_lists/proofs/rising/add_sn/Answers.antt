@@ -1,5 +1,4 @@
 use native.Mathlib.Omega.{arith}
-use Prim.Native.Nat.{◌-◌}
 use Rattle.chain_lists.proofs.rising.OrderLaws.{sn-none, sn-here, sn-other, sn-all}
 use borrow.Author.Rules.{rules}
 use Rattle.chain_lists.proofs.rising.add_sn.Goals as goal

@@ -1,5 +1,4 @@
 use native.Mathlib.Omega.{arith}
-use lib.ListN.{length}
 use Rattle.placement.proofs.chain_notes.Notes.{length-chains}
 use Rattle.chain_lists.proofs.rising.OrderLaws.{behind-none, behind_more, behind-all}
 use borrow.Author.Rules.{rules}

@@ -1,6 +1,4 @@
 use native.Mathlib.Omega.{arith}
-use Prim.Native.Nat.{◌-◌}
-use lib.ListN.{length}
 use Rattle.placement.proofs.chain_notes.Notes.{length-chains}
 use Rattle.chain_lists.proofs.sn_sites.SitesLaws.{sites-first, sites-more, sites-base, sites-past, sites-all}
 use borrow.Author.Rules.{rules}

@@ -1,7 +1,5 @@
 use borrow.Author.Rules.{rules}
-use Prim.Native.Nat.{◌-◌}
 use native.Mathlib.Omega.{arith}
-use lib.ListN.{length}
 use Rattle.carbons.proofs.Left.{left-all, left-length}
 use Rattle.chain_pieces.proofs.branches.Laws.{float-next, floats-end}
 use Rattle.chain_pieces.proofs.branches.put_floats.Goals as goal

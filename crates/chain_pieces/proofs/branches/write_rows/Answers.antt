@@ -1,7 +1,5 @@
 use borrow.Author.Rules.{rules}
-use Prim.Native.Nat.{◌-◌}
 use native.Mathlib.Omega.{arith}
-use lib.ListN.{length}
 use Rattle.carbons.proofs.Left.{left-all, left-length}
 use Rattle.chain_pieces.proofs.branches.Laws.{row_next, rows_end}
 use Rattle.chain_pieces.proofs.branches.write_rows.Goals as goal

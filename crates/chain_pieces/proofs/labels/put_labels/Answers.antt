@@ -1,7 +1,5 @@
 use borrow.Author.Rules.{rules}
-use Prim.Native.Nat.{◌-◌}
 use native.Mathlib.Omega.{arith}
-use lib.ListN.{length}
 use Rattle.carbons.proofs.Left.{left-all, left-length}
 use Rattle.chain_pieces.proofs.labels.Laws.{label-next, labels-end}
 use Rattle.chain_pieces.proofs.labels.put_labels.Goals as goal

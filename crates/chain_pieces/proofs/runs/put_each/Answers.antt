@@ -1,8 +1,7 @@
 use borrow.Author.Rules.{rules}
 use native.Mathlib.Omega.{arith}
-use Prim.Native.Nat.{◌-◌}
 use mathlib.Core.Path.{refl}
-use lib.ListN.{length, length-set}
+use lib.ListN.{length-set}
 use Rattle.chain_pieces.proofs.runs.Carbons.{carbons-none, carbons-one, carbons-end}
 use Rattle.chain_pieces.proofs.runs.put_each.Goals as goal
 

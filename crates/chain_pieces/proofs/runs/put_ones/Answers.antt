@@ -1,6 +1,5 @@
 use borrow.Author.Rules.{rules}
 use native.Mathlib.Omega.{arith}
-use Prim.Native.Nat.{◌-◌}
 use Rattle.chain_pieces.proofs.runs.Laws.{links-none, links-one, one-room, links-size}
 use Rattle.chain_pieces.proofs.runs.put_ones.Goals as goal
 

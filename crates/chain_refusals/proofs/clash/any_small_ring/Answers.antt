@@ -1,6 +1,4 @@
-use Prim.Native.Nat.{◌-◌}
 use mathlib.Core.Path.{refl}
-use Rattle.chain_rules.specs.chain.Refusals.{small_ring}
 use Rattle.drawn_chain.proofs.drawable.Through.{any_here, any_next, any_none}
 use Rattle.chain_refusals.proofs.clash.any_small_ring.Goals as goal
 

@@ -1,4 +1,3 @@
-use Prim.Native.Nat.{◌-◌}
 use mathlib.Core.Path.{refl}
 use Rattle.drawn_chain.proofs.drawable.Through.{two_here, two-next, two_none}
 use Rattle.chain_refusals.proofs.clash.Clashes.{same-bond-at}

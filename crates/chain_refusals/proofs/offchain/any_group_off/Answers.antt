@@ -1,6 +1,4 @@
-use Prim.Native.Nat.{◌-◌}
 use mathlib.Core.Path.{refl}
-use Rattle.chain_rules.specs.chain.Refusals.{group_off}
 use Rattle.drawn_chain.proofs.drawable.Through.{any_here, any_next, any_none}
 use Rattle.chain_refusals.proofs.offchain.any_group_off.Goals as goal
 

@@ -1,4 +1,3 @@
-use Prim.Native.Nat.{◌-◌}
 use mathlib.Core.Path.{refl}
 use Rattle.drawn_chain.proofs.drawable.Through.{past-not, past_next, past_all}
 use Rattle.chain_refusals.proofs.pins.rings_past.Goals as goal

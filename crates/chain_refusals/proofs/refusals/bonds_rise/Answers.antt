@@ -1,4 +1,3 @@
-use Prim.Native.Nat.{◌-◌}
 use Rattle.chain_refusals.proofs.refusals.Rising.{only-false, rise-first, rise-next, rise-end}
 use Rattle.chain_refusals.proofs.refusals.bonds_rise.Goals as goal
 

@@ -1,4 +1,3 @@
-use Prim.Native.Nat.{◌-◌}
 use mathlib.Core.Path.{refl}
 use Rattle.chain_refusals.proofs.refusals.Rising.{only-false, sit-next, sit-end}
 use Rattle.chain_refusals.proofs.refusals.groups_sit.Goals as goal

@@ -1,4 +1,3 @@
-use Prim.Native.Nat.{◌-◌}
 use mathlib.Core.Path.{refl}
 use Rattle.chain_refusals.proofs.refusals.Rising.{only-false, rings-next, rings-end}
 use Rattle.chain_refusals.proofs.refusals.rings_rise.Goals as goal

@@ -1,4 +1,3 @@
-use Prim.Native.Nat.{◌-◌}
 use mathlib.Core.Path.{refl}
 use Rattle.drawn_chain.proofs.drawable.Through.{any_here, any_next, any_none}
 use Rattle.chain_refusals.proofs.undrawn.any_on_first.Goals as goal

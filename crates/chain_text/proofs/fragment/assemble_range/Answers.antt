@@ -1,8 +1,6 @@
 use borrow.Author.Rules.{rules}
-use Prim.Native.Nat.{◌-◌}
 use mathlib.Core.Path.{refl}
 use native.Mathlib.Omega.{arith}
-use lib.ListN.{length}
 use Rattle.carbons.proofs.Left.{left-all, left-length}
 use Rattle.chain_text.proofs.fragment.RangeLaws.{carbon-busy, carbon-run, carbons-end}
 use Rattle.chain_text.proofs.fragment.assemble_range.Goals as goal

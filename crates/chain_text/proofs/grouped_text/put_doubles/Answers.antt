@@ -1,6 +1,5 @@
 use borrow.Author.Rules.{rules}
 use native.Mathlib.Omega.{arith}
-use Prim.Native.Nat.{◌-◌}
 use mathlib.Core.List.{[]}
 use Rattle.chain_pieces.specs.runs.Links.{Links}
 use Rattle.chain_pieces.proofs.runs.Laws.{links-none, links-then, links-room, through-then}
@@ -19,19 +18,19 @@ put_span-p-requires c = (omega arith, omega arith, omega arith, omega arith, sea
 pub put_near-r-requires : goal.put_near-r-requires
 put_near-r-requires c =
     let v : Links c.args.bonds.now [] c.args.k c.args.last c.args.out.now c.args.at c.if-j-c.out c.if-j-c.p c.if-j-c.j =
-      elim c.if-j-c.branch [
-        then-j-c w ↦ before-some _ _ _ c.loop-i.invariant.5 (omega arith) w.if-j-c.true c.next_double-c.ensures w.put_span-p.ensures w.out-is w.p-is w.j-is
-        | else-j-c w ↦ before-none _ _ _ c.loop-i.invariant.5 w.out-is w.p-is w.j-is
-      ] in
+    elim c.if-j-c.branch [
+      | then-j-c w ↦ before-some _ _ _ c.loop-i.invariant.5 (omega arith) w.if-j-c.true c.next_double-c.ensures w.put_span-p.ensures w.out-is w.p-is w.j-is
+      | else-j-c w ↦ before-none _ _ _ c.loop-i.invariant.5 w.out-is w.p-is w.j-is
+    ] in
     (omega (arith, v.low), v.high, omega arith, omega arith, links-room _ [] _ _ v (omega arith))
 
 pub loop-i-preserved : goal.loop-i-preserved
 loop-i-preserved c =
     let v : Links c.args.bonds.now [] c.args.k c.args.last c.args.out.now c.args.at c.if-j-c.out c.if-j-c.p c.if-j-c.j =
-      elim c.if-j-c.branch [
-        then-j-c w ↦ before-some _ _ _ c.loop-i.invariant.5 (omega arith) w.if-j-c.true c.next_double-c.ensures w.put_span-p.ensures w.out-is w.p-is w.j-is
-        | else-j-c w ↦ before-none _ _ _ c.loop-i.invariant.5 w.out-is w.p-is w.j-is
-      ] in
+    elim c.if-j-c.branch [
+      | then-j-c w ↦ before-some _ _ _ c.loop-i.invariant.5 (omega arith) w.if-j-c.true c.next_double-c.ensures w.put_span-p.ensures w.out-is w.p-is w.j-is
+      | else-j-c w ↦ before-none _ _ _ c.loop-i.invariant.5 w.out-is w.p-is w.j-is
+    ] in
     (search rules, search rules, search rules, search rules, search rules, links-then _ [] _ _ v (omega arith) c.put_near-r.ensures)
 
 pub put_span-requires : goal.put_span-requires

@@ -1,7 +1,6 @@
 use borrow.Author.Rules.{rules}
-use Prim.Native.Nat.{◌≤◌, ◌-◌}
+use Prim.Native.Nat.{◌≤◌}
 use native.Mathlib.Omega.{arith}
-use lib.ListN.{length}
 use Rattle.chain_text.proofs.grouped_text.TurnLaws.{turn-first, turn_low, turn-carbons, turn-bonds, turn-room, turn-next, turn-less, turn-length, turns-end}
 use Rattle.chain_text.proofs.grouped_text.put_stretches.Goals as goal
 

@@ -1,6 +1,5 @@
-use Prim.Native.Nat.{◌-◌}
 use native.Mathlib.Omega.{arith}
-use lib.ListN.{length, length-set}
+use lib.ListN.{length-set}
 use Rattle.drawn_chain.proofs.fitted.Drawing.{bonds-two, bonds-next, bonds-all}
 use borrow.Author.Rules.{rules}
 use Rattle.drawn_chain.proofs.fitted.double_bonds.Goals as goal

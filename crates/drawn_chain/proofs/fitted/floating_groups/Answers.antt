@@ -1,4 +1,3 @@
-use Prim.Native.Nat.{◌-◌}
 use native.Mathlib.Omega.{arith}
 use Rattle.drawn_chain.proofs.fitted.Drawing.{floating-first, floating-pass, floating-put, floating-end}
 use borrow.Author.Rules.{rules}

@@ -1,6 +1,4 @@
-use Prim.Native.Nat.{◌-◌}
 use native.Mathlib.Omega.{arith}
-use Rattle.chain_rules.specs.chain.Features.{located}
 use Rattle.drawn_chain.proofs.fitted.Drawing.{located-first, located-pass, located-put, located_end}
 use borrow.Author.Rules.{rules}
 use Rattle.drawn_chain.proofs.fitted.located_groups.Goals as goal

@@ -1,4 +1,3 @@
-use Prim.Native.Nat.{◌-◌}
 use mathlib.Core.Path.{refl}
 use Rattle.drawn_chain.proofs.drawable.Through.{reach-next, reach-all}
 use Rattle.drawn_chain.proofs.reach.bonds_reach.Goals as goal

@@ -1,5 +1,4 @@
 use native.Mathlib.Omega.{arith}
-use Prim.Native.Nat.{◌-◌}
 use Rattle.line_blocks.specs.blocks.Notes.{Bare}
 use Rattle.line_blocks.proofs.blocks.Bare.{bare-more, plain-not, plain-all}
 use Rattle.line_blocks.proofs.blocks.plain.Goals as goal

@@ -1,5 +1,4 @@
 use native.Mathlib.Omega.{arith}
-use Prim.Native.Nat.{◌-◌}
 use Rattle.placement.specs.chain_notes.Fragment.{gathered}
 use Rattle.placement.proofs.chain_notes.Notes.{length-chains}
 use Rattle.line_blocks.specs.chain_marks.Marks.{marks_in}

@@ -1,6 +1,4 @@
 use native.Mathlib.Omega.{arith}
-use Prim.Native.Nat.{◌-◌}
-use lib.ListN.{length}
 use Rattle.placement.proofs.chain_notes.Notes.{length-chains}
 use Rattle.line_blocks.proofs.chain_marks.Put.{put-length, places-are}
 use Rattle.line_blocks.proofs.chain_sites.Sites.{sites-start, sites-more, sites-all}

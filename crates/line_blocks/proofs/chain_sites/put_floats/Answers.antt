@@ -1,6 +1,4 @@
 use native.Mathlib.Omega.{arith}
-use Prim.Native.Nat.{◌-◌}
-use lib.ListN.{length}
 use Rattle.line_blocks.proofs.chain_marks.Put.{put-length}
 use Rattle.line_blocks.proofs.chain_sites.Sites.{floats-start, floats-more, floats-all}
 use Rattle.line_blocks.proofs.chain_sites.put_floats.Goals as goal

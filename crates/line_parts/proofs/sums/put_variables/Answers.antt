@@ -1,4 +1,3 @@
-use Prim.Native.Nat.{◌-◌}
 use native.Mathlib.Omega.{arith}
 use Rattle.writer.proofs.emit.Laws.{written-nil, written-length}
 use Rattle.reading_rules.specs.reading.Parting.{joined}

@@ -1,5 +1,4 @@
 use borrow.Author.Rules.{rules}
-use Prim.Native.Nat.{◌-◌}
 use native.Mathlib.Omega.{arith}
 use Rattle.scanner.proofs.scan.Laws.{digits-none, digits-start, digits-other, digits-large, digits_more, digits-end, digit-least, few-more, few-small, few-fits}
 use Rattle.scanner.proofs.scan.read_few.Goals as goal

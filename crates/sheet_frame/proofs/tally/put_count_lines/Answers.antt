@@ -1,8 +1,6 @@
 use borrow.Author.Rules.{rules}
 use Rattle.sheet_frame.proofs.tally.Laws.{lines_more, lines-all}
 use native.Mathlib.Omega.{arith}
-use Prim.Native.Nat.{◌-◌}
-use lib.ListN.{length}
 use Rattle.writer.proofs.emit.Laws.{written-nil, written-length}
 use Rattle.sheet_frame.specs.tally.Counts.{count_lines_from}
 use Rattle.sheet_frame.proofs.tally.put_count_lines.Goals as goal

@@ -1,6 +1,5 @@
 use borrow.Author.Rules.{rules}
 use native.Mathlib.Omega.{arith}
-use Prim.Native.Nat.{◌-◌}
 use Rattle.sheet_input.proofs.cutting.LineLaws.{along-start, along-next, along-lf, along-end}
 use Rattle.sheet_input.proofs.cutting.cut_line.Goals as goal
 

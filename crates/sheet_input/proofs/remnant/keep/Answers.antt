@@ -1,7 +1,6 @@
 use borrow.Author.Rules.{rules}
 use native.Mathlib.Omega.{arith}
 use Rattle.sheet_input.proofs.remnant.Laws.{moved-start, moved_more, moved_none, moved_all}
-use Prim.Native.Nat.{◌-◌}
 use mathlib.Core.Path.{refl}
 use Rattle.sheet_input.proofs.remnant.keep.Goals as goal
 

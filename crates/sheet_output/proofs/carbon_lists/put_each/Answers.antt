@@ -1,6 +1,4 @@
 use native.Mathlib.Omega.{arith}
-use Prim.Native.Nat.{◌-◌}
-use lib.ListN.{length}
 use Rattle.writer.proofs.emit.Laws.{written-nil, written-length}
 use Rattle.reading_rules.specs.reading.Parting.{joined}
 use Rattle.line_parts.proofs.sites.Laws.{sites-more, sites-all}

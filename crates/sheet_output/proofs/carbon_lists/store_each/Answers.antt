@@ -1,6 +1,5 @@
 use borrow.Author.Rules.{rules}
 use native.Mathlib.Omega.{arith}
-use Prim.Native.Nat.{◌-◌}
 use mathlib.Core.Path.{refl}
 use Rattle.writer.proofs.emit.Laws.{written-nil}
 use Rattle.reading_rules.specs.reading.Parting.{joined}

@@ -1,6 +1,5 @@
 use borrow.Author.Rules.{rules}
 use native.Mathlib.Omega.{arith}
-use Prim.Native.Nat.{◌-◌}
 use Rattle.sheet_output.proofs.carbon_lists.Stored.{dotted-start, dotted-more}
 use Rattle.sheet_output.proofs.carbon_lists.store_pairs.Goals as goal
 

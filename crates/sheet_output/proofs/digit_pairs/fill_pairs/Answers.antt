@@ -1,6 +1,5 @@
 use borrow.Author.Rules.{rules}
 use native.Mathlib.Omega.{arith}
-use Prim.Native.Nat.{◌-◌}
 use Rattle.sheet_output.proofs.digit_pairs.Laws.{filled-start, filled_more, filled-all, filled-short}
 use Rattle.sheet_output.proofs.digit_pairs.fill_pairs.Goals as goal
 

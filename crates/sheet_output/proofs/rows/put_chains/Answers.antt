@@ -2,8 +2,6 @@ use Rattle.chain_record.proofs.plain.Laws.{length-mapped}
 use borrow.Author.Rules.{rules}
 use Rattle.sheet_output.proofs.rows.Laws.{chains-start, rest-start, chains-more, chains-rest, chains-all}
 use native.Mathlib.Omega.{arith}
-use Prim.Native.Nat.{◌-◌}
-use lib.ListN.{length}
 use Rattle.writer.proofs.emit.Laws.{written-length}
 use Rattle.sheet_output.proofs.rows.put_chains.Goals as goal
 

@@ -1,6 +1,5 @@
 use native.Mathlib.Omega.{arith}
 use Rattle.chain_record.proofs.plain.Laws.{length-mapped}
-use lib.ListN.{length}
 use Rattle.sn_labels.proofs.label_block.FallingLaws.{fall-none, fall-more, fall-not, fall-all}
 use Rattle.sn_labels.proofs.label_block.falls.Goals as goal
 

@@ -1,8 +1,6 @@
 use borrow.Author.Rules.{rules}
 use native.Mathlib.Omega.{arith}
-use Prim.Native.Nat.{◌-◌}
 use mathlib.Core.Path.{refl}
-use lib.ListN.{length}
 use Rattle.writer.proofs.emit.Laws.{written-length}
 use Rattle.sn_labels.proofs.label_block.Laws.{fill_none, fill-room, fill_more, fill-all}
 use Rattle.sn_labels.proofs.label_block.fill.Goals as goal

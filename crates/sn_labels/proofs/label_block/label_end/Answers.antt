@@ -1,9 +1,7 @@
 use native.Mathlib.Omega.{arith}
 use Rattle.chain_record.proofs.plain.Laws.{length-mapped}
 use Rattle.sn_labels.proofs.label_block.Laws.{end_more, end-all}
-use Prim.Native.Nat.{◌-◌}
 use mathlib.Core.Path.{refl}
-use lib.ListN.{length}
 use Rattle.reading_rules.specs.reading.Show.{up_to_last}
 use Rattle.line_parts.specs.shown.Notes.{labels_of}
 use Rattle.sn_labels.proofs.label_block.label_end.Goals as goal

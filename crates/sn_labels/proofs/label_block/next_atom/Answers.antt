@@ -1,6 +1,4 @@
 use native.Mathlib.Omega.{arith}
-use Prim.Native.Nat.{◌-◌}
-use lib.ListN.{length}
 use Rattle.chain_record.proofs.plain.Laws.{length-mapped}
 use Rattle.sn_labels.proofs.label_block.Laws.{next-none, next_more, next-all}
 use Rattle.sn_labels.proofs.label_block.next_atom.Goals as goal

@@ -4,9 +4,7 @@ use Rattle.chain_record.proofs.plain.Laws.{length-mapped}
 use Rattle.writer.proofs.emit.Laws.{written-nil}
 use Rattle.sn_labels.proofs.label_block.Laws.{entry_here, entry_next, entry-none}
 use Rattle.sn_labels.proofs.label_block.Sites.{site-digit}
-use Prim.Native.Nat.{◌-◌}
 use mathlib.Core.Path.{refl}
-use lib.ListN.{length}
 use Rattle.sn_labels.proofs.label_block.put_entry.Goals as goal
 
 pub loop-i-init : goal.loop-i-init

@@ -1,7 +1,6 @@
 use borrow.Author.Rules.{rules}
 use native.Mathlib.Omega.{arith}
 use Rattle.chain_record.proofs.plain.Laws.{length-mapped}
-use lib.ListN.{length}
 use Rattle.writer.proofs.emit.Laws.{written-length}
 use Rattle.sn_labels.proofs.label_block.FallingLaws.{shown-none, top-none, top_within, digit-behind, top-more, shown-more, shown-all}
 use Rattle.sn_labels.proofs.label_block.put_falling.Goals as goal

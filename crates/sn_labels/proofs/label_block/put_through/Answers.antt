@@ -1,5 +1,4 @@
 use native.Mathlib.Omega.{arith}
-use Prim.Native.Nat.{◌-◌}
 use Rattle.writer.proofs.emit.Laws.{written-nil, written-length}
 use Rattle.sn_labels.proofs.label_block.Laws.{closed, through-gap, through-all}
 use Rattle.sn_labels.proofs.label_block.put_through.Goals as goal

@@ -1,7 +1,5 @@
 use borrow.Author.Rules.{rules}
 use native.Mathlib.Omega.{arith}
-use Prim.Native.Nat.{◌-◌}
-use lib.ListN.{length}
 use Rattle.writer.proofs.emit.Laws.{written-nil, written-length}
 use Rattle.reading_rules.specs.reading.Parting.{joined}
 use Rattle.chain_record.proofs.plain.Laws.{length-mapped}

@@ -1,4 +1,3 @@
-use Prim.Native.Nat.{◌-◌}
 use Rattle.tail_grammar.proofs.ringdigits.Digits.{one-open, not-open, all-shut}
 use Rattle.tail_grammar.proofs.ringdigits.none_open.Goals as goal
 

@@ -1,4 +1,3 @@
-use Prim.Native.Nat.{◌-◌}
 use Rattle.tail_grammar.proofs.ringdigits.Scan.{digits-first, a-digit, digits-over, digit-clash, digit-on, digits-end}
 use Rattle.tail_grammar.proofs.ringdigits.read_digits.Goals as goal
 

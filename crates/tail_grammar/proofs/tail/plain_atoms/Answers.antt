@@ -1,6 +1,5 @@
 use borrow.Author.Rules.{rules}
 use native.Mathlib.Omega.{arith}
-use Prim.Native.Nat.{◌-◌}
 use Rattle.tail_grammar.proofs.tail.Plain.{plain-first, plain-letter, plain-opens, plain-closes, plain-bond, bracket-less, plain-bracket, plain-ends}
 use Rattle.tail_grammar.proofs.tail.plain_atoms.Goals as goal
 

@@ -1,4 +1,3 @@
-use Prim.Native.Nat.{◌-◌}
 use Rattle.tail_grammar.proofs.tailatom.Atom.{bracket-first, bracket-on, bracket-strange, bracket-empty, bracket-long, bracket-shut, bracket-cut}
 use Rattle.tail_grammar.proofs.tailatom.after_bracket.Goals as goal
 

@@ -1,4 +1,3 @@
-use Prim.Native.Nat.{◌-◌}
 use Rattle.tail_grammar.proofs.tailatom.Bytes.{among-here, among_next, among_none}
 use Rattle.tail_grammar.proofs.tailatom.is_among.Goals as goal
 

@@ -1,4 +1,3 @@
-use Prim.Native.Nat.{◌-◌}
 use native.Mathlib.Omega.{arith}
 use Rattle.token_reader.proofs.seats.Laws.{marks-none, marks-one, marks-all, marks-whole}
 use Rattle.token_reader.proofs.seats.mark_listed.Goals as goal

@@ -1,6 +1,5 @@
 use borrow.Author.Rules.{rules}
 use mathlib.Core.Path.{refl}
-use lib.ListN.{length}
 use Rattle.token_reader.proofs.seats.Laws.{no-seat, next-seat, all-seated, marks-length, seat-next-fits}
 use Rattle.token_reader.proofs.seats.take_seats.Goals as goal
 

@@ -1,4 +1,3 @@
-use Prim.Native.Nat.{◌-◌}
 use native.Mathlib.Omega.{arith}
 use Rattle.token_reader.proofs.token.Grouping.{run_more, run_end}
 use borrow.Author.Rules.{rules}

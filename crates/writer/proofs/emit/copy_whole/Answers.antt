@@ -1,7 +1,6 @@
-use Prim.Native.Nat.{◌-◌}
 use native.Mathlib.Omega.{arith}
 use mathlib.Core.Path.{refl}
-use lib.ListN.{length, length-set}
+use lib.ListN.{length-set}
 use Rattle.writer.proofs.store.Laws.{written-whole, written-length}
 use Rattle.writer.proofs.emit.Copied.{copied_none, copied_byte}
 use Rattle.writer.proofs.emit.copy_whole.Goals as goal

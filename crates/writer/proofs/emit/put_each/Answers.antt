@@ -1,6 +1,4 @@
-use Prim.Native.Nat.{◌-◌}
 use native.Mathlib.Omega.{arith}
-use lib.ListN.{length}
 use Rattle.writer.proofs.store.Laws.{written-nil, written_byte, written-whole, written-length}
 use Rattle.writer.proofs.emit.put_each.Goals as goal
 

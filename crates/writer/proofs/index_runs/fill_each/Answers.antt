@@ -1,8 +1,6 @@
 use borrow.Author.Rules.{rules}
 use native.Mathlib.Omega.{arith}
-use Prim.Native.Nat.{◌-◌}
 use mathlib.Core.Path.{refl}
-use lib.ListN.{length}
 use Rattle.writer.proofs.emit.Laws.{written-length}
 use Rattle.writer.proofs.index_runs.Runs.{fill_none, fill-room, fill_more, fill-all}
 use Rattle.writer.proofs.index_runs.fill_each.Goals as goal

@@ -1,5 +1,4 @@
 use native.Mathlib.Omega.{arith}
-use Prim.Native.Nat.{◌-◌}
 use Rattle.writer.proofs.emit.Laws.{written-length}
 use Rattle.writer.proofs.index_runs.Runs.{each_none, each_more, each_all}
 use Rattle.writer.proofs.index_runs.put_each.Goals as goal
