@@ -13,8 +13,7 @@ import subprocess
 
 # Names whose plain spelling is that of a field or a parameter beside them.
 OTHER = {"etherBase": "is_ether_base", "tailAtoms": "atoms_of_tail"}
-# Lemmas that have the name that their definition gets.
-LEMMAS = ["after_open", "branch_closes", "digit_or", "goes_on", "none_open", "ring_in"]
+# Lemmas that have the name that their definition gets, and the files that have or cite them.
 LEMMA_FILES = {
     "after_open": ["crates/template_rules/proofs/Templates.antt"],
     "branch_closes": ["crates/tail_grammar/proofs/tail/Alone.antt", "crates/tail_grammar/proofs/tail/Scan.antt", "crates/tail_grammar/proofs/tail/Plain.antt"],
