@@ -16,14 +16,5 @@ pub fn is_digit(b: u8) -> bool
 pub fn digit_run(s: &[u8]) -> usize
     ensures { Place s.now (digit_run s.now) result }
 {
-    let mut t = s;
-    let mut i = 0;
-    while t.len() > 0 {
-        if !is_digit(t[0]) {
-            return i;
-        }
-        t = &t[1..];
-        i += 1;
-    }
-    i
+    s.iter().position(|x| !is_digit(*x)).unwrap_or(s.len())
 }

@@ -26,10 +26,7 @@ pub struct Part {
 fn place_in(s: &[u8], at: usize) -> usize
     ensures { Place s.now (place_in s.now at) result }
 {
-    if s.len() < at {
-        return s.len();
-    }
-    at
+    at.min(s.len())
 }
 
 // The part from a place up to the first byte b, or to the end.

@@ -7,30 +7,19 @@ ghost use Rattle.scanner.specs.part.Part.{leading, ending, trimmed, Place};
 fn leading_spaces(s: &[u8]) -> usize
     ensures { Place s.now (leading s.now) result }
 {
-    let mut t = s;
-    let mut i = 0;
-    while t.len() > 0 {
-        if t[0] != b' ' {
-            return i;
-        }
-        t = &t[1..];
-        i += 1;
-    }
-    i
+    s.iter().position(|x| *x != b' ').unwrap_or(s.len())
 }
 
 // The place after the last byte that is no space.
 fn text_end(s: &[u8]) -> usize
     ensures { Place s.now (ending s.now) result }
 {
-    let mut n = s.len();
-    while n > 0 {
-        if s[n - 1] != b' ' {
-            return n;
+    for i in (0..s.len()).rev() {
+        if s[i] != b' ' {
+            return i + 1;
         }
-        n -= 1;
     }
-    n
+    0
 }
 
 // The part between leading and trailing spaces, where there may be some.

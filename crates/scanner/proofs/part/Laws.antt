@@ -1,15 +1,20 @@
--- Laws of parts and places: for each loop a turn and each way out, and what callers use.
+-- Laws of parts and places: what the library's searches and comparisons answer, and what callers use.
 -- Assumes nothing.
 use Prim.Native.Nat.{ℕ, suc, ◌+◌, ◌-◌, ◌≤◌, ◌<◌}
 use native.Mathlib.Omega.{arith}
 use mathlib.Core.Path.{◌≡◌, refl, sym, ap, ◌∙◌}
-use mathlib.Core.Bool.{Bool, true, false, cond, true≢false}
+use mathlib.Core.Bool.{Bool, true, false, cond, ◌&&◌, true≢false}
 use mathlib.Core.List.{List, [], ◌∷◌}
 use lib.ListN.{length, take, drop, get_or, length-drop}
 use lib.Seq.{take_all}
-use lib.Dec.{eqb}
-use borrow.Author.Tests.{eq-eqb, ne_eqb, eqb-true}
-use Rattle.scanner.specs.part.Part.{Place, first_byte, index_of, starts_with, index_of_text, same_bytes}
+use lib.Dec.{eqb, ltb}
+use lib.Pointwise.{pointwise}
+use borrow.Author.Tests.{eq-eqb, ne_eqb, eqb-true, eqb-false, ltb-false}
+use Rattle.std.proofs.lemmas.List.Recursion.{is_position_or_len}
+use Rattle.std.specs.List.{position, position_or_len}
+use Rattle.std.specs.Prelude.{Option, None, Some}
+use Rattle.std.specs.Option.{unwrap_or}
+use Rattle.scanner.specs.part.Part.{Place, first_byte, starts_with, index_of_text, same_bytes}
 
 -- the part `&t[a..]` is what is left after a elements
 pub to_end : (a : ℕ) (t : List ℕ) → take (length t - a) (drop a t) ≡ drop a t
@@ -36,51 +41,47 @@ unfolding first_byte
 first-here test s [] i h l e = absurd (omega arith)
 first-here test s (x ∷ xs) i h l e = first-at test s (x ∷ xs) i h (rw e)
 
-pub first_more : (test : ℕ → Bool) (s t : List ℕ) (i : ℕ) → first_byte test s ≡ i + first_byte test t → 0 < length t → test (get_or t 0 0) ≡ false
-    → first_byte test s ≡ i + 1 + first_byte test (take (length t - 1) (drop 1 t))
+-- ---- what the library's searches give
+
+first-position : (test : ℕ → Bool) (s : List ℕ) → first_byte test s ≡ position_or_len test s
 unfolding first_byte
-first_more test s [] i h l e = absurd (omega arith)
-first_more test s (x ∷ xs) i h l e = rw (to_end 1 (x ∷ xs)) (let z = rw e at h in omega arith)
+first-position test s =
+    is_position_or_len (first_byte test) test refl (λ x xs. let e : suc (first_byte test xs) ≡ 1 + first_byte test xs = omega arith in ap (cond (test x) 0) e) s
 
-pub first-none : (test : ℕ → Bool) (s t : List ℕ) (i : ℕ) → first_byte test s ≡ i + first_byte test t → length t ≤ 0 → Place s (first_byte test s) i
-unfolding first_byte
-first-none test s [] i h l = first-at test s [] i h refl
-first-none test s (x ∷ xs) i h l = absurd (omega arith)
+or_end : (n l : ℕ) → n ≤ l → unwrap_or (cond (ltb n l) (Some n) None) l ≡ n
+or_end n l h = go (ltb n l) refl
+  where
+    go : (b : Bool) → ltb n l ≡ b → unwrap_or (cond b (Some n) None) l ≡ n
+    go true e = refl
+    go false e = omega (arith, ltb-false n l e)
 
--- the test for a byte, by what the code asks
-module _ (s t : List ℕ) (i : ℕ) (l : 0 < length t) where
-  pub find-here : (b : ℕ) → get_or t 0 0 ≡ b → index_of b s ≡ i + index_of b t → Place s (index_of b s) i
-  find-here b e h = first-here (λ x. eqb x b) s t i h l (eq-eqb _ b e)
-
-  pub find-more : (b : ℕ) → (get_or t 0 0 ≡ b → ⊥) → index_of b s ≡ i + index_of b t → index_of b s ≡ i + 1 + index_of b (take (length t - 1) (drop 1 t))
-  find-more b e h = first_more (λ x. eqb x b) s t i h l (ne_eqb _ b e)
+-- the place of the first byte that passes a test, or the end
+pub first-found : (test : ℕ → Bool) (s : List ℕ) (r : Option ℕ) → r ≡ position test s → Place s (first_byte test s) (unwrap_or r (length s))
+first-found test s r e =
+    let w = first-within test s in
+    let f : unwrap_or (position test s) (length s) ≡ first_byte test s =
+    rw (← first-position test s) (or_end (first_byte test s) (length s) w) in
+    rw (e, f) (record { is = refl; within = w })
 
 -- ---- a start, and its first place
 
-module _ (A : Bool) where
-  pub starts-short : (q t : List ℕ) → 0 < length q → length t ≡ 0 → A ≡ starts_with q t → false ≡ A
-  unfolding starts_with
-  starts-short [] t h k v = absurd (omega arith)
-  starts-short (y ∷ q) [] h k v = sym v
-  starts-short (y ∷ q) (x ∷ t) h k v = absurd (omega arith)
+eqb-sym : (x y : ℕ) → eqb x y ≡ eqb y x
+eqb-sym x y = go (eqb y x) refl
+  where
+    go : (b : Bool) → eqb y x ≡ b → eqb x y ≡ b
+    go true e = eq-eqb x y (sym (eqb-true y x e))
+    go false e = ne_eqb x y (λ d. eqb-false y x e (sym d))
 
-  pub starts_other : (q t : List ℕ) → 0 < length q → (length t ≡ 0 → ⊥) → (get_or t 0 0 ≡ get_or q 0 0 → ⊥) → A ≡ starts_with q t → false ≡ A
-  unfolding starts_with
-  starts_other [] t h k d v = absurd (omega arith)
-  starts_other (y ∷ q) [] h k d v = absurd (k refl)
-  starts_other (y ∷ q) (x ∷ t) h k d v = sym (v ∙ rw (ne_eqb x y d))
-
-  pub starts_more : (q t : List ℕ) → 0 < length q → (length t ≡ 0 → ⊥) → get_or t 0 0 ≡ get_or q 0 0 → A ≡ starts_with q t
-      → A ≡ starts_with (take (length q - 1) (drop 1 q)) (take (length t - 1) (drop 1 t))
-  unfolding starts_with
-  starts_more [] t h k d v = absurd (omega arith)
-  starts_more (y ∷ q) [] h k d v = absurd (k refl)
-  starts_more (y ∷ q) (x ∷ t) h k d v = rw (to_end 1 (y ∷ q), to_end 1 (x ∷ t)) (v ∙ rw (eq-eqb x y d))
-
-  pub starts-end : (q t : List ℕ) → length q ≤ 0 → A ≡ starts_with q t → true ≡ A
-  unfolding starts_with
-  starts-end [] t h v = sym v
-  starts-end (y ∷ q) t h v = absurd (omega arith)
+-- what the library answers of a start is what is said here
+pub starts-told : (p s : List ℕ) → pointwise eqb p (take (length p) s) ≡ starts_with p s
+unfolding starts_with
+starts-told [] s = refl
+starts-told (y ∷ p) [] = refl
+starts-told (y ∷ p) (x ∷ s) = rw (starts-told p s, eqb-sym y x) (go (eqb x y) (starts_with p s))
+  where
+    go : (a b : Bool) → (a && b) ≡ cond a b false
+    go true b = refl
+    go false b = refl
 
 pub starts-length : (p l : List ℕ) → starts_with p l ≡ true → length p ≤ length l
 unfolding starts_with
@@ -137,31 +138,17 @@ module _ (p s : List ℕ) (i : ℕ) where
 
 -- ---- the same bytes
 
-module _ (A : Bool) where
-  pub same-short : (a b : List ℕ) → 0 < length a → length b ≡ 0 → A ≡ same_bytes a b → false ≡ A
-  unfolding same_bytes
-  same-short [] b h k v = absurd (omega arith)
-  same-short (x ∷ a) [] h k v = sym v
-  same-short (x ∷ a) (y ∷ b) h k v = absurd (omega arith)
-
-  pub same-differ : (a b : List ℕ) → 0 < length a → (length b ≡ 0 → ⊥) → (get_or a 0 0 ≡ get_or b 0 0 → ⊥) → A ≡ same_bytes a b → false ≡ A
-  unfolding same_bytes
-  same-differ [] b h k d v = absurd (omega arith)
-  same-differ (x ∷ a) [] h k d v = absurd (k refl)
-  same-differ (x ∷ a) (y ∷ b) h k d v = sym (v ∙ rw (ne_eqb x y d))
-
-  pub same_more : (a b : List ℕ) → 0 < length a → (length b ≡ 0 → ⊥) → get_or a 0 0 ≡ get_or b 0 0 → A ≡ same_bytes a b
-      → A ≡ same_bytes (take (length a - 1) (drop 1 a)) (take (length b - 1) (drop 1 b))
-  unfolding same_bytes
-  same_more [] b h k d v = absurd (omega arith)
-  same_more (x ∷ a) [] h k d v = absurd (k refl)
-  same_more (x ∷ a) (y ∷ b) h k d v = rw (to_end 1 (x ∷ a), to_end 1 (y ∷ b)) (v ∙ rw (eq-eqb x y d))
-
-  pub same_end : (a b : List ℕ) → length a ≤ 0 → A ≡ same_bytes a b → eqb (length b) 0 ≡ A
-  unfolding same_bytes
-  same_end [] [] h v = sym v
-  same_end [] (y ∷ b) h v = ne_eqb (suc (length b)) 0 (λ e. omega arith) ∙ sym v
-  same_end (x ∷ a) b h v = absurd (omega arith)
+-- what the library answers of two slices is what is said here
+pub same-told : (a b : List ℕ) → pointwise eqb a b ≡ same_bytes a b
+unfolding same_bytes
+same-told [] [] = refl
+same-told [] (y ∷ b) = refl
+same-told (x ∷ a) [] = refl
+same-told (x ∷ a) (y ∷ b) = rw (same-told a b) (go (eqb x y) (same_bytes a b))
+  where
+    go : (a b : Bool) → (a && b) ≡ cond a b false
+    go true b = refl
+    go false b = refl
 
 -- bytes that are the same are equal lists
 pub same-equal : (a b : List ℕ) → same_bytes a b ≡ true → a ≡ b

@@ -1,23 +1,19 @@
 -- Laws of places and parts: one for each way out, and what callers use of a part.
 -- Assumes nothing.
-use Prim.Native.Nat.{ℕ, ◌+◌, ◌-◌, ◌≤◌, ◌<◌}
+use Prim.Native.Nat.{ℕ, ◌+◌, ◌-◌, ◌≤◌}
 use native.Mathlib.Omega.{arith}
 use mathlib.Core.Path.{◌≡◌, refl, sym, ap, ◌∙◌}
 use mathlib.Core.Bool.{Bool, true, false, cond}
 use mathlib.Core.List.{List}
 use lib.ListN.{length, take, drop, length-drop}
 use lib.Dec.{eqb, ltb}
-use borrow.Author.Tests.{lt-ltb, le-ltb, ltb-false}
+use borrow.Author.Tests.{le-ltb, ltb-false}
 use Rattle.scanner.specs.part.Part.{Place, index_of}
 use Rattle.scanner.proofs.part.Laws.{to_end, first-within}
 use Rattle.scanner.specs.declared.reader.Part.{Part}
 use Rattle.scanner.specs.reader.Reading.{place_in, part_of, part_from}
 
 -- ---- a place
-
-pub place-past : (s : List ℕ) (at : ℕ) → length s < at → Place s (place_in s at) (length s)
-unfolding place_in
-place-past s at h = record { is = sym (rw (lt-ltb (length s) at h)); within = omega arith }
 
 pub place_here : (s : List ℕ) (at : ℕ) → at ≤ length s → Place s (place_in s at) at
 unfolding place_in

@@ -1,4 +1,4 @@
--- Laws of the spaces around a part: for each loop a turn and each way out.
+-- Laws of the spaces around a part: a turn of the loop from the end and each way out, and the trimmed part.
 -- Assumes nothing.
 use Prim.Native.Nat.{ℕ, zero, suc, ◌+◌, ◌-◌, ◌≤◌, ◌<◌}
 use native.Mathlib.Nat.{le_refl}
@@ -11,15 +11,12 @@ use lib.Seq.{take-suc, take_all, length-take-le}
 use lib.Dec.{eqb}
 use borrow.Author.Tests.{eq-eqb, ne_eqb}
 use Rattle.scanner.specs.part.Part.{Place, first_byte, leading, ending_after, ending, trimmed}
-use Rattle.scanner.proofs.part.Laws.{first-here, first_more}
+use Rattle.scanner.proofs.part.Laws.{first-here}
 
 -- the test for a space, by what the code asks
 module _ (s t : List ℕ) (i : ℕ) (l : 0 < length t) where
   pub space-end : (get_or t 0 0 ≡ 32 → ⊥) → leading s ≡ i + leading t → Place s (leading s) i
   space-end e h = first-here (λ x. not (eqb x 32)) s t i h l (ap not (ne_eqb _ 32 e))
-
-  pub space-more : get_or t 0 0 ≡ 32 → leading s ≡ i + leading t → leading s ≡ i + 1 + leading (take (length t - 1) (drop 1 t))
-  space-more e h = first_more (λ x. not (eqb x 32)) s t i h l (ap not (eq-eqb _ 32 e))
 
 -- ---- the last byte that is no space
 
@@ -52,7 +49,11 @@ module _ (s : List ℕ) (n : ℕ) (l : 0 < n) (g : n ≤ length s) where
   pub end-here : (get_or s (n - 1) 0 ≡ 32 → ⊥) → ending s ≡ ending (take n s) → Place s (ending s) n
   end-here e h = record { is = sym (h ∙ (rw (ne_eqb _ 32 e) at ending-last)); within = g }
 
-pub end_none : (s : List ℕ) (n : ℕ) → n ≤ 0 → ending s ≡ ending (take n s) → Place s (ending s) n
+  -- the place after the byte that a turn from the end looks at
+  pub end-turn : (get_or s (n - 1) 0 ≡ 32 → ⊥) → ending s ≡ ending (take n s) → Place s (ending s) (n - 1 + 1)
+  end-turn e h = let f : n - 1 + 1 ≡ n = omega arith in rw f (end-here e h)
+
+pub end_none : (s : List ℕ) (n : ℕ) → n ≤ 0 → ending s ≡ ending (take n s) → Place s (ending s) 0
 unfolding ending
 end_none s zero l h = record { is = sym h; within = omega arith }
 end_none s (suc n) l h = absurd (omega arith)

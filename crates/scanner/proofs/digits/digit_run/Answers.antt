@@ -1,17 +1,11 @@
-use borrow.Author.Rules.{rules}
-use native.Mathlib.Omega.{arith}
-use Rattle.scanner.proofs.part.Laws.{first-none}
-use Rattle.scanner.proofs.digits.Laws.{digit-end, digit-more}
+use Rattle.std.proofs.Common.{rules, tests, not}
+use Rattle.std.proofs.lemmas.Iterator.{YieldsList-from_slice}
+use Rattle.std.proofs.lemmas.Iterator.Search.{position_from_yields_List}
+use Rattle.scanner.specs.digits.Digit.{is_digit}
+use Rattle.scanner.proofs.part.Laws.{first-found}
 use Rattle.scanner.proofs.digits.digit_run.Goals as goal
 
-pub loop-t-init : goal.loop-t-init
-loop-t-init c = (omega arith, omega arith)
-
-pub returns-then-not-is_digit : goal.returns-then-not-is_digit
-returns-then-not-is_digit c = search digit-end
-
-pub loop-t-preserved : goal.loop-t-preserved
-loop-t-preserved c = (search digit-more, search rules)
-
 pub returns : goal.returns
-returns c = search first-none
+returns c =
+    let found = position_from_yields_List (λ x. not (is_digit x)) _ _ c.position.result c.position.ensures.ran (YieldsList-from_slice c.args.s.now c.iter.ensures.rest) (λ x b q k. search (rules, tests)) in
+    rw c.unwrap_or.ensures (first-found (λ x. not (is_digit x)) c.args.s.now c.position.result found)

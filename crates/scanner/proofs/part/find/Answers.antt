@@ -1,16 +1,10 @@
-use borrow.Author.Rules.{rules}
-use native.Mathlib.Omega.{arith}
-use Rattle.scanner.proofs.part.Laws.{find-here, find-more, first-none}
+use Rattle.std.proofs.Common.{rules, tests, eqb}
+use Rattle.std.proofs.lemmas.Iterator.{YieldsList-from_slice}
+use Rattle.std.proofs.lemmas.Iterator.Search.{position_from_yields_List}
+use Rattle.scanner.proofs.part.Laws.{first-found}
 use Rattle.scanner.proofs.part.find.Goals as goal
 
-pub loop-t-init : goal.loop-t-init
-loop-t-init c = (omega arith, omega arith)
-
-pub returns-then-t-b : goal.returns-then-t-b
-returns-then-t-b c = search find-here
-
-pub loop-t-preserved : goal.loop-t-preserved
-loop-t-preserved c = (search find-more, search rules)
-
 pub returns : goal.returns
-returns c = search first-none
+returns c =
+    let found = position_from_yields_List (λ x. eqb x c.args.b) _ _ c.position.result c.position.ensures.ran (YieldsList-from_slice c.args.s.now c.iter.ensures.rest) (λ x b q k. search (rules, tests)) in
+    rw c.unwrap_or.ensures (first-found (λ x. eqb x c.args.b) c.args.s.now c.position.result found)

@@ -1,8 +1,8 @@
-use Rattle.scanner.proofs.reader.Laws.{place-past, place_here}
+use Rattle.std.proofs.Common.{arith}
+use Rattle.std.proofs.lemmas.Grind.{common_steps}
+use Rattle.scanner.specs.reader.Reading.{place_in}
 use Rattle.scanner.proofs.reader.place_in.Goals as goal
 
-pub returns-then-s-at : goal.returns-then-s-at
-returns-then-s-at c = search place-past
-
 pub returns : goal.returns
-returns c = search place_here
+unfolding place_in
+returns c = grind (arith, common_steps)

@@ -1,19 +1,17 @@
-use borrow.Author.Rules.{rules}
 use mathlib.Core.Path.{sym, ap}
 use lib.Seq.{take-length}
-use native.Mathlib.Omega.{arith}
-use Rattle.scanner.proofs.spaces.Laws.{end-space, end-here, end_none}
 use Rattle.scanner.specs.part.Part.{ending}
+use Rattle.scanner.proofs.spaces.Laws.{end-space, end-turn, end_none}
 use Rattle.scanner.proofs.spaces.text_end.Goals as goal
 
-pub loop-n-init : goal.loop-n-init
-loop-n-init c = (ap ending (sym (take-length _)), omega arith)
+pub loop-i-init : goal.loop-i-init
+loop-i-init c = ap ending (sym (take-length _))
 
-pub returns-then-s-n-ne32 : goal.returns-then-s-n-ne32
-returns-then-s-n-ne32 c = search end-here
+pub returns-then-s-i-ne32 : goal.returns-then-s-i-ne32
+returns-then-s-i-ne32 c = search end-turn
 
-pub loop-n-preserved : goal.loop-n-preserved
-loop-n-preserved c = (search end-space, search rules)
+pub loop-i-preserved : goal.loop-i-preserved
+loop-i-preserved c = search end-space
 
 pub returns : goal.returns
 returns c = search end_none
