@@ -56,12 +56,12 @@ or_end n l h = go (ltb n l) refl
     go false e = omega (arith, ltb-false n l e)
 
 -- the place of the first byte that passes a test, or the end
-pub first-found : (test : ℕ → Bool) (s : List ℕ) (r : Option ℕ) → r ≡ position test s → Place s (first_byte test s) (unwrap_or r (length s))
-first-found test s r e =
+pub first-found : (test : ℕ → Bool) (s : List ℕ) (r : Option ℕ) (n : ℕ) → r ≡ position test s → n ≡ unwrap_or r (length s) → Place s (first_byte test s) n
+first-found test s r n e f =
     let w = first-within test s in
-    let f : unwrap_or (position test s) (length s) ≡ first_byte test s =
+    let o : unwrap_or (position test s) (length s) ≡ first_byte test s =
     rw (← first-position test s) (or_end (first_byte test s) (length s) w) in
-    rw (e, f) (record { is = refl; within = w })
+    rw (f, e, o) (record { is = refl; within = w })
 
 -- ---- a start, and its first place
 
@@ -72,8 +72,7 @@ eqb-sym x y = go (eqb y x) refl
     go true e = eq-eqb x y (sym (eqb-true y x e))
     go false e = ne_eqb x y (λ d. eqb-false y x e (sym d))
 
--- what the library answers of a start is what is said here
-pub starts-told : (p s : List ℕ) → pointwise eqb p (take (length p) s) ≡ starts_with p s
+starts-told : (p s : List ℕ) → pointwise eqb p (take (length p) s) ≡ starts_with p s
 unfolding starts_with
 starts-told [] s = refl
 starts-told (y ∷ p) [] = refl
@@ -82,6 +81,10 @@ starts-told (y ∷ p) (x ∷ s) = rw (starts-told p s, eqb-sym y x) (go (eqb x y
     go : (a b : Bool) → (a && b) ≡ cond a b false
     go true b = refl
     go false b = refl
+
+-- what the library answers of a start is what is said here
+pub starts-answer : (p s : List ℕ) (r : Bool) → r ≡ pointwise eqb p (take (length p) s) → r ≡ starts_with p s
+starts-answer p s r e = e ∙ starts-told p s
 
 pub starts-length : (p l : List ℕ) → starts_with p l ≡ true → length p ≤ length l
 unfolding starts_with
@@ -138,8 +141,7 @@ module _ (p s : List ℕ) (i : ℕ) where
 
 -- ---- the same bytes
 
--- what the library answers of two slices is what is said here
-pub same-told : (a b : List ℕ) → pointwise eqb a b ≡ same_bytes a b
+same-told : (a b : List ℕ) → pointwise eqb a b ≡ same_bytes a b
 unfolding same_bytes
 same-told [] [] = refl
 same-told [] (y ∷ b) = refl
@@ -149,6 +151,10 @@ same-told (x ∷ a) (y ∷ b) = rw (same-told a b) (go (eqb x y) (same_bytes a b
     go : (a b : Bool) → (a && b) ≡ cond a b false
     go true b = refl
     go false b = refl
+
+-- what the library answers of two slices is what is said here
+pub same-answer : (a b : List ℕ) (r : Bool) → r ≡ pointwise eqb a b → r ≡ same_bytes a b
+same-answer a b r e = e ∙ same-told a b
 
 -- bytes that are the same are equal lists
 pub same-equal : (a b : List ℕ) → same_bytes a b ≡ true → a ≡ b

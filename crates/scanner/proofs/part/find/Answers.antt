@@ -7,4 +7,4 @@ use Rattle.scanner.proofs.part.find.Goals as goal
 pub returns : goal.returns
 returns c =
     let found = position_from_yields_List (λ x. eqb x c.args.b) _ _ c.position.result c.position.ensures.ran (YieldsList-from_slice c.args.s.now c.iter.ensures.rest) (λ x b q k. search (rules, tests)) in
-    rw c.unwrap_or.ensures (first-found (λ x. eqb x c.args.b) c.args.s.now c.position.result found)
+    search first-found

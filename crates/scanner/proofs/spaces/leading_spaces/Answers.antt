@@ -7,4 +7,4 @@ use Rattle.scanner.proofs.spaces.leading_spaces.Goals as goal
 pub returns : goal.returns
 returns c =
     let found = position_from_yields_List (λ x. not (eqb x 32)) _ _ c.position.result c.position.ensures.ran (YieldsList-from_slice c.args.s.now c.iter.ensures.rest) (λ x b q k. search (rules, tests)) in
-    rw c.unwrap_or.ensures (first-found (λ x. not (eqb x 32)) c.args.s.now c.position.result found)
+    search first-found
