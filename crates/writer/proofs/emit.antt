@@ -1,4 +1,3 @@
-pub mod Copied
 pub mod Over
 pub use Rattle.writer.proofs.store.Laws
 pub mod ReadsBack

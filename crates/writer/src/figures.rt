@@ -3,17 +3,17 @@
 ghost use Rattle.std.specs.Prelude.{◌≤◌, ◌<◌};
 ghost use Rattle.writer.specs.store.Text.{Written, decimal};
 
-use super::store::put_byte;
+use super::store::put;
 
 // The decimal digits of n, most significant first, with no leading zero, one by one.
-fn put_many(out: &mut [u8], at: usize, n: u32) -> usize
+pub fn put_many(out: &mut [u8], at: usize, n: u64) -> usize
     ensures { Written out.old at (decimal n) out.new result }
 {
     if n < 10 {
-        put_byte(out, at, (48 + n) as u8)
+        put(out, at, (48 + n) as u8)
     } else {
         let p = put_many(out, at, n / 10);
-        put_byte(out, p, (48 + n % 10) as u8)
+        put(out, p, (48 + n % 10) as u8)
     }
 }
 
@@ -23,8 +23,8 @@ fn put_two(out: &mut [u8], at: usize, n: u32) -> usize
     requires n_bound { n < 100 }
     ensures { Written out.old at (decimal n) out.new result }
 {
-    let p = put_byte(out, at, (48 + n / 10) as u8);
-    put_byte(out, p, (48 + n % 10) as u8)
+    let p = put(out, at, (48 + n / 10) as u8);
+    put(out, p, (48 + n % 10) as u8)
 }
 
 // A number of three digits.
@@ -34,7 +34,7 @@ fn put_three(out: &mut [u8], at: usize, n: u32) -> usize
     ensures { Written out.old at (decimal n) out.new result }
 {
     let p = put_two(out, at, n / 10);
-    put_byte(out, p, (48 + n % 10) as u8)
+    put(out, p, (48 + n % 10) as u8)
 }
 
 // The decimal digits of n. Most numbers of a line have three at most, which need no calls one within the other.
@@ -42,7 +42,7 @@ pub fn put_number(out: &mut [u8], at: usize, n: u32) -> usize
     ensures { Written out.old at (decimal n) out.new result }
 {
     if n < 10 {
-        return put_byte(out, at, (48 + n) as u8);
+        return put(out, at, (48 + n) as u8);
     }
     if n < 100 {
         return put_two(out, at, n);
@@ -50,5 +50,5 @@ pub fn put_number(out: &mut [u8], at: usize, n: u32) -> usize
     if n < 1000 {
         return put_three(out, at, n);
     }
-    put_many(out, at, n)
+    put_many(out, at, n as u64)
 }

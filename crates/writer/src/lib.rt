@@ -3,14 +3,12 @@
 // afterwards. Nothing is refused; only `index_runs` asks for numbers that stay below 2^16, and its `fill` for room.
 #![tactic(auto)]
 
-mod copying;
 pub mod emit;
 mod figures;
 pub mod index_runs;
 pub mod store;
 
-pub use copying::copy_indices;
-pub use emit::put_text;
-pub use figures::put_number;
+pub use emit::{copy_indices, put_all, put_text};
+pub use figures::{put_many, put_number};
 pub use index_runs::{FIRST_ROOM, fill, in_room, put_ramp, to_index};
-pub use store::{put_byte, put_index};
+pub use store::{put, put_byte, put_index};

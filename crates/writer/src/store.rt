@@ -1,38 +1,30 @@
 // Writing one element into a lent slice at a place that never runs past its end: what falls past the end is dropped and the place counts on,
 // so the same functions measure on an empty part and write on the real one. Each is defined for every slice, place and element; the place
 // stays at the largest number that it can hold. What a slice holds afterwards is said by `Written` of specs/store/Text.antt.
-ghost use Rattle.std.specs.Prelude.{◌≡◌, [], ◌∷◌};
-ghost use Rattle.writer.specs.store.Text.{Written, after};
+ghost use Rattle.std.specs.Prelude.{[], ◌∷◌};
+ghost use Rattle.writer.specs.store.Text.{Written};
 
-// The place after one more element.
-fn advance(at: usize) -> usize
-    ensures { result ≡ after at 1 }
+// One element.
+pub fn put<T: Copy>(out: &mut [T], at: usize, x: T) -> usize
+    ensures { Written out.old at (x ∷ []) out.new result }
 {
-    if at < 18446744073709551615 {
-        at + 1
-    } else {
-        at
+    if at < out.len() {
+        out[at] = x;
+        return at + 1;
     }
+    at.saturating_add(1)
 }
 
 // One byte.
 pub fn put_byte(out: &mut [u8], at: usize, b: u8) -> usize
     ensures { Written out.old at (b ∷ []) out.new result }
 {
-    if at < out.len() {
-        out[at] = b;
-        return at + 1;
-    }
-    advance(at)
+    put(out, at, b)
 }
 
 // One atom number.
 pub fn put_index(out: &mut [u16], at: usize, n: u16) -> usize
     ensures { Written out.old at (n ∷ []) out.new result }
 {
-    if at < out.len() {
-        out[at] = n;
-        return at + 1;
-    }
-    advance(at)
+    put(out, at, n)
 }

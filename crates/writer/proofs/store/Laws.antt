@@ -1,4 +1,4 @@
--- Laws of the writers: texts written one after the other, and a number's digits.
+-- Laws of the writers: lists written one after the other, and a number's digits.
 -- Assumes nothing.
 use Prim.Native.Nat.{ℕ, zero, suc, ◌+◌, ◌/◌, ◌%◌, ◌^◌, ◌≤◌, ◌<◌}
 use native.Mathlib.Nat.{not-suc-le-zero, add-zero, add-suc, suc-add, min-eq_left}
@@ -8,39 +8,42 @@ use native.Mathlib.Omega.{arith}
 use mathlib.Core.Path.{◌≡◌, refl, sym, ap, ◌∙◌}
 use mathlib.Core.List.{List, [], ◌∷◌, ◌++◌}
 use lib.ListN.{length, set, take, get_or, length-append}
-use lib.Seq.{take-suc, take_all, sets, length-sets, set_out}
+use lib.Seq.{take-suc, take_all, sets, length-sets, set_out, drop-drop}
+use Rattle.std.proofs.Common.{append_assoc}
+use borrow.Rule.Slice.PartMut.{put_mid}
+use Rattle.std.proofs.lemmas.List.Edits.{sets-eq}
 use borrow.Author.Tests.{lt-ltb, le-ltb}
 use Rattle.writer.specs.store.Text.{Written, after, digits, decimal}
 
 -- past the end nothing is stored
-sets-out : (ts xs : List ℕ) (p : ℕ) → length xs ≤ p → sets xs p ts ≡ xs
+sets-out : {A : Type 0} (ts xs : List A) (p : ℕ) → length xs ≤ p → sets xs p ts ≡ xs
 sets-out [] xs p h = refl
 sets-out (t ∷ ts) xs p h = rw (set_out xs p t h) (sets-out ts xs (suc p) (omega arith))
 
-sets-after : (xs ts : List ℕ) (p n : ℕ) → length xs < 2 ^ 64 → sets xs (after p n) ts ≡ sets xs (p + n) ts
-sets-after xs ts p n h = go (dec_le (p + n) 18446744073709551615)
+sets-after : {A : Type 0} (xs ts : List A) (p n : ℕ) → length xs < 2 ^ 64 → sets xs (after p n) ts ≡ sets xs (p + n) ts
+sets-after {A} xs ts p n h = go (dec_le (p + n) 18446744073709551615)
   where
     go : Dec (p + n ≤ 18446744073709551615) → sets xs (after p n) ts ≡ sets xs (p + n) ts
     go (yes l) = ap (λ (k : ℕ). sets xs k ts) (min-eq_left l)
     go (no l) = sets-out ts xs (after p n) (omega arith) ∙ sym (sets-out ts xs (p + n) (omega arith))
 
 -- one list stored after the other is the two joined
-pub sets-append : (a b xs : List ℕ) (at : ℕ) → sets xs at (a ++ b) ≡ sets (sets xs at a) (at + length a) b
+pub sets-append : {A : Type 0} (a b xs : List A) (at : ℕ) → sets xs at (a ++ b) ≡ sets (sets xs at a) (at + length a) b
 sets-append [] b xs at = rw add-zero
 sets-append (t ∷ a) b xs at = rw (add-suc, ← suc-add at (length a)) (sets-append a b (set xs at t) (suc at))
 
 -- one element past the end
-pub written-past : (xs : List ℕ) (at b r : ℕ) → length xs ≤ at → r ≡ after at 1 → Written xs at (b ∷ []) xs r
+pub written-past : {A : Type 0} (xs : List A) (at : ℕ) (b : A) (r : ℕ) → length xs ≤ at → r ≡ after at 1 → Written xs at (b ∷ []) xs r
 written-past xs at b r h e = record { elements = sym (set_out xs at b h); next = e }
 
 -- nothing written
-pub written-nil : (xs : List ℕ) (at : ℕ) → at < 2 ^ 64 → Written xs at [] xs at
+pub written-nil : {A : Type 0} (xs : List A) (at : ℕ) → at < 2 ^ 64 → Written xs at [] xs at
 written-nil xs at h = record { elements = refl; next = omega arith }
 
--- one text after the other is the two joined
-pub written-append : {xs ys zs a b : List ℕ} {at p q : ℕ} → length xs < 2 ^ 64
+-- one list after the other is the two joined
+pub written-append : {A : Type 0} {xs ys zs a b : List A} {at p q : ℕ} → length xs < 2 ^ 64
     → Written xs at a ys p → Written ys p b zs q → Written xs at (a ++ b) zs q
-written-append {xs} {ys} {zs} {a} {b} {at} {p} {q} h v w = record { elements = bs; next = omega (arith, v.next, w.next, length-append a b) }
+written-append {A} {xs} {ys} {zs} {a} {b} {at} {p} {q} h v w = record { elements = bs; next = omega (arith, v.next, w.next, length-append a b) }
   where
     n : length (sets xs at a) < 2 ^ 64
     n = rw length-sets h
@@ -48,16 +51,20 @@ written-append {xs} {ys} {zs} {a} {b} {at} {p} {q} h v w = record { elements = b
     bs : zs ≡ sets xs at (a ++ b)
     bs = w.elements ∙ (rw (v.elements, v.next, sets-after (sets xs at a) b at (length a) n) (sym (sets-append a b xs at)))
 
-pub written-length : {xs ys a : List ℕ} {at p : ℕ} → Written xs at a ys p → length ys ≡ length xs
-written-length {xs} {a = a} {at} w = ap length w.elements ∙ length-sets xs at a
+pub written-length : {A : Type 0} {xs ys a : List A} {at p : ℕ} → Written xs at a ys p → length ys ≡ length xs
+written-length {xs = xs} {a = a} {at} w = ap length w.elements ∙ length-sets xs at a
 
--- a turn of a loop that writes a text byte by byte
-pub written_byte : {xs ys zs : List ℕ} {at p q : ℕ} (t : List ℕ) (i : ℕ) → length xs < 2 ^ 64 → i < length t
-    → Written xs at (take i t) ys p → Written ys p (get_or t i 0 ∷ []) zs q → Written xs at (take (i + 1) t) zs q
-written_byte t i g h v w = rw (add-one, take-suc t i 0 h) (written-append g v w)
+-- a turn of a loop that writes a list one by one
+pub written_one : {A : Type 0} {xs ys zs : List A} {at p q : ℕ} (t : List A) (i : ℕ) (x : A) → length xs < 2 ^ 64 → i < length t → x ≡ get_or t i x
+    → Written xs at (take i t) ys p → Written ys p (x ∷ []) zs q → Written xs at (take (i + 1) t) zs q
+written_one t i x g h e v w = rw (add-one, take-suc t i x h, ← e) (written-append g v w)
 
-pub written-whole : {xs ys : List ℕ} {at p : ℕ} (t : List ℕ) (i : ℕ) → i ≤ length t → length t ≤ i → Written xs at (take i t) ys p → Written xs at t ys p
+pub written-whole : {A : Type 0} {xs ys : List A} {at p : ℕ} (t : List A) (i : ℕ) → i ≤ length t → length t ≤ i → Written xs at (take i t) ys p → Written xs at t ys p
 written-whole t i h k w = rw (take_all i t k) at w
+
+-- a list stored at once
+pub written-part : {A : Type 0} (xs ts : List A) (at : ℕ) → length xs < 2 ^ 64 → at + length ts ≤ length xs → Written xs at ts (put_mid at (length ts) xs ts) (at + length ts)
+written-part xs ts at g h = record { elements = rw (drop-drop (length ts) at xs, ← append_assoc) (sym (sets-eq ts xs at h)); next = omega arith }
 
 -- the fuel does not matter, once there is enough
 digits-enough : (k j n : ℕ) → n < k → n < j → digits k n ≡ digits j n
@@ -96,7 +103,7 @@ pub written-three : {xs ys zs : List ℕ} {at p q : ℕ} (n : ℕ) → length xs
 written-three n g h v w = written-digit n g (omega arith) v w
 
 -- an empty slice stays empty: it measures
-pub written-empty : {ys t : List ℕ} {at p : ℕ} → Written [] at t ys p → ys ≡ []
+pub written-empty : {A : Type 0} {ys t : List A} {at p : ℕ} → Written [] at t ys p → ys ≡ []
 written-empty {t = t} {at} w = w.elements ∙ sets-out t [] at (omega arith)
 
 -- a worked example, computed

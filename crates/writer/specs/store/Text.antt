@@ -8,7 +8,7 @@ after at n = min (at + n) 18446744073709551615
 
 -- ys is xs with the elements of ts stored one by one from the place `at` on, those past the end dropped, and r is the place after them.
 -- `sets` is the library's: `sets xs at (t ∷ ts)` is `sets (set xs at t) (suc at) ts`, and `set` past the end changes nothing.
-pub record Written (xs : List ℕ) (at : ℕ) (ts : List ℕ) (ys : List ℕ) (r : ℕ) : Type 0 where
+pub record Written {A : Type 0} (xs : List A) (at : ℕ) (ts : List A) (ys : List A) (r : ℕ) : Type 0 where
   pub elements : ys ≡ sets xs at ts
   pub next : r ≡ after at (length ts)
 

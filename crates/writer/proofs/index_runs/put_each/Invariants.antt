@@ -1,10 +1,6 @@
-use Prim.Native.Nat.{◌-◌, ◌≤◌}
 use Rattle.writer.specs.emit.Text.{Written}
 use Rattle.writer.specs.index_runs.Index.{indices, ups}
 use Rattle.writer.proofs.index_runs.put_each.Given as goal
 
 abbrev pub invariant-loop-i : goal.invariant-loop-i
-invariant-loop-i l = (l.i ≤ l.n) × Written l.initial.index l.at (indices l.first (ups l.next l.i)) l.index l.p
-
-abbrev pub decreases-loop-i : goal.decreases-loop-i
-decreases-loop-i l = l.n - l.i
+invariant-loop-i l = Written l.initial.index l.at (indices l.first (ups l.next l.i)) l.index l.p

@@ -1,5 +1,0 @@
-use Rattle.writer.proofs.store.Laws.{written-past}
-use Rattle.writer.proofs.store.put_index.Goals as goal
-
-pub returns : goal.returns
-returns c = search written-past
