@@ -2,12 +2,12 @@
 // longest line with such chains takes; where they do not, the line is measured. Whether a slice is too short is said by
 // specs/answer/Answer.antt.
 ghost use Rattle.std.specs.Prelude.{length};
-ghost use Rattle.request_chains.specs.chain_numbers.Shapes.{chains_kept};
+ghost use Rattle.request_chains.specs.chain_shapes.Shapes.{chains_kept};
 ghost use Rattle.answers.specs.room.Ready.{Readied, ShortIs, AmpleIf};
 
+use drawn_chain::{MAX_CHAINS, Shape};
 use class_lines::Line;
-use placement::NOTE_ROOM;
-use request_chains::SHAPE_ROOM;
+
 use template_rules::Class;
 
 // Room for the indices of four chains.
@@ -24,7 +24,7 @@ fn is_ample(
     tail: &[u8],
     tail_atoms: u16,
     count: usize,
-    shapes: &[u64; SHAPE_ROOM],
+    shapes: &[Shape; MAX_CHAINS],
 ) -> bool
     ensures { AmpleIf result tail.now tail_atoms count shapes.now (length line.now) (length index.now) }
 {
@@ -48,7 +48,7 @@ fn is_measured_short(
     tail: &[u8],
     tail_atoms: u16,
     count: usize,
-    shapes: &[u64; SHAPE_ROOM],
+    shapes: &[Shape; MAX_CHAINS],
     lists: &[u64],
 ) -> bool
     requires { Readied class tail.now tail_atoms (chains_kept count shapes.now lists.now) }
@@ -57,7 +57,7 @@ fn is_measured_short(
     let mut text = [0u8; 1];
     let mut numbers = [0u16; INDEX_ROOM];
     let mut rows = [0u8; ROW_ROOM];
-    let mut notes = [0u32; NOTE_ROOM];
+    let mut notes = [placement::nowhere(); MAX_CHAINS];
     let built = class_lines::build_line(
         &mut text,
         &mut numbers,
@@ -86,7 +86,7 @@ pub fn is_short(
     tail: &[u8],
     tail_atoms: u16,
     count: usize,
-    shapes: &[u64; SHAPE_ROOM],
+    shapes: &[Shape; MAX_CHAINS],
     lists: &[u64],
 ) -> bool
     requires { Readied class tail.now tail_atoms (chains_kept count shapes.now lists.now) }

@@ -1,13 +1,13 @@
 // The listed chains of a line, by rising sn and not by the order of the text. They are made in one pass over the places of the chains, which
 // `rising` has put in order. Of a chain only what is noted of it is looked at.
-ghost use Rattle.std.specs.Prelude.{◌≡◌, [], ◌∷◌, ◌<◌, get_or};
-ghost use Rattle.placement.specs.chain_notes.Notes.{nowhere, chains_in};
+ghost use Rattle.std.specs.Prelude.{◌≡◌, [], ◌∷◌, ◌<◌, slice_index_or};
+ghost use Rattle.placement.specs.chain_notes.Notes.{nowhere};
 ghost use Rattle.chain_lists.specs.rising.Order.{places_in};
 ghost use Rattle.chain_lists.specs.listing.Lists.{list_in, lists_at, ListsHeld};
 
 use super::rising::Rising;
 use drawn_chain::MAX_CHAINS;
-use placement::NOTE_ROOM;
+use placement::Placed;
 
 // A chain: its sn, and how many indices it has.
 #[derive(Clone, Copy)]
@@ -16,6 +16,9 @@ pub struct Listed {
     pub count: u16,
 }
 
+// What stands past the last.
+const NO_LIST: Listed = Listed { sn: 0, count: 0 };
+
 // Listed chains with their count; what it does not count is zero.
 #[derive(Clone, Copy)]
 pub struct Lists {
@@ -23,72 +26,60 @@ pub struct Lists {
     pub items: [Listed; MAX_CHAINS],
 }
 
-// The list of the chain at a place.
-fn one_list(notes: &[u32; NOTE_ROOM], k: usize) -> Lists
-    ensures { ListsHeld (lists_at (chains_in notes.now) (k ∷ [])) result }
-{
-    let none = Listed { sn: 0, count: 0 };
-    if k < MAX_CHAINS {
-        let p = placement::placed_at(notes, k);
-        let list = Listed {
-            sn: p.sn as u16,
-            count: p.count,
-        };
-        let items = [list, none, none, none];
-        return Lists { count: 1, items };
-    }
-    let items = [none; MAX_CHAINS];
-    Lists { count: 0, items }
-}
-
 // What is listed of the chain at a place.
-fn list_at(notes: &[u32; NOTE_ROOM], k: usize) -> Listed
-    ensures { result ≡ list_in (get_or (chains_in notes.now) k nowhere) }
+fn list_at(notes: &[Placed; MAX_CHAINS], k: usize) -> Listed
+    requires { k < 4 }
+    ensures { result ≡ list_in (slice_index_or notes.now k nowhere) }
 {
-    let p = placement::placed_at(notes, k);
+    let p = &notes[k];
     Listed {
         sn: p.sn as u16,
         count: p.count,
     }
 }
 
+// The list of the chain at a place.
+fn one_list(notes: &[Placed; MAX_CHAINS], k: usize) -> Lists
+    ensures { ListsHeld (lists_at notes.now (k ∷ [])) result }
+{
+    if k < MAX_CHAINS {
+        let items = [list_at(notes, k), NO_LIST, NO_LIST, NO_LIST];
+        return Lists { count: 1, items };
+    }
+    Lists {
+        count: 0,
+        items: [NO_LIST; MAX_CHAINS],
+    }
+}
+
 // The lists of the chains at two places.
-fn two_lists(notes: &[u32; NOTE_ROOM], a: usize, b: usize) -> Lists
+fn two_lists(notes: &[Placed; MAX_CHAINS], a: usize, b: usize) -> Lists
     requires a_bound { a < 4 }
     requires b_bound { b < 4 }
-    ensures { ListsHeld (lists_at (chains_in notes.now) (a ∷ b ∷ [])) result }
+    ensures { ListsHeld (lists_at notes.now (a ∷ b ∷ [])) result }
 {
     let first = list_at(notes, a);
     let second = list_at(notes, b);
-    let none = Listed { sn: 0, count: 0 };
-    let items = [first, second, none, none];
-    Lists { count: 2, items }
+    Lists {
+        count: 2,
+        items: [first, second, NO_LIST, NO_LIST],
+    }
 }
 
 // The lists of the chains at some places, one after the other.
-fn some_lists(notes: &[u32; NOTE_ROOM], order: Rising) -> Lists
-    ensures { ListsHeld (lists_at (chains_in notes.now) (places_in order)) result }
+fn some_lists(notes: &[Placed; MAX_CHAINS], order: Rising) -> Lists
+    ensures { ListsHeld (lists_at notes.now (places_in order)) result }
 {
     let n = request_chains::in_places(order.count);
-    let items = order.items;
-    let none = Listed { sn: 0, count: 0 };
-    let mut lists = [none; MAX_CHAINS];
+    let places = &order.items[..n];
+    let mut lists = [NO_LIST; MAX_CHAINS];
     let mut count = 0;
-    let mut i = 0;
-    while i < n {
-        let k = items[i] as usize;
+    for place in places {
+        let k = *place as usize;
         if k < MAX_CHAINS {
-            let p = placement::placed_at(notes, k);
-            let list = Listed {
-                sn: p.sn as u16,
-                count: p.count,
-            };
-            lists[count] = list;
+            lists[count] = list_at(notes, k);
             count += 1;
-            i += 1;
-            continue;
         }
-        i += 1;
     }
     Lists {
         count,
@@ -97,8 +88,8 @@ fn some_lists(notes: &[u32; NOTE_ROOM], order: Rising) -> Lists
 }
 
 // The lists of the chains at some places. Most lines have one chain or two, for which there is no loop.
-pub fn lists_by_sn(notes: &[u32; NOTE_ROOM], order: Rising) -> Lists
-    ensures { ListsHeld (lists_at (chains_in notes.now) (places_in order)) result }
+pub fn lists_by_sn(notes: &[Placed; MAX_CHAINS], order: Rising) -> Lists
+    ensures { ListsHeld (lists_at notes.now (places_in order)) result }
 {
     let n = request_chains::in_places(order.count);
     let items = order.items;

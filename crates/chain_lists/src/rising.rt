@@ -1,13 +1,15 @@
 // The chains of a line by rising sn. They stand in the line in the order of the text; here they are put in order, once for all that goes
 // by sn, as their places in that text. In nearly every class the text has them by falling sn, so that the last goes first; only CL has them
 // otherwise.
-ghost use Rattle.std.specs.Prelude.{◌≡◌, [], ◌∷◌, ◌≤◌, take};
-ghost use Rattle.placement.specs.chain_notes.Notes.{chains_in};
+ghost use Rattle.std.specs.Prelude.{◌≡◌, [], ◌∷◌, ◌≤◌, length, take};
 ghost use Rattle.chain_lists.specs.rising.Four.{Added};
 ghost use Rattle.chain_lists.specs.rising.Order.{sns_of, places_of, Falls, from_last, InOrder};
 
 use drawn_chain::MAX_CHAINS;
-use placement::NOTE_ROOM;
+use placement::Placed;
+
+// Every sn of a chain in its place is smaller.
+const FIRST_PAST: u8 = 5;
 
 // Places of chains with their count; small numbers, since they are handed on with each line.
 #[derive(Clone, Copy)]
@@ -18,24 +20,19 @@ pub struct Rising {
 
 // ---- where the sns fall
 
-// Whether the sns of the first n chains fall, from 4 at most to 1 at least: from the last chain on they rise.
-fn falling(notes: &[u32; NOTE_ROOM], n: usize) -> bool
-    requires { n ≤ 4 }
-    ensures { Falls (take n (chains_in notes.now)) result }
+// Whether the sns of some chains fall, from 4 at most to 1 at least: from the last chain on they rise.
+fn falling(chains: &[Placed]) -> bool
+    ensures { Falls chains.now result }
 {
-    let mut last = 0;
-    let mut i = n;
-    while 0 < i {
-        i -= 1;
-        let p = placement::placed_at(notes, i);
-        let sn = p.sn;
-        if sn <= last {
+    let mut last = FIRST_PAST;
+    for p in chains {
+        if p.sn == 0 {
             return false;
         }
-        last = sn;
-    }
-    if 4 < last {
-        return false;
+        if last <= p.sn {
+            return false;
+        }
+        last = p.sn;
     }
     true
 }
@@ -45,38 +42,16 @@ fn backwards(n: usize) -> Rising
     requires { n ≤ 4 }
     ensures { result ≡ from_last n }
 {
-    if n == 2 {
-        let items = [1u8, 0, 0, 0];
-        return Rising { count: n, items };
-    }
-    if n == 3 {
-        let items = [2u8, 1, 0, 0];
-        return Rising { count: n, items };
-    }
-    if n == 4 {
-        let items = [3u8, 2, 1, 0];
-        return Rising { count: n, items };
-    }
-    let items = [0u8; MAX_CHAINS];
+    let items = match n {
+        2 => [1, 0, 0, 0],
+        3 => [2, 1, 0, 0],
+        4 => [3, 2, 1, 0],
+        _ => [0, 0, 0, 0],
+    };
     Rising { count: n, items }
 }
 
 // ---- where they do not
-
-// The sns of the first n chains, which are gone through four times.
-fn sns_of(notes: &[u32; NOTE_ROOM], n: usize) -> [u8; MAX_CHAINS]
-    requires { n ≤ 4 }
-    ensures { take n result ≡ sns_of (take n (chains_in notes.now)) }
-{
-    let mut sns = [0u8; MAX_CHAINS];
-    let mut i = n;
-    while 0 < i {
-        i -= 1;
-        let p = placement::placed_at(notes, i);
-        sns[i] = p.sn;
-    }
-    sns
-}
 
 // One place more, while there is room.
 fn put(places: &mut [u8; MAX_CHAINS], at: usize, place: u8) -> usize
@@ -89,53 +64,43 @@ fn put(places: &mut [u8; MAX_CHAINS], at: usize, place: u8) -> usize
     at
 }
 
-// The places of an sn among the first n sns.
-fn add_sn(
-    places: &mut [u8; MAX_CHAINS],
-    at: usize,
-    sns: [u8; MAX_CHAINS],
-    n: usize,
-    sn: u8,
-) -> usize
-    requires { n ≤ 4 }
-    ensures { Added 0 (places_of sn 0 (take n sns)) at places.old result places.new }
+// The places of those of some chains that have an sn.
+fn add_sn(places: &mut [u8; MAX_CHAINS], at: usize, chains: &[Placed], sn: u8) -> usize
+    requires { length chains.now ≤ 4 }
+    ensures { Added 0 (places_of sn 0 (sns_of chains.now)) at places.old result places.new }
 {
     let mut q = at;
-    let mut i = 0;
-    while i < n {
-        if sns[i] == sn {
+    for (i, p) in chains.iter().enumerate() {
+        if p.sn == sn {
             q = put(places, q, i as u8);
-            i += 1;
-            continue;
         }
-        i += 1;
     }
     q
 }
 
 // The places of those with an sn from 1 to 4, one sn after the other.
-fn in_turn(notes: &[u32; NOTE_ROOM], n: usize) -> Rising
-    requires { n ≤ 4 }
-    ensures { InOrder (take n (chains_in notes.now)) result }
+fn in_turn(chains: &[Placed]) -> Rising
+    requires { length chains.now ≤ 4 }
+    ensures { InOrder chains.now result }
 {
-    let sns = sns_of(notes, n);
     let mut items = [0u8; MAX_CHAINS];
-    let a = add_sn(&mut items, 0, sns, n, 1);
-    let b = add_sn(&mut items, a, sns, n, 2);
-    let c = add_sn(&mut items, b, sns, n, 3);
-    let d = add_sn(&mut items, c, sns, n, 4);
+    let a = add_sn(&mut items, 0, chains, 1);
+    let b = add_sn(&mut items, a, chains, 2);
+    let c = add_sn(&mut items, b, chains, 3);
+    let d = add_sn(&mut items, c, chains, 4);
     Rising { count: d, items }
 }
 
 // ---- all of them
 
 // The places of all chains with an sn from 1 to 4.
-pub fn by_sn(notes: &[u32; NOTE_ROOM], count: usize) -> Rising
-    ensures { InOrder (take count (chains_in notes.now)) result }
+pub fn by_sn(notes: &[Placed; MAX_CHAINS], count: usize) -> Rising
+    ensures { InOrder (take count notes.now) result }
 {
     let n = request_chains::in_places(count);
-    if falling(notes, n) {
+    let chains = &notes[..n];
+    if falling(chains) {
         return backwards(n);
     }
-    in_turn(notes, n)
+    in_turn(chains)
 }

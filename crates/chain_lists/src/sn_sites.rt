@@ -1,7 +1,6 @@
 // The sn sites of a line, by rising sn and not by the order of the text. They are made in one pass over the places of the chains, which
 // `rising` has put in order. Of a chain only what is noted of it is looked at.
 ghost use Rattle.std.specs.Prelude.{◌≡◌, [], ◌∷◌, ◌<◌};
-ghost use Rattle.placement.specs.chain_notes.Notes.{chains_in};
 ghost use Rattle.chain_lists.specs.rising.Order.{places_in};
 ghost use Rattle.chain_lists.specs.sn_sites.Sites.{has_site, sites_at, SitesHeld};
 
@@ -9,7 +8,10 @@ use super::rising::Rising;
 use chain_rules::Role;
 use drawn_chain::MAX_CHAINS;
 use line_parts::{MAX_SITES, Site};
-use placement::{NOTE_ROOM, Placed};
+use placement::Placed;
+
+// What stands past the last.
+const NO_SITE: Site = Site { sn: 0, atom: 0 };
 
 // Sites with their count; what it does not count is zero.
 #[derive(Clone, Copy)]
@@ -30,8 +32,8 @@ fn has_site(role: Role) -> bool
 }
 
 // The site of a chain that has one.
-fn site_of(p: Placed) -> Site
-    ensures { result ≡ record { sn = p.sn; atom = p.site } }
+fn site_of(p: &Placed) -> Site
+    ensures { result ≡ record { sn = p.now.sn; atom = p.now.site } }
 {
     Site {
         sn: p.sn as u32,
@@ -40,81 +42,65 @@ fn site_of(p: Placed) -> Site
 }
 
 // The site of the chain at a place.
-fn one_site(notes: &[u32; NOTE_ROOM], k: usize) -> Sites
-    ensures { SitesHeld (sites_at (chains_in notes.now) (k ∷ [])) result }
+fn one_site(notes: &[Placed; MAX_CHAINS], k: usize) -> Sites
+    ensures { SitesHeld (sites_at notes.now (k ∷ [])) result }
 {
-    let none = Site { sn: 0, atom: 0 };
     if k < MAX_CHAINS {
-        let p = placement::placed_at(notes, k);
-        let role = p.role;
-        if has_site(role) {
-            let site = site_of(p);
-            let items = [site, none, none, none];
+        let p = &notes[k];
+        if has_site(p.role) {
+            let items = [site_of(p), NO_SITE, NO_SITE, NO_SITE];
             return Sites { count: 1, items };
         }
-        let items = [none; MAX_SITES];
-        return Sites { count: 0, items };
     }
-    let items = [none; MAX_SITES];
-    Sites { count: 0, items }
+    Sites {
+        count: 0,
+        items: [NO_SITE; MAX_SITES],
+    }
 }
 
 // The sites of the chains at two places.
-fn two_sites(notes: &[u32; NOTE_ROOM], a: usize, b: usize) -> Sites
+fn two_sites(notes: &[Placed; MAX_CHAINS], a: usize, b: usize) -> Sites
     requires a_bound { a < 4 }
     requires b_bound { b < 4 }
-    ensures { SitesHeld (sites_at (chains_in notes.now) (a ∷ b ∷ [])) result }
+    ensures { SitesHeld (sites_at notes.now (a ∷ b ∷ [])) result }
 {
-    let first = placement::placed_at(notes, a);
-    let second = placement::placed_at(notes, b);
-    let lower = first.role;
-    let upper = second.role;
-    let none = Site { sn: 0, atom: 0 };
-    if has_site(lower) {
-        if has_site(upper) {
-            let items = [site_of(first), site_of(second), none, none];
+    let first = &notes[a];
+    let second = &notes[b];
+    if has_site(first.role) {
+        if has_site(second.role) {
+            let items = [site_of(first), site_of(second), NO_SITE, NO_SITE];
             return Sites { count: 2, items };
         }
-        let items = [site_of(first), none, none, none];
+        let items = [site_of(first), NO_SITE, NO_SITE, NO_SITE];
         return Sites { count: 1, items };
     }
-    if has_site(upper) {
-        let items = [site_of(second), none, none, none];
+    if has_site(second.role) {
+        let items = [site_of(second), NO_SITE, NO_SITE, NO_SITE];
         return Sites { count: 1, items };
     }
-    let items = [none; MAX_SITES];
-    Sites { count: 0, items }
+    Sites {
+        count: 0,
+        items: [NO_SITE; MAX_SITES],
+    }
 }
 
 // The sites of the chains at some places, one after the other.
-fn some_sites(notes: &[u32; NOTE_ROOM], order: Rising) -> Sites
-    ensures { SitesHeld (sites_at (chains_in notes.now) (places_in order)) result }
+fn some_sites(notes: &[Placed; MAX_CHAINS], order: Rising) -> Sites
+    ensures { SitesHeld (sites_at notes.now (places_in order)) result }
 {
     let n = request_chains::in_places(order.count);
-    let items = order.items;
-    let none = Site { sn: 0, atom: 0 };
-    let mut sites = [none; MAX_SITES];
+    let places = &order.items[..n];
+    let mut sites = [NO_SITE; MAX_SITES];
     let mut count = 0;
-    let mut i = 0;
-    while i < n {
-        let k = items[i] as usize;
+    for place in places {
+        let k = *place as usize;
         if k < MAX_CHAINS {
-            let p = placement::placed_at(notes, k);
-            let role = p.role;
-            if has_site(role) {
-                let site = Site {
-                    sn: p.sn as u32,
-                    atom: p.site,
-                };
-                sites[count] = site;
+            let p = &notes[k];
+            if has_site(p.role) {
+                sites[count] = site_of(p);
                 count += 1;
-                i += 1;
-                continue;
             }
-            i += 1;
-            continue;
         }
-        i += 1;
     }
     Sites {
         count,
@@ -124,8 +110,8 @@ fn some_sites(notes: &[u32; NOTE_ROOM], order: Rising) -> Sites
 
 // The sites of the chains at some places. Most lines have one chain or two, for which there is no loop: sites that are stored by their number
 // and copied at once are waited for.
-pub fn sites_by_sn(notes: &[u32; NOTE_ROOM], order: Rising) -> Sites
-    ensures { SitesHeld (sites_at (chains_in notes.now) (places_in order)) result }
+pub fn sites_by_sn(notes: &[Placed; MAX_CHAINS], order: Rising) -> Sites
+    ensures { SitesHeld (sites_at notes.now (places_in order)) result }
 {
     let n = request_chains::in_places(order.count);
     let items = order.items;

@@ -1,11 +1,11 @@
 // The line of a class: its template, and what follows the text. The chains are put in order by sn once; their sites are made once.
-ghost use Rattle.request_chains.specs.chain_numbers.Shapes.{chains_kept};
+ghost use Rattle.request_chains.specs.chain_shapes.Shapes.{chains_kept};
 ghost use Rattle.line_builder.specs.Build.{rooms};
 ghost use Rattle.class_lines.specs.lines.Line.{Writable, LineBuilt};
 
 use chain_lists::{Rising, Sites};
-use placement::NOTE_ROOM;
-use request_chains::SHAPE_ROOM;
+use drawn_chain::{MAX_CHAINS, Shape};
+use placement::Placed;
 use template_rules::Class;
 
 // A line that is written: its length, how many indices its chains have, how many chains there are, their places by rising sn, and its sites.
@@ -25,13 +25,13 @@ pub fn build_line(
     out: &mut [u8],
     index: &mut [u16],
     rows: &mut [u8],
-    notes: &mut [u32; NOTE_ROOM],
+    notes: &mut [Placed; MAX_CHAINS],
     class: Class,
     swap: bool,
     tail: &[u8],
     tail_atoms: u16,
     count: usize,
-    shapes: &[u64; SHAPE_ROOM],
+    shapes: &[Shape; MAX_CHAINS],
     lists: &[u64],
 ) -> Line
     requires { Writable class tail.now tail_atoms (chains_kept count shapes.now lists.now) (rooms out.old index.old rows.old notes.old) }

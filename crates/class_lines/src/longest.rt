@@ -4,8 +4,7 @@ ghost use Rattle.std.specs.Prelude.{◌≡◌, true, ◌≤◌, min};
 ghost use Rattle.class_lines.specs.longest.Longest.{drawn_most, text_most, sites_most};
 ghost use Rattle.class_lines.specs.longest.Covered.{shape_most, Bounded, ChainCovered, Covered, SlightAt, Slight, SlightCovered};
 
-use drawn_chain::Shape;
-use request_chains::SHAPE_ROOM;
+use drawn_chain::{MAX_CHAINS, Shape};
 
 // The most groups with a position that a chain has room for, and the most without one.
 const GROUP_ROOM: usize = 18;
@@ -59,7 +58,7 @@ fn shape_most(x: Shape) -> usize
 }
 
 // The chain at a place; one past those that count adds nothing.
-fn chain_most(count: usize, i: usize, shapes: &[u64; SHAPE_ROOM]) -> usize
+fn chain_most(count: usize, i: usize, shapes: &[Shape; MAX_CHAINS]) -> usize
     ensures { ChainCovered count shapes.now i result }
 {
     if count <= i {
@@ -75,7 +74,7 @@ pub const SLIGHT_CARBONS: u16 = 30;
 const SLIGHT_MOST: usize = 50688;
 
 // Whether the chain at a place is not long; one past those that count is none.
-fn slight_at(count: usize, i: usize, shapes: &[u64; SHAPE_ROOM]) -> bool
+fn slight_at(count: usize, i: usize, shapes: &[Shape; MAX_CHAINS]) -> bool
     ensures { result ≡ true → SlightAt 30 count shapes.now i }
 {
     if count <= i {
@@ -92,7 +91,7 @@ fn slight_at(count: usize, i: usize, shapes: &[u64; SHAPE_ROOM]) -> bool
 }
 
 // Whether no chain is long, as in nearly every request: then little room is needed for their indices, and `slight_most` bounds the line.
-pub fn are_slight(count: usize, shapes: &[u64; SHAPE_ROOM]) -> bool
+pub fn are_slight(count: usize, shapes: &[Shape; MAX_CHAINS]) -> bool
     ensures { result ≡ true → Slight 30 count shapes.now }
 {
     if !slight_at(count, 0, shapes) {
@@ -111,7 +110,7 @@ pub fn are_slight(count: usize, shapes: &[u64; SHAPE_ROOM]) -> bool
 }
 
 // A line of any class: the tail and its atoms, what the templates have of their own, and the chains.
-pub fn line_most(tail: &[u8], tail_atoms: u16, count: usize, shapes: &[u64; SHAPE_ROOM]) -> usize
+pub fn line_most(tail: &[u8], tail_atoms: u16, count: usize, shapes: &[Shape; MAX_CHAINS]) -> usize
     ensures { Covered tail.now tail_atoms count shapes.now result }
 {
     let a = chain_most(count, 0, shapes);

@@ -34,7 +34,7 @@ use Rattle.class_templates.specs.Templates.{FitsAll, Built, TailOf}
 -- ---- an element where the builder stands
 
 -- what it leads to can be kept
-abbrev FitsElement : List ℕ → List Chain → Element → List ℕ → Builder → Type 0
+abbrev FitsElement : List ℕ → List Chain → Element → List Placed → Builder → Type 0
 FitsElement t ds e ns b =
     Fits (element_atoms t ds b.atoms.0 e) (element_variables ds b.variables.0 e) (element_labels ds b.labels.0 e) (placed_in b ns ++ map noted (element_placed ds b.atoms.0 b.variables.0 e))
 
@@ -121,7 +121,7 @@ pub record Short (x : Rooms) : Type 0 where
 pub sizes-then : {x y z : Rooms} → Sizes x y → Sizes y z → Sizes x z
 sizes-then a b = record { text = b.text ∙ a.text; index = b.index ∙ a.index; rows = b.rows ∙ a.rows }
 
-pub sizes-fixed : {s : List ℕ} {k : ℕ} {xs ys is rs ns : List ℕ} {b q : Builder} → FixedPushed s k xs b ys q → Sizes (rooms xs is rs ns) (rooms ys is rs ns)
+pub sizes-fixed : {s : List ℕ} {k : ℕ} {xs ys is rs : List ℕ} {ns : List Placed} {b q : Builder} → FixedPushed s k xs b ys q → Sizes (rooms xs is rs ns) (rooms ys is rs ns)
 sizes-fixed w = record { text = written-length w.text; index = refl; rows = refl }
 
 -- ---- one element more
@@ -176,7 +176,7 @@ pub record Own (s : List ℕ) (k : ℕ) : Type 0 where
 written-kept : (xs : List ℕ) {a b : ℕ} → Kept a b → Written xs a [] xs b
 written-kept xs {a} k = rw k.is (written-nil xs a k.small)
 
-fixed-pushed : (t : List ℕ) (ds : List Chain) {s : List ℕ} {k : ℕ} {xs ys is rs ns : List ℕ} {b q : Builder} → Own s k → FixedPushed s k xs b ys q
+fixed-pushed : (t : List ℕ) (ds : List Chain) {s : List ℕ} {k : ℕ} {xs ys is rs : List ℕ} {ns : List Placed} {b q : Builder} → Own s k → FixedPushed s k xs b ys q
     → Step t ds (fixed s) (rooms xs is rs ns) b (rooms ys is rs ns) q
 unfolding element_atoms element_variables element_labels element_placed chain_in items_of gathered
 fixed-pushed t ds {s = s} {is = is} {rs = rs} {ns = ns} {b = b} {q = q} o w f =
@@ -193,7 +193,7 @@ fixed-pushed t ds {s = s} {is = is} {rs = rs} {ns = ns} {b = b} {q = q} o w f =
           };
     }
 
-tail-pushed : {t : List ℕ} (ds : List Chain) {k : ℕ} {xs ys is rs ns : List ℕ} {b q : Builder} → TailOf t k → FixedPushed t k xs b ys q
+tail-pushed : {t : List ℕ} (ds : List Chain) {k : ℕ} {xs ys is rs : List ℕ} {ns : List Placed} {b q : Builder} → TailOf t k → FixedPushed t k xs b ys q
     → Step t ds tail (rooms xs is rs ns) b (rooms ys is rs ns) q
 unfolding element_atoms element_variables element_labels element_placed chain_in items_of template_pieces item_pieces gathered
 tail-pushed {t} ds {is = is} {rs = rs} {ns = ns} {b = b} {q = q} o w f =
@@ -221,11 +221,11 @@ module _ (t : List ℕ) (ds : List Chain) {x : Chains} where
   unfolding element_atoms element_variables element_labels element_placed chain_in items_of
   chain-pushed {sn} s w f = w.pushed (nonempty sn ds) (record { stands = s; fits = f })
 
-  slot-fits : {sn : ℕ} {ns : List ℕ} {b : Builder} → StandsAt Slot (nonempty sn ds) x sn → FitsElement t ds (slot sn) ns b → SlotFits x sn ns b
+  slot-fits : {sn : ℕ} {ns : List Placed} {b : Builder} → StandsAt Slot (nonempty sn ds) x sn → FitsElement t ds (slot sn) ns b → SlotFits x sn ns b
   unfolding element_atoms element_variables element_labels element_placed chain_in
   slot-fits {sn} s f = record { chain = nonempty sn ds; fitting = record { stands = s; fits = f } }
 
-  chain_fits : {sn : ℕ} {r : Role} {ns : List ℕ} {b : Builder} → StandsAt r (nonempty sn ds) x sn → FitsElement t ds (chain sn r) ns b → BareFits x sn r ns b
+  chain_fits : {sn : ℕ} {r : Role} {ns : List Placed} {b : Builder} → StandsAt r (nonempty sn ds) x sn → FitsElement t ds (chain sn r) ns b → BareFits x sn r ns b
   unfolding element_atoms element_variables element_labels element_placed chain_in
   chain_fits {sn} s f = record { chain = nonempty sn ds; fitting = record { stands = s; fits = f } }
 
@@ -245,11 +245,11 @@ module _ {t : List ℕ} {ds : List Chain} {es rest : List Element} {xs : Rooms} 
   one_more {e} w s =
       record { short = w.short; fits = rw (append_assoc es (e ∷ []) rest) w.fits; built = built-step t ds es e rest w.short w.fits s w.built }
 
-  pub then-fixed : {s : List ℕ} {k : ℕ} {ys zs is rs ns : List ℕ} → Along t ds es (fixed s ∷ rest) xs (rooms ys is rs ns) b → Own s k → FixedPushed s k ys b zs q
+  pub then-fixed : {s : List ℕ} {k : ℕ} {ys zs is rs : List ℕ} {ns : List Placed} → Along t ds es (fixed s ∷ rest) xs (rooms ys is rs ns) b → Own s k → FixedPushed s k ys b zs q
       → Along t ds (es ++ fixed s ∷ []) rest xs (rooms zs is rs ns) q
   then-fixed w o p = one_more w (fixed-pushed t ds o p)
 
-  pub then_tail : {k : ℕ} {ys zs is rs ns : List ℕ} → Along t ds es (tail ∷ rest) xs (rooms ys is rs ns) b → TailOf t k → FixedPushed t k ys b zs q
+  pub then_tail : {k : ℕ} {ys zs is rs : List ℕ} {ns : List Placed} → Along t ds es (tail ∷ rest) xs (rooms ys is rs ns) b → TailOf t k → FixedPushed t k ys b zs q
       → Along t ds (es ++ tail ∷ []) rest xs (rooms zs is rs ns) q
   then_tail w o p = one_more w (tail-pushed ds o p)
 

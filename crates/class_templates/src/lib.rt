@@ -4,15 +4,15 @@
 
 ghost use Rattle.template_rules.specs.declared.Class.TheVariants.{Fa, Gp, Cl, Sb, Sa};
 ghost use Rattle.template_rules.specs.Template.{elements, glycerol, role_of};
-ghost use Rattle.request_chains.specs.chain_numbers.Shapes.{chains_kept};
+ghost use Rattle.request_chains.specs.chain_shapes.Shapes.{chains_kept};
 ghost use Rattle.line_builder.specs.Build.{rooms};
 ghost use Rattle.class_templates.specs.Templates.{all_slots, FilledTailless, Tailless, TailOf, FilledTailed, Tailed};
 ghost use Rattle.class_templates.specs.Classes.{Classed, ClassBuilt};
 
 use chain_rules::Role;
 use line_builder::Builder;
-use placement::NOTE_ROOM;
-use request_chains::SHAPE_ROOM;
+use drawn_chain::{MAX_CHAINS, Shape};
+use placement::Placed;
 use template_rules::Class;
 
 // FA: `O`, chain.
@@ -20,9 +20,9 @@ fn fa_smiles(
     out: &mut [u8],
     index: &mut [u16],
     rows: &mut [u8],
-    notes: &mut [u32; NOTE_ROOM],
+    notes: &mut [Placed; MAX_CHAINS],
     count: usize,
-    shapes: &[u64; SHAPE_ROOM],
+    shapes: &[Shape; MAX_CHAINS],
     lists: &[u64],
 ) -> Builder
     requires { FilledTailless (elements Fa) (role_of Fa) (chains_kept count shapes.now lists.now) }
@@ -38,9 +38,9 @@ fn glycerolipid_smiles(
     out: &mut [u8],
     index: &mut [u16],
     rows: &mut [u8],
-    notes: &mut [u32; NOTE_ROOM],
+    notes: &mut [Placed; MAX_CHAINS],
     count: usize,
-    shapes: &[u64; SHAPE_ROOM],
+    shapes: &[Shape; MAX_CHAINS],
     lists: &[u64],
 ) -> Builder
     requires { FilledTailless glycerol all_slots (chains_kept count shapes.now lists.now) }
@@ -60,11 +60,11 @@ fn gpl_smiles(
     out: &mut [u8],
     index: &mut [u16],
     rows: &mut [u8],
-    notes: &mut [u32; NOTE_ROOM],
+    notes: &mut [Placed; MAX_CHAINS],
     tail: &[u8],
     tail_atoms: u16,
     count: usize,
-    shapes: &[u64; SHAPE_ROOM],
+    shapes: &[Shape; MAX_CHAINS],
     lists: &[u64],
 ) -> Builder
     requires tail_of { TailOf tail.now tail_atoms }
@@ -85,9 +85,9 @@ fn cl_smiles(
     out: &mut [u8],
     index: &mut [u16],
     rows: &mut [u8],
-    notes: &mut [u32; NOTE_ROOM],
+    notes: &mut [Placed; MAX_CHAINS],
     count: usize,
-    shapes: &[u64; SHAPE_ROOM],
+    shapes: &[Shape; MAX_CHAINS],
     lists: &[u64],
 ) -> Builder
     requires { FilledTailless (elements Cl) (role_of Cl) (chains_kept count shapes.now lists.now) }
@@ -109,11 +109,11 @@ fn sphingoid_smiles(
     out: &mut [u8],
     index: &mut [u16],
     rows: &mut [u8],
-    notes: &mut [u32; NOTE_ROOM],
+    notes: &mut [Placed; MAX_CHAINS],
     tail: &[u8],
     tail_atoms: u16,
     count: usize,
-    shapes: &[u64; SHAPE_ROOM],
+    shapes: &[Shape; MAX_CHAINS],
     lists: &[u64],
 ) -> Builder
     requires tail_of { TailOf tail.now tail_atoms }
@@ -132,11 +132,11 @@ fn acyl_sphingoid_smiles(
     out: &mut [u8],
     index: &mut [u16],
     rows: &mut [u8],
-    notes: &mut [u32; NOTE_ROOM],
+    notes: &mut [Placed; MAX_CHAINS],
     tail: &[u8],
     tail_atoms: u16,
     count: usize,
-    shapes: &[u64; SHAPE_ROOM],
+    shapes: &[Shape; MAX_CHAINS],
     lists: &[u64],
 ) -> Builder
     requires tail_of { TailOf tail.now tail_atoms }
@@ -157,12 +157,12 @@ pub fn class_smiles(
     out: &mut [u8],
     index: &mut [u16],
     rows: &mut [u8],
-    notes: &mut [u32; NOTE_ROOM],
+    notes: &mut [Placed; MAX_CHAINS],
     class: Class,
     tail: &[u8],
     tail_atoms: u16,
     count: usize,
-    shapes: &[u64; SHAPE_ROOM],
+    shapes: &[Shape; MAX_CHAINS],
     lists: &[u64],
 ) -> Builder
     requires { Classed class tail.now tail_atoms (chains_kept count shapes.now lists.now) }

@@ -9,12 +9,11 @@ use lib.ListN.{length}
 use Rattle.writer.specs.emit.Text.{Written}
 use Rattle.chain_record.specs.plain.Chain.{Chain}
 use Rattle.drawn_chain.specs.drawable.Chains.{Chains}
-use Rattle.request_chains.specs.chain_numbers.Shapes.{chains_kept}
+use Rattle.request_chains.specs.chain_shapes.Shapes.{chains_kept}
 use Rattle.template_rules.specs.declared.Class.{Class}
 use Rattle.template_rules.specs.Drawn.{placed}
 use Rattle.template_rules.specs.Written.{indices_of, index_of}
 use Rattle.line_builder.specs.Build.{rooms}
-use Rattle.placement.specs.chain_notes.Notes.{chains_in}
 use Rattle.placement.specs.chain_notes.Fragment.{gathered}
 use Rattle.chain_lists.specs.rising.Order.{places_in}
 use Rattle.chain_lists.specs.declared.listing.Lists.{Lists}
@@ -61,13 +60,13 @@ module _ {c : Class} {swap : Bool} {t : List ℕ} {k : ℕ} {x : Chains} where
 
   module _ {vs zs ns js rs ss os ps : List ℕ} {r : Line} where
     built : LineBuilt c swap t k x (rooms vs ns rs os) (rooms zs js ss ps) r → (ds : List Chain) → LineIs c swap t ds (rooms vs ns rs os) (rooms zs js ss ps) r
-        → Built c swap t ds vs zs r.at r.count (chains_in ps) r.order r.sites js r.used
+        → Built c swap t ds vs zs r.at r.count ps r.order r.sites js r.used
     built h ds i = record { text = i.text; places = i.chains; order = h.order; sites = h.sites; index = i.index }
 
     -- the indices are built in room of their own, and are then put in order
     pub drawn-some : (ls : Lists) {is qs : List ℕ} {d : ℕ} → LineBuilt c swap t k x (rooms vs ns rs os) (rooms zs js ss ps) r → IndexRoom c t k x (length ns) → length rs ≡ 64
-        → length vs < 2 ^ 63 → ShortIs c swap t k x (length vs) (length is) false → ListsHeld (lists_at (chains_in ps) (places_in r.order)) ls
-        → Written is 0 (indices_at (chains_in ps) js (places_in r.order)) qs d
+        → length vs < 2 ^ 63 → ShortIs c swap t k x (length vs) (length is) false → ListsHeld (lists_at ps (places_in r.order)) ls
+        → Written is 0 (indices_at ps js (places_in r.order)) qs d
         → ChainsDrawn c swap t k x vs is zs qs (record { number = 0; token = 0; length = r.at; lists = ls; sites = r.sites })
     drawn-some ls h n m u f g p =
         record {
@@ -78,7 +77,7 @@ module _ {c : Class} {swap : Bool} {t : List ℕ} {k : ℕ} {x : Chains} where
 
     -- one chain: its indices are the list, and are built in their slice too
     pub drawn-one : (ls : Lists) → x.count ≡ 1 → LineBuilt c swap t k x (rooms vs ns rs os) (rooms zs js ss ps) r → length rs ≡ 16 → length vs < 2 ^ 63
-        → ShortIs c swap t k x (length vs) (length ns) false → ListsHeld (lists_at (chains_in ps) (places_in r.order)) ls
+        → ShortIs c swap t k x (length vs) (length ns) false → ListsHeld (lists_at ps (places_in r.order)) ls
         → ChainsDrawn c swap t k x vs ns zs js (record { number = 0; token = 0; length = r.at; lists = ls; sites = r.sites })
     drawn-one ls e h m u f g =
         record {

@@ -3,15 +3,15 @@
 #![tactic(auto)]
 
 ghost use Rattle.std.specs.Prelude.{◌≡◌, false, length};
-ghost use Rattle.request_chains.specs.chain_numbers.Shapes.{chains_kept};
+ghost use Rattle.request_chains.specs.chain_shapes.Shapes.{chains_kept};
 ghost use Rattle.class_lines.specs.longest.Covered.{Slight};
 ghost use Rattle.answers.specs.room.Ready.{Readied, ShortIs};
 ghost use Rattle.drawing.specs.Draw.{ChainsDrawn, IndexRoom};
 
+use drawn_chain::{MAX_CHAINS, Shape};
 use answers::{Answer, INDEX_ROOM, ROW_ROOM, refused};
 use class_lines::Line;
-use placement::NOTE_ROOM;
-use request_chains::SHAPE_ROOM;
+
 use template_rules::Class;
 
 // A slice is shorter than needed.
@@ -33,7 +33,7 @@ fn draw_one(
     tail: &[u8],
     tail_atoms: u16,
     count: usize,
-    shapes: &[u64; SHAPE_ROOM],
+    shapes: &[Shape; MAX_CHAINS],
     lists: &[u64],
 ) -> Answer
     requires readied { Readied class tail.now tail_atoms (chains_kept count shapes.now lists.now) }
@@ -42,7 +42,7 @@ fn draw_one(
     ensures { ChainsDrawn class swap tail.now tail_atoms (chains_kept count shapes.now lists.now) line.old index.old line.new index.new result }
 {
     let mut rows = [0u8; ROW_MOST];
-    let mut notes = [0u32; NOTE_ROOM];
+    let mut notes = [placement::nowhere(); MAX_CHAINS];
     let built = class_lines::build_line(
         line, index, &mut rows, &mut notes, class, swap, tail, tail_atoms, count, shapes, lists,
     );
@@ -65,7 +65,7 @@ fn draw_some(
     index: &mut [u16],
     numbers: &mut [u16],
     count: usize,
-    shapes: &[u64; SHAPE_ROOM],
+    shapes: &[Shape; MAX_CHAINS],
     class: Class,
     swap: bool,
     tail: &[u8],
@@ -78,7 +78,7 @@ fn draw_some(
     ensures { ChainsDrawn class swap tail.now tail_atoms (chains_kept count shapes.now lists.now) line.old index.old line.new index.new result }
 {
     let mut rows = [0u8; ROW_ROOM];
-    let mut notes = [0u32; NOTE_ROOM];
+    let mut notes = [placement::nowhere(); MAX_CHAINS];
     let built = class_lines::build_line(
         line, numbers, &mut rows, &mut notes, class, swap, tail, tail_atoms, count, shapes, lists,
     );
@@ -104,7 +104,7 @@ fn draw_slight(
     tail: &[u8],
     tail_atoms: u16,
     count: usize,
-    shapes: &[u64; SHAPE_ROOM],
+    shapes: &[Shape; MAX_CHAINS],
     lists: &[u64],
 ) -> Answer
     requires readied { Readied class tail.now tail_atoms (chains_kept count shapes.now lists.now) }
@@ -136,7 +136,7 @@ fn draw_long(
     tail: &[u8],
     tail_atoms: u16,
     count: usize,
-    shapes: &[u64; SHAPE_ROOM],
+    shapes: &[Shape; MAX_CHAINS],
     lists: &[u64],
 ) -> Answer
     requires readied { Readied class tail.now tail_atoms (chains_kept count shapes.now lists.now) }
@@ -167,7 +167,7 @@ pub fn draw_chains(
     tail: &[u8],
     tail_atoms: u16,
     count: usize,
-    shapes: &[u64; SHAPE_ROOM],
+    shapes: &[Shape; MAX_CHAINS],
     lists: &[u64],
 ) -> Answer
     requires { Readied class tail.now tail_atoms (chains_kept count shapes.now lists.now) }

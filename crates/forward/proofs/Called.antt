@@ -9,7 +9,7 @@ use lib.ListN.{length, take, drop, length-map}
 use borrow.Author.Tests.{not-false}
 use Rattle.chain_record.specs.plain.Chain.{Chain}
 use Rattle.tail_grammar.specs.tail.Grammar.{is_tail}
-use Rattle.request_chains.specs.chain_numbers.Shapes.{chains_kept}
+use Rattle.request_chains.specs.chain_shapes.Shapes.{chains_kept}
 use Rattle.template_rules.specs.declared.Class.{Class}
 use Rattle.template_rules.specs.Template.{has_tail}
 use Rattle.template_rules.specs.Drawn.{placed, by_sn, sn_sites}

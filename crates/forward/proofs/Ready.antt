@@ -18,7 +18,7 @@ use Rattle.template_rules.specs.Drawn.{chain_at, unless_empty, nonempty, tail_pa
 use Rattle.template_rules.proofs.Placing.{AcceptsFrom}
 use Rattle.template_rules.proofs.Tail.{tail-fits}
 use Rattle.template_rules.proofs.Theorem.{Accepted}
-use Rattle.request_chains.specs.chain_numbers.Sn.{drawn_at, IsDrawn, ChainAt}
+use Rattle.request_chains.specs.chain_shapes.Sn.{drawn_at, IsDrawn, ChainAt}
 use Rattle.placement.specs.chain_notes.Fragment.{Stands}
 use Rattle.placement.proofs.chain_notes.Ready.{stands-carried, told}
 use Rattle.class_templates.specs.Templates.{TailOf}

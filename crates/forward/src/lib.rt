@@ -8,9 +8,8 @@ ghost use Rattle.judge.specs.Verdict.{verdict, tokens};
 ghost use Rattle.forward.specs.Call.{Called};
 
 pub use answers::Answer;
-use drawn_chain::{CHAIN_ROOM, LIST_ROOM};
+use drawn_chain::{CHAIN_ROOM, LIST_ROOM, MAX_CHAINS};
 use judge::Judged;
-use request_chains::SHAPE_ROOM;
 
 // Room for the lists of two chains.
 const PAIR_ROOM: usize = 154;
@@ -32,7 +31,7 @@ fn draw_in<'a>(
     requires { 77 * min count 4 ≤ length lists.old }
     ensures { Called (verdict class.now tail.now count (tokens count sn1.now sn2.now sn3.now sn4.now)) swap tail.now line.old index.old line.new index.new result }
 {
-    let mut shapes = [0u64; SHAPE_ROOM];
+    let mut shapes = [request_chains::no_shape(); MAX_CHAINS];
     let judged = judge::judge(class, tail, count, sn1, sn2, sn3, sn4, &mut shapes, lists);
     match judged {
         Judged::Refused { number, place } => answers::refused(number, place),

@@ -24,7 +24,8 @@ use Rattle.template_rules.specs.Template.{fewest, most, role_of, has_tail}
 use Rattle.template_rules.proofs.Placing.{AcceptsFrom}
 use Rattle.template_rules.proofs.Tail.{TailReads}
 use Rattle.template_rules.proofs.Theorem.{Accepted}
-use Rattle.request_chains.specs.chain_numbers.Shapes.{chains_kept}
+use Rattle.drawn_chain.specs.declared.drawable.Shape.{Shape}
+use Rattle.request_chains.specs.chain_shapes.Shapes.{chains_kept}
 use Rattle.class_rules.specs.declared.class.Code.{Code}
 use Rattle.class_rules.specs.declared.class.Code.TheVariants.{Known, Unknown}
 use Rattle.class_rules.specs.class.Class.{class_of}
@@ -267,17 +268,17 @@ module _ (class t : List ℕ) (count : ℕ) (sn1 sn2 sn3 sn4 : List ℕ) where
 
 -- ---- what the answer of the code says of the verdict
 
--- the n chains that the numbers ns and the lists l hold are those of the verdict, and the atoms of the tail t are counted
-pub record Drawn (c : Class) (a n : ℕ) (ns l t : List ℕ) (v : Verdict) : Type 0 where
+-- the n chains that the shapes ns and the lists l hold are those of the verdict, and the atoms of the tail t are counted
+pub record Drawn (c : Class) (a n : ℕ) (ns : List Shape) (l t : List ℕ) (v : Verdict) : Type 0 where
   pub chains : List Chain
   pub is : v ≡ Drawable c chains
   pub drawing : Drawing c chains (chains_kept n ns l)
   pub atoms : a ≡ atoms_of_tail t
 
-pub answer-drawable : (c : Class) (a n : ℕ) (ns l t : List ℕ) (v : Verdict) → JudgedIs (Judged-as-Drawable c a) n ns l t v → Drawn c a n ns l t v
+pub answer-drawable : (c : Class) (a n : ℕ) (ns : List Shape) (l t : List ℕ) (v : Verdict) → JudgedIs (Judged-as-Drawable c a) n ns l t v → Drawn c a n ns l t v
 answer-drawable c a n ns l t (Refused m p) h = absurd h
 answer-drawable c a n ns l t (Drawable d ds) h = record { chains = ds; is = ap (λ (x : Class). Drawable x ds) (sym h.0); drawing = rw h.0 h.1; atoms = h.2 }
 
-pub answer-refused : (m p n : ℕ) (ns l t : List ℕ) (v : Verdict) → JudgedIs (Judged-as-Refused m p) n ns l t v → v ≡ Refused m p
+pub answer-refused : (m p n : ℕ) (ns : List Shape) (l t : List ℕ) (v : Verdict) → JudgedIs (Judged-as-Refused m p) n ns l t v → v ≡ Refused m p
 answer-refused m p n ns l t (Refused k q) h = rw (h.0, h.1)
 answer-refused m p n ns l t (Drawable c ds) h = absurd h

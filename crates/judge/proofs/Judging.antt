@@ -22,9 +22,9 @@ use Rattle.class_rules.specs.class.Class.{class_of}
 use Rattle.judge.specs.declared.Fault.{Fault}
 use Rattle.judge.specs.declared.Fault.TheVariants.{Nothing, Due}
 use Rattle.judge.specs.declared.Faults.{Faults}
+use Rattle.drawn_chain.specs.declared.drawable.Shape.{Shape}
 use Rattle.drawn_chain.specs.drawable.Chains.{drawn_in, items_of}
-use Rattle.request_chains.specs.chain_numbers.Shapes.{shapes_in, chains_kept}
-use Rattle.request_chains.proofs.chain_numbers.Laws.{length-shapes}
+use Rattle.request_chains.specs.chain_shapes.Shapes.{chains_kept}
 use Rattle.judge.specs.declared.Judged.{Judged}
 use Rattle.judge.specs.declared.Judged.TheVariants.{Drawable as Judged-as-Drawable, Refused as Judged-as-Refused}
 use Rattle.judge.specs.declared.Seen.{Seen}
@@ -108,7 +108,7 @@ module _ (c : Class) (n : ℕ) (b : Bool) (e : b ≡ wrong_count c n) (h : b ≡
 -- ---- the tokens
 
 -- the fault that is due of chains is that which their verdict says
-module _ (c : Class) (t : List ℕ) (b : Bool) (e : b ≡ wrong_tail c t) (f : Faults) (n : ℕ) (ns l : List ℕ) (ds : List Chain) (d : Drawing c ds (chains_kept n ns l)) (a : ℕ) (y : a ≡ atoms_of_tail t) where
+module _ (c : Class) (t : List ℕ) (b : Bool) (e : b ≡ wrong_tail c t) (f : Faults) (n : ℕ) (ns : List Shape) (l : List ℕ) (ds : List Chain) (d : Drawing c ds (chains_kept n ns l)) (a : ℕ) (y : a ≡ atoms_of_tail t) where
   drawing-judged : f.kind ≡ first_of kind_refusal c 1 ds → f.place ≡ first_of place_refusal c 1 ds → f.draw ≡ first_of draw_refusal c 1 ds
       → JudgedIs (or_drawable (due_of f b) c a) n ns l t (judge_chains c t ds)
   unfolding judge_chains judge_drawn due_of
@@ -122,28 +122,28 @@ module _ (c : Class) (t : List ℕ) (b : Bool) (e : b ≡ wrong_tail c t) (f : F
       go Nothing false Nothing (Due m i) = (refl, refl)
       go Nothing false Nothing Nothing = (refl, d, y)
 
-module _ (c : Class) (t : List ℕ) (b : Bool) (e : b ≡ wrong_tail c t) (f : Faults) (ns l : List ℕ) (n : ℕ) (few : n ≤ 4) (a : ℕ) (q : a ≡ atoms_of_tail t) where
-  met-judged : (v : token.Verdict) → Met c f (take n (items_of (shapes_in ns) l)) v → JudgedIs (or_drawable (due_of f b) c a) n ns l t (judge_read c t v)
+module _ (c : Class) (t : List ℕ) (b : Bool) (e : b ≡ wrong_tail c t) (f : Faults) (ns : List Shape) (l : List ℕ) (n : ℕ) (size : length ns ≡ 4) (few : n ≤ 4) (a : ℕ) (q : a ≡ atoms_of_tail t) where
+  met-judged : (v : token.Verdict) → Met c f (take n (items_of ns l)) v → JudgedIs (or_drawable (due_of f b) c a) n ns l t (judge_read c t v)
   unfolding drawn_in
   met-judged (token.First m p) h = absurd h
   met-judged (token.All ds) h =
-      drawing-judged c t b e f n ns l ds (record { few = few; counted = omega (arith, length-take n (items_of (shapes_in ns) l), items-length (shapes_in ns) l, length-shapes ns, draws-length h.3); drawn = h.3 }) a q h.0 h.1 h.2
+      drawing-judged c t b e f n ns l ds (record { few = few; counted = omega (arith, length-take n (items_of ns l), items-length ns l, size, draws-length h.3); drawn = h.3 }) a q h.0 h.1 h.2
 
-  pub tokens-judged : (sn1 sn2 sn3 sn4 : List ℕ) (i : ℕ) (g : Fault) (r : Judged) → n ≤ i → i ≤ n → Met c f (take i (items_of (shapes_in ns) l)) (token.tokens_of (take i (sn1 ∷ sn2 ∷ sn3 ∷ sn4 ∷ []))) → g ≡ due_of f b
+  pub tokens-judged : (sn1 sn2 sn3 sn4 : List ℕ) (i : ℕ) (g : Fault) (r : Judged) → n ≤ i → i ≤ n → Met c f (take i (items_of ns l)) (token.tokens_of (take i (sn1 ∷ sn2 ∷ sn3 ∷ sn4 ∷ []))) → g ≡ due_of f b
       → r ≡ or_drawable g c a → JudgedIs r n ns l t (judge_read c t (token.tokens_of (tokens n sn1 sn2 sn3 sn4)))
   tokens-judged sn1 sn2 sn3 sn4 i g r h k m w z =
       let y : i ≡ n = omega arith in
       rw (z, w) (met-judged (token.tokens_of (tokens n sn1 sn2 sn3 sn4)) (rw y at m))
 
 -- a token that is refused, behind others that are not
-pub token-refused : (sn1 sn2 sn3 sn4 : List ℕ) (c : Class) (t : List ℕ) (x : Seen) (f : Faults) (ns l p ms k : List ℕ) (i n m : ℕ) → 77 * n ≤ length l → i < n → n ≤ 4
-    → SeenIs (role_of c (i + 1)) x p (token_of (get_or (sn1 ∷ sn2 ∷ sn3 ∷ sn4 ∷ []) i [])) → Met c f (take i (items_of (shapes_in ns) l)) (token.tokens_of (take i (sn1 ∷ sn2 ∷ sn3 ∷ sn4 ∷ []))) → x ≡ Seen-as-Refused m
+pub token-refused : (sn1 sn2 sn3 sn4 : List ℕ) (c : Class) (t : List ℕ) (x : Seen) (f : Faults) (ns ms : List Shape) (l p k : List ℕ) (i n m : ℕ) → length ns ≡ 4 → 77 * n ≤ length l → i < n → n ≤ 4
+    → SeenIs (role_of c (i + 1)) x p (token_of (get_or (sn1 ∷ sn2 ∷ sn3 ∷ sn4 ∷ []) i [])) → Met c f (take i (items_of ns l)) (token.tokens_of (take i (sn1 ∷ sn2 ∷ sn3 ∷ sn4 ∷ []))) → x ≡ Seen-as-Refused m
     → JudgedIs (Judged-as-Refused m (i + 1)) n ms k t (judge_read c t (token.tokens_of (tokens n sn1 sn2 sn3 sn4)))
-token-refused sn1 sn2 sn3 sn4 c t x f ns l p ms k i n m b h j w y e = rw (met-stop sn1 sn2 sn3 sn4 c x f ns l p i n b h j w y m e) (refl, refl)
+token-refused sn1 sn2 sn3 sn4 c t x f ns ms l p k i n m z b h j w y e = rw (met-stop sn1 sn2 sn3 sn4 c x f ns l p i n z b h j w y m e) (refl, refl)
 
 -- ---- the class, then the number of tokens, then the tokens
 
-module _ (s t : List ℕ) (count : ℕ) (ss : List (List ℕ)) (r : Code) (e : r ≡ class_of s) (ns l : List ℕ) where
+module _ (s t : List ℕ) (count : ℕ) (ss : List (List ℕ)) (r : Code) (e : r ≡ class_of s) (ns : List Shape) (l : List ℕ) where
   pub class-unknown : r ≡ Unknown → JudgedIs (Judged-as-Refused 20 0) count ns l t (verdict s t count ss)
   unfolding verdict
   class-unknown h = rw (sym e ∙ h) (refl, refl)

@@ -42,8 +42,6 @@ use Rattle.judge.specs.declared.Seen.TheVariants.{Read as Seen-as-Read, Refused 
 use Rattle.judge.specs.Verdict.{fault_at, earlier_of, first_of, kind_refusal}
 use Rattle.judge.specs.Judged.{DrawsAll, none, more, KindIs, SeenIs, no_faults, nothing_due, with_reasons}
 use Rattle.drawn_chain.proofs.drawable.Parts.{items-length}
-use Rattle.request_chains.specs.chain_numbers.Shapes.{shapes_in}
-use Rattle.request_chains.proofs.chain_numbers.Laws.{length-shapes}
 use Rattle.judge.proofs.Items.{items-next}
 
 -- ---- one token
@@ -234,13 +232,13 @@ module _ (sn1 sn2 sn3 sn4 : List ℕ) where
   looked-at c role i t s p r e w = rw (← e, ← r) w
 
   -- before the first
-  pub met-first : (c : Class) (f : Faults) (ns l : List ℕ) → f ≡ no_faults → Met c f (take 0 (items_of (shapes_in ns) l)) (tokens_of (take 0 (sn1 ∷ sn2 ∷ sn3 ∷ sn4 ∷ [])))
+  pub met-first : (c : Class) (f : Faults) (ns : List Shape) (l : List ℕ) → f ≡ no_faults → Met c f (take 0 (items_of ns l)) (tokens_of (take 0 (sn1 ∷ sn2 ∷ sn3 ∷ sn4 ∷ [])))
   unfolding tokens_of tokens_from
   met-first c f ns l e = rw e (met-none c)
 
-  module _ (c : Class) (x : Seen) (f : Faults) (ns l p : List ℕ) (i n : ℕ) (b : 77 * n ≤ length l) (h : i < n) (k : n ≤ 4)
+  module _ (c : Class) (x : Seen) (f : Faults) (ns : List Shape) (l p : List ℕ) (i n : ℕ) (z : length ns ≡ 4) (b : 77 * n ≤ length l) (h : i < n) (k : n ≤ 4)
       (w : SeenIs (role_of c (i + 1)) x p (token_of (get_or (sn1 ∷ sn2 ∷ sn3 ∷ sn4 ∷ []) i [])))
-      (m : Met c f (take i (items_of (shapes_in ns) l)) (tokens_of (take i (sn1 ∷ sn2 ∷ sn3 ∷ sn4 ∷ [])))) where
+      (m : Met c f (take i (items_of ns l)) (tokens_of (take i (sn1 ∷ sn2 ∷ sn3 ∷ sn4 ∷ [])))) where
     four : List (List ℕ)
     four = sn1 ∷ sn2 ∷ sn3 ∷ sn4 ∷ []
 
@@ -248,31 +246,30 @@ module _ (sn1 sn2 sn3 sn4 : List ℕ) where
     unfolding four
     next = rw (add-one i) (take-suc four i [] (omega arith))
 
-    so-many : length (take i (items_of (shapes_in ns) l)) ≡ i
-    so-many = omega (arith, length-take i (items_of (shapes_in ns) l), items-length (shapes_in ns) l, length-shapes ns)
+    so-many : length (take i (items_of ns l)) ≡ i
+    so-many = omega (arith, length-take i (items_of ns l), items-length ns l, z)
 
     -- a token that is refused is the first of all n
     pub met-stop : (a : ℕ) → x ≡ Seen-as-Refused a → tokens_of (take n (sn1 ∷ sn2 ∷ sn3 ∷ sn4 ∷ [])) ≡ First a (i + 1)
     unfolding tokens_of four
     met-stop a e =
-        let y : with_token (tokens_from (All []) (take i four)) (token_of (get_or four i [])) ≡ First a (i + 1) = met-refused c f (take i (items_of (shapes_in ns) l)) i a (role_of c (i + 1)) p (tokens_from (All []) (take i four)) (token_of (get_or four i [])) so-many m (rw e at w) in
+        let y : with_token (tokens_from (All []) (take i four)) (token_of (get_or four i [])) ≡ First a (i + 1) = met-refused c f (take i (items_of ns l)) i a (role_of c (i + 1)) p (tokens_from (All []) (take i four)) (token_of (get_or four i [])) so-many m (rw e at w) in
         let z : take n four ≡ take (i + 1) four ++ drop (i + 1) (take n four) = sym (ap (λ (ts : List (List ℕ)). ts ++ drop (i + 1) (take n four)) (sym (take-take (i + 1) n four (omega arith))) ∙ take-append-drop (i + 1) (take n four)) in
         ap (tokens_from (All [])) z ∙ tokens_append (All []) (take (i + 1) four) (drop (i + 1) (take n four))
         ∙ ap (λ (v : Verdict). tokens_from v (drop (i + 1) (take n four))) (ap (tokens_from (All [])) next ∙ tokens-one (All []) (take i four) (get_or four i []) ∙ y) ∙ tokens-stay a (i + 1) (drop (i + 1) (take n four))
 
-    module _ (a : Reasons) (s : Shape) (e : x ≡ Seen-as-Read a s) (ms : List ℕ) (r : length p ≡ length (mid_of (77 * i) (77 * i + 77 - 77 * i) l)) (q : shapes_in ms ≡ set (shapes_in ns) i s) where
+    module _ (a : Reasons) (s : Shape) (e : x ≡ Seen-as-Read a s) (ms : List Shape) (r : length p ≡ length (mid_of (77 * i) (77 * i + 77 - 77 * i) l)) (q : ms ≡ set ns i s) where
       -- a turn: the numbers of the token's chain are kept, and its lists are laid into its part
       pub met_next : (g : Faults) → g ≡ with_reasons f a (i + 1)
-          → Met c g (take (i + 1) (items_of (shapes_in ms) (put_mid (77 * i) (77 * i + 77 - 77 * i) l p))) (tokens_of (take (i + 1) (sn1 ∷ sn2 ∷ sn3 ∷ sn4 ∷ [])))
+          → Met c g (take (i + 1) (items_of ms (put_mid (77 * i) (77 * i + 77 - 77 * i) l p))) (tokens_of (take (i + 1) (sn1 ∷ sn2 ∷ sn3 ∷ sn4 ∷ [])))
       unfolding tokens_of four
       met_next g y =
-          let xs : List Shape = shapes_in ns in
-          let d : take (i + 1) (items_of (set xs i s) (put_mid (77 * i) (77 * i + 77 - 77 * i) l p)) ≡ take i (items_of xs l) ++ (drawn_of s p ∷ []) = ap (λ (j : ℕ). take j (items_of (set xs i s) (put_mid (77 * i) (77 * i + 77 - 77 * i) l p))) (add-one i) ∙ items-next i s xs l p (omega (arith, length-shapes ns)) (omega arith) r in
+          let d : take (i + 1) (items_of (set ns i s) (put_mid (77 * i) (77 * i + 77 - 77 * i) l p)) ≡ take i (items_of ns l) ++ (drawn_of s p ∷ []) = ap (λ (j : ℕ). take j (items_of (set ns i s) (put_mid (77 * i) (77 * i + 77 - 77 * i) l p))) (add-one i) ∙ items-next i s ns l p (omega (arith, z)) (omega arith) r in
           rw
           (y, q, next, d, tokens-one (All []) (take i four) (get_or four i []))
-          (met-more c f (take i (items_of xs l)) i a s p (tokens_from (All []) (take i four)) (token_of (get_or four i [])) so-many m (rw e at w))
+          (met-more c f (take i (items_of ns l)) i a s p (tokens_from (All []) (take i four)) (token_of (get_or four i [])) so-many m (rw e at w))
 
       -- a turn with a chain that is refused for nothing: the faults stay
       pub met-clear : (y : Bool) → y ≡ nothing_due a → y ≡ true
-          → Met c f (take (i + 1) (items_of (shapes_in ms) (put_mid (77 * i) (77 * i + 77 - 77 * i) l p))) (tokens_of (take (i + 1) (sn1 ∷ sn2 ∷ sn3 ∷ sn4 ∷ [])))
+          → Met c f (take (i + 1) (items_of ms (put_mid (77 * i) (77 * i + 77 - 77 * i) l p))) (tokens_of (take (i + 1) (sn1 ∷ sn2 ∷ sn3 ∷ sn4 ∷ [])))
       met-clear y u z = met_next f (faults-stay f a (i + 1) y u z)

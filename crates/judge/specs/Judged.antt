@@ -9,7 +9,7 @@ use Rattle.template_rules.specs.declared.Class.{Class}
 use Rattle.template_rules.specs.Template.{role_of}
 use Rattle.drawn_chain.specs.drawable.Drawn.{Drawn, drawn_of, Draws}
 use Rattle.drawn_chain.specs.drawable.Chains.{Chains, drawn_in}
-use Rattle.request_chains.specs.chain_numbers.Shapes.{chains_kept}
+use Rattle.request_chains.specs.chain_shapes.Shapes.{chains_kept}
 use Rattle.drawn_chain.specs.declared.drawable.Shape.{Shape}
 use Rattle.judge.specs.declared.Judged.{Judged}
 use Rattle.judge.specs.declared.Judged.TheVariants.{Drawable as Judged-as-Drawable, Refused as Judged-as-Refused}
@@ -33,12 +33,12 @@ pub record Drawing (c : Class) (ds : List Chain) (x : Chains) : Type 0 where
   pub drawn : DrawsAll c 1 (drawn_in x) ds
 
 -- 01's number and the values of each case, as a verdict on a request with n tokens and the tail t has them: the class, and the chains whose
--- numbers are ns and whose lists are l, with the atoms of the tail; or the refusal's number and place
-abbrev pub JudgedIs : Judged → ℕ → List ℕ → List ℕ → List ℕ → Verdict → Type 0
-JudgedIs (Judged-as-Drawable d a) n ns l t (Drawable c ds) = (d ≡ c) × Drawing c ds (chains_kept n ns l) × (a ≡ atoms_of_tail t)
-JudgedIs (Judged-as-Drawable d a) n ns l t (Refused m p) = ⊥
-JudgedIs (Judged-as-Refused k q) n ns l t (Drawable c ds) = ⊥
-JudgedIs (Judged-as-Refused k q) n ns l t (Refused m p) = (k ≡ m) × (q ≡ p)
+-- shapes are xs and whose lists are l, with the atoms of the tail; or the refusal's number and place
+abbrev pub JudgedIs : Judged → ℕ → List Shape → List ℕ → List ℕ → Verdict → Type 0
+JudgedIs (Judged-as-Drawable d a) n xs l t (Drawable c ds) = (d ≡ c) × Drawing c ds (chains_kept n xs l) × (a ≡ atoms_of_tail t)
+JudgedIs (Judged-as-Drawable d a) n xs l t (Refused m p) = ⊥
+JudgedIs (Judged-as-Refused k q) n xs l t (Drawable c ds) = ⊥
+JudgedIs (Judged-as-Refused k q) n xs l t (Refused m p) = (k ≡ m) × (q ≡ p)
 
 -- the fault that is due, or a request that is drawn
 abbrev pub or_drawable : Fault → Class → ℕ → Judged

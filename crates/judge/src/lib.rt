@@ -1,5 +1,5 @@
 // Whether a request is refused, before its slices are looked at: class, number of tokens, tokens, kinds, tail, and what cannot be drawn, in
-// the order of document 01. Every request has an answer. Which, is said by specs/Verdict.antt. The numbers of its chains (`request_chains::chain_numbers`) and
+// the order of document 01. Every request has an answer. Which, is said by specs/Verdict.antt. The shapes of its chains (`request_chains::chain_shapes`) and
 // their lists are laid into lent arrays, a part for each token.
 #![tactic(auto)]
 
@@ -14,8 +14,7 @@ ghost use Rattle.judge.specs.Judged.{JudgedIs, KindIs, SeenIs, no_faults, nothin
 use chain_record::{ChainPrefix, GROUP_ROOM, MAX_BONDS};
 use chain_rules::Role;
 use class_rules::Code;
-use drawn_chain::{CHAIN_ROOM, Shape};
-use request_chains::SHAPE_ROOM;
+use drawn_chain::{CHAIN_ROOM, MAX_CHAINS, Shape};
 use template_rules::Class;
 use token_reader::ReadToken;
 
@@ -263,7 +262,7 @@ fn judge_tokens<'a>(
     sn2: &'a [u8],
     sn3: &'a [u8],
     sn4: &'a [u8],
-    shapes: &mut [u64; SHAPE_ROOM],
+    shapes: &mut [Shape; MAX_CHAINS],
     lists: &mut [u64],
 ) -> Judged
     requires count_bound { count ≤ 4 }
@@ -321,7 +320,7 @@ fn wrong_count(class: Class, count: usize) -> bool
 }
 
 // Whether a request is refused, and for what; or its class, the atoms of its tail, which is read once, and its chains, which are kept in the
-// lent arrays: eight numbers for each, and its lists in a part of 77; there is room for the tokens, of which there are four at most.
+// lent arrays: its shape for each, and its lists in a part of 77; there is room for the tokens, of which there are four at most.
 pub fn judge<'a>(
     class: &[u8],
     tail: &[u8],
@@ -330,7 +329,7 @@ pub fn judge<'a>(
     sn2: &'a [u8],
     sn3: &'a [u8],
     sn4: &'a [u8],
-    shapes: &mut [u64; SHAPE_ROOM],
+    shapes: &mut [Shape; MAX_CHAINS],
     lists: &mut [u64],
 ) -> Judged
     requires { 77 * min count 4 ≤ length lists.old }

@@ -6,7 +6,6 @@ ghost use Rattle.reading_rules.specs.reading.Show.{label_blocks, swap_texts, blo
 ghost use Rattle.template_rules.specs.Drawn.{labels};
 ghost use Rattle.line_parts.specs.shown.Chained.{shown_parts};
 ghost use Rattle.line_parts.specs.shown.Notes.{labels_of, Digits};
-ghost use Rattle.placement.specs.chain_notes.Notes.{chains_in};
 ghost use Rattle.line_blocks.specs.chain_marks.Put.{start_at, PutBlocks, PutParts};
 ghost use Rattle.line_blocks.specs.chain_marks.Marks.{marks_in, sums_in};
 ghost use Rattle.line_blocks.specs.chain_sites.Sites.{site_lists_in};
@@ -15,7 +14,8 @@ ghost use Rattle.line_blocks.specs.blocks.Notes.{barred, notes_text, labelled_of
 use super::chain_marks::Next;
 use super::{chain_marks, chain_sites};
 use line_parts::{MAX_SITES, Site};
-use placement::NOTE_ROOM;
+use drawn_chain::MAX_CHAINS;
+use placement::Placed;
 
 // How many sites have a label: all where they may be exchanged and there are two or more, else none.
 fn labelled(swap: bool, sited: usize) -> usize
@@ -57,20 +57,18 @@ fn put_swaps(out: &mut [u8], at: usize, sites: [Site; MAX_SITES], n: usize) -> N
 }
 
 // Whether no chain has marks, site lists or a sum, as in most lines.
-fn plain(notes: &[u32; NOTE_ROOM], count: usize) -> bool
-    ensures { Plain (take count (chains_in notes.now)) result }
+fn plain(notes: &[Placed; MAX_CHAINS], count: usize) -> bool
+    ensures { Plain (take count notes.now) result }
 {
     let n = request_chains::in_places(count);
-    let mut i = 0;
-    while i < n {
-        let p = placement::placed_at(notes, i);
+    let chains = &notes[..n];
+    for p in chains {
         if 0 < p.unlocated {
             return false;
         }
         if 0 < p.float_count {
             return false;
         }
-        i += 1;
     }
     true
 }
@@ -98,12 +96,12 @@ fn put_block_texts(
     n: usize,
     numbers: &[u16],
     rows: &[u8],
-    notes: &[u32; NOTE_ROOM],
+    notes: &[Placed; MAX_CHAINS],
     count: usize,
 ) -> Next
     requires n_bound { n ≤ 4 }
     requires digits { Digits (take n sites) }
-    ensures { PutBlocks (block_texts (labels_of (take n sites)) (marks_in (take count (chains_in notes.now))) (site_lists_in (take count (chains_in notes.now)) numbers.now rows.now)) out.old (start_at at) out.new result }
+    ensures { PutBlocks (block_texts (labels_of (take n sites)) (marks_in (take count notes.now)) (site_lists_in (take count notes.now) numbers.now rows.now)) out.old (start_at at) out.new result }
 {
     let a = put_labels(out, at, sites, n);
     let b = chain_marks::put_all_marks(out, a, notes, count);
@@ -118,12 +116,12 @@ fn put_blocks(
     n: usize,
     numbers: &[u16],
     rows: &[u8],
-    notes: &[u32; NOTE_ROOM],
+    notes: &[Placed; MAX_CHAINS],
     count: usize,
 ) -> usize
     requires n_bound { n ≤ 4 }
     requires digits { Digits (take n sites) }
-    ensures { Written out.old at (barred (block_texts (labels_of (take n sites)) (marks_in (take count (chains_in notes.now))) (site_lists_in (take count (chains_in notes.now)) numbers.now rows.now))) out.new result }
+    ensures { Written out.old at (barred (block_texts (labels_of (take n sites)) (marks_in (take count notes.now)) (site_lists_in (take count notes.now) numbers.now rows.now))) out.new result }
 {
     let b = put_block_texts(out, at, sites, n, numbers, rows, notes, count);
     line_parts::put_blocks_end(out, b.at, !b.first)
@@ -135,12 +133,12 @@ fn put_trailer(
     at: usize,
     sites: [Site; MAX_SITES],
     n: usize,
-    notes: &[u32; NOTE_ROOM],
+    notes: &[Placed; MAX_CHAINS],
     count: usize,
 ) -> usize
     requires n_bound { n ≤ 4 }
     requires digits { Digits (take n sites) }
-    ensures { Written out.old at (shown_parts true (trailer_texts (labels_of (take n sites)) (sums_in (take count (chains_in notes.now))))) out.new result }
+    ensures { Written out.old at (shown_parts true (trailer_texts (labels_of (take n sites)) (sums_in (take count notes.now)))) out.new result }
 {
     let a = put_swaps(out, at, sites, n);
     let b = chain_marks::put_all_sums(out, a, notes, count);
@@ -156,12 +154,12 @@ pub fn put_notes(
     sited: usize,
     numbers: &[u16],
     rows: &[u8],
-    notes: &[u32; NOTE_ROOM],
+    notes: &[Placed; MAX_CHAINS],
     count: usize,
 ) -> usize
     requires sited_bound { sited ≤ 4 }
     requires digits { Digits (take sited sites) }
-    ensures { Written out.old at (notes_text (labels swap (labels_of (take sited sites))) (marks_in (take count (chains_in notes.now))) (site_lists_in (take count (chains_in notes.now)) numbers.now rows.now) (sums_in (take count (chains_in notes.now)))) out.new result }
+    ensures { Written out.old at (notes_text (labels swap (labels_of (take sited sites))) (marks_in (take count notes.now)) (site_lists_in (take count notes.now) numbers.now rows.now) (sums_in (take count notes.now))) out.new result }
 {
     let n = labelled(swap, sited);
     if plain(notes, count) {

@@ -2,11 +2,11 @@
 // texts of single marks and sums are those of `line_parts::marks` and `line_parts::sums`.
 ghost use Rattle.std.specs.Prelude.{map, take};
 ghost use Rattle.reading_rules.specs.reading.Show.{show_mark, show_sum};
-ghost use Rattle.placement.specs.chain_notes.Notes.{chains_in};
 ghost use Rattle.line_blocks.specs.chain_marks.Put.{PutBlocks, PutParts};
 ghost use Rattle.line_blocks.specs.chain_marks.Marks.{marks_of, sums_of, marks_in, sums_in};
 
-use placement::{NOTE_ROOM, Placed};
+use drawn_chain::MAX_CHAINS;
+use placement::Placed;
 use request_chains::in_places;
 use writer::in_room;
 
@@ -18,8 +18,8 @@ pub struct Next {
 }
 
 // The marks of a chain, where it has double bonds without a position.
-fn put_chain_marks(out: &mut [u8], next: Next, p: Placed) -> Next
-    ensures { PutBlocks (map show_mark (marks_of p)) out.old next out.new result }
+fn put_chain_marks(out: &mut [u8], next: Next, p: &Placed) -> Next
+    ensures { PutBlocks (map show_mark (marks_of p.now)) out.old next out.new result }
 {
     let n = p.unlocated;
     if n == 0 {
@@ -33,23 +33,21 @@ fn put_chain_marks(out: &mut [u8], next: Next, p: Placed) -> Next
 }
 
 // The marks of all chains.
-pub fn put_all_marks(out: &mut [u8], next: Next, notes: &[u32; NOTE_ROOM], count: usize) -> Next
-    ensures { PutBlocks (map show_mark (marks_in (take count (chains_in notes.now)))) out.old next out.new result }
+pub fn put_all_marks(out: &mut [u8], next: Next, notes: &[Placed; MAX_CHAINS], count: usize) -> Next
+    ensures { PutBlocks (map show_mark (marks_in (take count notes.now))) out.old next out.new result }
 {
     let n = in_places(count);
+    let chains = &notes[..n];
     let mut b = next;
-    let mut i = 0;
-    while i < n {
-        let p = placement::placed_at(notes, i);
+    for p in chains {
         b = put_chain_marks(out, b, p);
-        i += 1;
     }
     b
 }
 
 // The sum of a chain, where it has such bonds.
-fn put_chain_sum(out: &mut [u8], next: Next, p: Placed) -> Next
-    ensures { PutParts (map show_sum (sums_of p)) out.old next out.new result }
+fn put_chain_sum(out: &mut [u8], next: Next, p: &Placed) -> Next
+    ensures { PutParts (map show_sum (sums_of p.now)) out.old next out.new result }
 {
     let n = p.unlocated;
     if n == 0 {
@@ -62,16 +60,14 @@ fn put_chain_sum(out: &mut [u8], next: Next, p: Placed) -> Next
 }
 
 // The sums of all chains.
-pub fn put_all_sums(out: &mut [u8], next: Next, notes: &[u32; NOTE_ROOM], count: usize) -> Next
-    ensures { PutParts (map show_sum (sums_in (take count (chains_in notes.now)))) out.old next out.new result }
+pub fn put_all_sums(out: &mut [u8], next: Next, notes: &[Placed; MAX_CHAINS], count: usize) -> Next
+    ensures { PutParts (map show_sum (sums_in (take count notes.now))) out.old next out.new result }
 {
     let n = in_places(count);
+    let chains = &notes[..n];
     let mut b = next;
-    let mut i = 0;
-    while i < n {
-        let p = placement::placed_at(notes, i);
+    for p in chains {
         b = put_chain_sum(out, b, p);
-        i += 1;
     }
     b
 }

@@ -5,15 +5,13 @@ ghost use Rattle.std.specs.Prelude.{◌≡◌, [], ◌∷◌, map, ◌+◌, ◌�
 ghost use Rattle.reading_rules.specs.reading.Molecule.{at as noted};
 ghost use Rattle.reading_rules.specs.reading.Show.{show_sites};
 ghost use Rattle.chain_rules.specs.chain.Drawing.{branch_part, site_lists};
-ghost use Rattle.template_rules.specs.Written.{head_carbons};
-ghost use Rattle.placement.specs.chain_notes.Notes.{chains_in};
 ghost use Rattle.line_blocks.specs.chain_marks.Put.{PutBlocks};
 ghost use Rattle.chain_indices.specs.carried_atoms.Counts.{Counts};
 ghost use Rattle.line_blocks.specs.chain_sites.Sites.{skipped, site_lists_of, site_lists_in};
 
 use super::chain_marks::Next;
-use chain_rules::Role;
-use placement::{NOTE_ROOM, Placed};
+use drawn_chain::MAX_CHAINS;
+use placement::Placed;
 use request_chains::in_places;
 use writer::in_room;
 
@@ -39,11 +37,9 @@ fn put_floats(out: &mut [u8], next: Next, rows: &[u8], atom: u32, sites: &[u16])
 {
     let mut here = atom;
     let mut b = next;
-    let mut i = 0;
-    while i < rows.len() {
+    for row in rows {
         b = put_float(out, b, here, sites);
-        here += 1 + wide_branch_atoms(rows[i]);
-        i += 1;
+        here += 1 + wide_branch_atoms(*row);
     }
     b
 }
@@ -58,23 +54,11 @@ fn within(at: usize, end: usize) -> usize
     end
 }
 
-// How many carbons of a chain are the template's.
-fn head_count(role: Role) -> usize
-    ensures { Counts 2 (length (head_carbons role)) result }
+// How many indices of a chain lead that are no sites: the template's carbons, and C1 of an acyl chain.
+fn first_site(p: &Placed) -> usize
+    ensures { Counts 3 (skipped p.now) result }
 {
-    match role {
-        Role::Slot => 0,
-        Role::Acyl => 0,
-        Role::Base => 2,
-    }
-}
-
-// How many indices of a chain lead that are no sites: those, and C1 of an acyl chain.
-fn first_site(p: Placed) -> usize
-    ensures { Counts 3 (skipped p) result }
-{
-    let role = p.role;
-    let heads = head_count(role);
+    let heads = placement::head_count(p.role) as usize;
     if p.acyl {
         return heads + 1;
     }
@@ -87,12 +71,12 @@ fn put_chain_sites(
     next: Next,
     numbers: &[u16],
     rows: &[u8],
-    p: Placed,
+    p: &Placed,
     from: usize,
     row: usize,
 ) -> Next
     requires { (from ≤ 262140) × (row ≤ 262140) }
-    ensures { PutBlocks (map show_sites (site_lists_of p (take p.count (drop from numbers.now)) (take p.float_count (drop row rows.now)))) out.old next out.new result }
+    ensures { PutBlocks (map show_sites (site_lists_of p.now (take p.now.count (drop from numbers.now)) (take p.now.float_count (drop row rows.now)))) out.old next out.new result }
 {
     if p.float_count == 0 {
         return Next {
@@ -114,18 +98,17 @@ pub fn put_all_sites(
     next: Next,
     numbers: &[u16],
     rows: &[u8],
-    notes: &[u32; NOTE_ROOM],
+    notes: &[Placed; MAX_CHAINS],
     count: usize,
 ) -> Next
-    ensures { PutBlocks (map show_sites (site_lists_in (take count (chains_in notes.now)) numbers.now rows.now)) out.old next out.new result }
+    ensures { PutBlocks (map show_sites (site_lists_in (take count notes.now) numbers.now rows.now)) out.old next out.new result }
 {
     let n = in_places(count);
+    let chains = &notes[..n];
     let mut b = next;
     let mut from = 0;
     let mut row = 0;
-    let mut i = 0;
-    while i < n {
-        let p = placement::placed_at(notes, i);
+    for p in chains {
         // Field by field: a whole `Next` is copied with its padding, and that waits for the stores before it.
         let c = put_chain_sites(out, b, numbers, rows, p, from, row);
         b = Next {
@@ -134,7 +117,6 @@ pub fn put_all_sites(
         };
         from += p.count as usize;
         row += p.float_count as usize;
-        i += 1;
     }
     b
 }

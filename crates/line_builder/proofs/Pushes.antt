@@ -22,9 +22,9 @@ use Rattle.drawn_chain.specs.declared.drawable.Shape.{Shape}
 use Rattle.drawn_chain.specs.drawable.Drawn.{Drawn, drawn_of}
 use Rattle.drawn_chain.specs.drawable.Chains.{Chains, part_of}
 use Rattle.drawn_chain.proofs.drawable.Held.{held_more, held-full}
-use Rattle.request_chains.specs.chain_numbers.Shapes.{chains_kept}
-use Rattle.request_chains.specs.chain_numbers.Sn.{ShapeAt}
-use Rattle.request_chains.proofs.chain_numbers.Sn.{chain-there}
+use Rattle.request_chains.specs.chain_shapes.Shapes.{chains_kept}
+use Rattle.request_chains.specs.chain_shapes.Sn.{ShapeAt}
+use Rattle.request_chains.proofs.chain_shapes.Sn.{chain-there}
 use Rattle.chain_pieces.specs.branches.Text.{rows_in}
 use Rattle.chain_indices.proofs.atoms.NumberLaws.{atoms-end-shift}
 use Rattle.template_rules.specs.Drawn as request
@@ -36,9 +36,7 @@ use Rattle.line_builder.specs.declared.Labels.{Labels}
 use Rattle.placement.specs.declared.chain_notes.Placed.{Placed}
 use Rattle.line_builder.specs.declared.Builder.{Builder}
 use Rattle.placement.specs.chain_notes.Fragment.{Carries, Stands, site_or, noted, index_list, rows_of, gathered}
-use Rattle.placement.specs.chain_notes.Notes.{chains_in}
 use Rattle.placement.proofs.chain_notes.Laws.{index-count}
-use Rattle.placement.proofs.chain_notes.Notes.{length-chains}
 use Rattle.placement.specs.declared.chain_strand.Strand.{Strand}
 use Rattle.chain_indices.specs.declared.totals.Figures.{Figures}
 use Rattle.chain_indices.specs.totals.Totals.{FiguresOf}
@@ -62,20 +60,20 @@ fixed-is g h w e =
 
 -- ---- the places after a chain, its counts, and where it stands
 
-module _ {x : Strand} {f : Figures} {vf : ℕ} {ats : Atoms} {vs : Variables} {ls : Labels} {ns ms : List ℕ} (b : Builder) (p : Placed) (kept : chains_in ms ≡ set (chains_in ns) b.count p)
+module _ {x : Strand} {f : Figures} {vf : ℕ} {ats : Atoms} {vs : Variables} {ls : Labels} {ns ms : List Placed} (b : Builder) (p : Placed) (size : length ns ≡ 4) (kept : ms ≡ set ns b.count p)
     (ea : ats.0 ≡ plus b.atoms.0 x.end) (ef : vf ≡ variables_for f.unlocated) (ev : vs.0 ≡ plus b.variables.0 vf) (el : ls.0 ≡ plus b.labels.0 f.rings) where
   pub settled-more : b.count < 4
       → Settled p x f ns b ms (record { at = x.at; atoms = ats; variables = vs; labels = ls; used = x.used; rows = x.rows; count = b.count + 1 })
   unfolding placed_in
   settled-more h =
-      record { at = refl; used = refl; rows = refl; atoms = ea; variables = ev ∙ ap (λ (n : ℕ). plus b.variables.0 n) ef; labels = el; placed = rw kept (held_more (chains_in ns) b.count 4 (length-chains ns) p h) }
+      record { at = refl; used = refl; rows = refl; atoms = ea; variables = ev ∙ ap (λ (n : ℕ). plus b.variables.0 n) ef; labels = el; placed = rw kept (held_more ns b.count 4 size p h) }
 
   pub settled-full : 4 ≤ b.count
       → Settled p x f ns b ms (record { at = x.at; atoms = ats; variables = vs; labels = ls; used = x.used; rows = x.rows; count = b.count })
   unfolding placed_in
   settled-full h =
-      let same : set (chains_in ns) b.count p ≡ chains_in ns = set_out (chains_in ns) b.count p (rw (length-chains ns) h) in
-      record { at = refl; used = refl; rows = refl; atoms = ea; variables = ev ∙ ap (λ (n : ℕ). plus b.variables.0 n) ef; labels = el; placed = rw (kept, same) (held-full (chains_in ns) b.count 4 (length-chains ns) p h) }
+      let same : set ns b.count p ≡ ns = set_out ns b.count p (rw size h) in
+      record { at = refl; used = refl; rows = refl; atoms = ea; variables = ev ∙ ap (λ (n : ℕ). plus b.variables.0 n) ef; labels = el; placed = rw (kept, same) (held-full ns b.count 4 size p h) }
 
 -- ---- a chain that has carbons
 
@@ -111,9 +109,9 @@ module _ {x : Drawn} {sn s m : ℕ} {r : Role} {xs ys : Rooms} {b q : Builder} {
 
 -- ---- the chain of an sn of the request
 
-module _ (m : ℕ) (hs ls : List ℕ) (x : Shape) (sn : ℕ) (r : Role) (s : ℕ) (at : ShapeAt m hs sn x) where
+module _ (m : ℕ) (hs : List Shape) (ls : List ℕ) (x : Shape) (sn : ℕ) (r : Role) (s : ℕ) (at : ShapeAt m hs sn x) where
   -- none is pushed where it has no carbons
-  pub chain-none : (xs is rs ns : List ℕ) (b : Builder) → b.at < 2 ^ 64 → b.used < 2 ^ 64 → b.rows < 2 ^ 64 → x.carbon ≡ 0
+  pub chain-none : (xs is rs : List ℕ) (ns : List Placed) (b : Builder) → b.at < 2 ^ 64 → b.used < 2 ^ 64 → b.rows < 2 ^ 64 → x.carbon ≡ 0
       → ChainPushed (chains_kept m hs ls) sn r s (rooms xs is rs ns) b (rooms xs is rs ns) b
   unfolding gathered template_pieces show
   chain-none xs is rs ns b g h j e = record { sizes = record { text = refl; index = refl; rows = refl }; pushed = λ o k n v l ps es a. pushed o k n v l ps (a (drawn_of x (part_of sn ls)) (at.is ls)) }
@@ -148,10 +146,10 @@ module _ (m : ℕ) (hs ls : List ℕ) (x : Shape) (sn : ℕ) (r : Role) (s : ℕ
 
 -- ---- a slot
 
-pub slot-some : {x : Chains} {sn : ℕ} {ns : List ℕ} {b : Builder} → SlotFits x sn ns b → StandsSome Slot x sn
+pub slot-some : {x : Chains} {sn : ℕ} {ns : List Placed} {b : Builder} → SlotFits x sn ns b → StandsSome Slot x sn
 slot-some w = record { chain = w.chain; stands = w.fitting.stands }
 
-pub placed-kept : (ns : List ℕ) (p b : Builder) → p.count ≡ b.count → placed_in p ns ≡ placed_in b ns
+pub placed-kept : (ns : List Placed) (p b : Builder) → p.count ≡ b.count → placed_in p ns ≡ placed_in b ns
 unfolding placed_in
 placed-kept ns p b e = rw e
 
@@ -159,7 +157,7 @@ after-le : (r : Role) (o : Option Chain) (m : ℕ) → m ≤ atoms_after r m o
 after-le r none m = omega arith
 after-le r (some d) m = omega (arith, atoms-end-shift r d m)
 
-pub slot_pushed : {x : Chains} {sn s : ℕ} {xs ys zs is js rs ss ns ms : List ℕ} {b p q : Builder} → length xs < 2 ^ 64 → FixedPushed (ascii "O") 1 xs b ys p
+pub slot_pushed : {x : Chains} {sn s : ℕ} {xs ys zs is js rs ss : List ℕ} {ns ms : List Placed} {b p q : Builder} → length xs < 2 ^ 64 → FixedPushed (ascii "O") 1 xs b ys p
     → s ≡ b.atoms.0 → ChainPushed x sn Slot s (rooms ys is rs ns) p (rooms zs js ss ms) q → SlotPushed x sn (rooms xs is rs ns) b (rooms zs js ss ms) q
 unfolding slot_oxygen template_pieces item_pieces next_label show show_piece show_labels ascii
 slot_pushed {x} {sn} {s} {xs} {ys} {zs} {is} {js} {rs} {ss} {ns} {ms} {b} {p} {q} g w es u =
@@ -186,7 +184,7 @@ site-first Slot n = refl
 site-first Acyl n = refl
 site-first Base n = refl
 
-pub bare-some : {x : Chains} {sn : ℕ} {r : Role} {ns : List ℕ} {b : Builder} → BareFits x sn r ns b → StandsSome r x sn
+pub bare-some : {x : Chains} {sn : ℕ} {r : Role} {ns : List Placed} {b : Builder} → BareFits x sn r ns b → StandsSome r x sn
 bare-some w = record { chain = w.chain; stands = w.fitting.stands }
 
 pub bare-pushed : {x : Chains} {sn s : ℕ} {r : Role} {xs ys : Rooms} {b q : Builder} → s ≡ b.atoms.0 → ChainPushed x sn r s xs b ys q → BarePushed x sn r xs b ys q

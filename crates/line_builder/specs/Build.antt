@@ -9,12 +9,11 @@ use Rattle.chain_rules.specs.declared.chain.Role.{Role}
 use Rattle.chain_rules.specs.declared.chain.Role.TheVariants.{Slot}
 use Rattle.drawn_chain.specs.drawable.Drawn.{Drawn}
 use Rattle.drawn_chain.specs.drawable.Chains.{Chains}
-use Rattle.request_chains.specs.chain_numbers.Sn.{ChainAt}
+use Rattle.request_chains.specs.chain_shapes.Sn.{ChainAt}
 use Rattle.template_rules.specs.Drawn as request
 use Rattle.template_rules.specs.Drawn.{site_of, place, atoms_after, variables_after, slot_oxygen, chain_item}
 use Rattle.template_rules.specs.Built.{labels_after}
 use Rattle.placement.specs.declared.chain_notes.Placed.{Placed}
-use Rattle.placement.specs.chain_notes.Notes.{chains_in}
 use Rattle.placement.specs.chain_notes.Fragment.{Carries, Stands, site_or, noted, index_list, rows_of, gathered}
 use Rattle.placement.specs.declared.chain_strand.Strand.{Strand}
 use Rattle.chain_indices.specs.declared.totals.Figures.{Figures}
@@ -41,9 +40,9 @@ pub record Rooms : Type 0 where
   pub text : List ℕ
   pub index : List ℕ
   pub rows : List ℕ
-  pub notes : List ℕ
+  pub notes : List Placed
 
-abbrev pub rooms : List ℕ → List ℕ → List ℕ → List ℕ → Rooms
+abbrev pub rooms : List ℕ → List ℕ → List ℕ → List Placed → Rooms
 rooms a b c d = record { text = a; index = b; rows = c; notes = d }
 
 -- those that a chain is laid down in
@@ -58,9 +57,8 @@ pub record Sizes (x y : Rooms) : Type 0 where
 -- ---- a builder
 
 -- where the chains stand, in the order of the text, by what is noted of them
-unfoldable pub placed_in : Builder → List ℕ → List Placed
-unfolding chains_in
-placed_in b ns = take b.count (chains_in ns)
+unfoldable pub placed_in : Builder → List Placed → List Placed
+placed_in b ns = take b.count ns
 
 -- a builder with nothing pushed
 pub record Fresh (b : Builder) : Type 0 where
@@ -75,7 +73,7 @@ pub record Fresh (b : Builder) : Type 0 where
 -- ---- pushes
 
 -- what a builder has: n atoms, v variables, the next label l, and its chains
-pub record Counts (b : Builder) (ns : List ℕ) (n v l : ℕ) (ps : List Placed) : Type 0 where
+pub record Counts (b : Builder) (ns : List Placed) (n v l : ℕ) (ps : List Placed) : Type 0 where
   pub atoms : b.atoms.0 ≡ n
   pub variables : b.variables.0 ≡ v
   pub labels : b.labels.0 ≡ l
@@ -116,7 +114,7 @@ placed_of b sn r s x f =
     record { sn = sn; role = r; first = b.atoms.0; site = s; variable = b.variables.0; count = x.count; acyl = f.acyl; unlocated = f.unlocated; flexible = x.flexible; floats = x.floats; total = f.total; float_count = f.float_count }
 
 -- the places after a chain and its counts, and what is kept of it
-pub record Settled (p : Placed) (x : Strand) (f : Figures) (ns : List ℕ) (b : Builder) (ms : List ℕ) (q : Builder) : Type 0 where
+pub record Settled (p : Placed) (x : Strand) (f : Figures) (ns : List Placed) (b : Builder) (ms : List Placed) (q : Builder) : Type 0 where
   pub at : q.at ≡ x.at
   pub used : q.used ≡ x.used
   pub rows : q.rows ≡ x.rows
@@ -163,24 +161,24 @@ pub record ChainPushed (x : Chains) (sn : ℕ) (r : Role) (s : ℕ) (xs : Rooms)
 -- ---- a slot, and a chain that stands without an O
 
 -- the chain o of an sn, or none, stands there as r; with n atoms before its first carbon and the site k, what it adds to the builder can be kept
-pub record Fitting (x : Chains) (sn : ℕ) (r : Role) (k : Option ℕ) (n : ℕ) (ns : List ℕ) (b : Builder) (o : Option Chain) : Type 0 where
+pub record Fitting (x : Chains) (sn : ℕ) (r : Role) (k : Option ℕ) (n : ℕ) (ns : List Placed) (b : Builder) (o : Option Chain) : Type 0 where
   pub stands : StandsAt r o x sn
   pub fits : FitsChain sn r k o n b.variables.0 b.labels.0 (placed_in b ns)
 
 -- in a slot, whose O is its site
-abbrev pub InSlot : Chains → ℕ → List ℕ → Builder → Option Chain → Type 0
+abbrev pub InSlot : Chains → ℕ → List Placed → Builder → Option Chain → Type 0
 InSlot x sn ns b o = Fitting x sn Slot (some b.atoms.0) (suc b.atoms.0) ns b o
 
 -- without an O
-abbrev pub Bare : Chains → ℕ → Role → List ℕ → Builder → Option Chain → Type 0
+abbrev pub Bare : Chains → ℕ → Role → List Placed → Builder → Option Chain → Type 0
 Bare x sn r ns b o = Fitting x sn r (site_of r b.atoms.0) b.atoms.0 ns b o
 
 -- the request has such a chain for a slot, or none
-pub record SlotFits (x : Chains) (sn : ℕ) (ns : List ℕ) (b : Builder) : Type 0 where
+pub record SlotFits (x : Chains) (sn : ℕ) (ns : List Placed) (b : Builder) : Type 0 where
   pub chain : Option Chain
   pub fitting : InSlot x sn ns b chain
 
-pub record BareFits (x : Chains) (sn : ℕ) (r : Role) (ns : List ℕ) (b : Builder) : Type 0 where
+pub record BareFits (x : Chains) (sn : ℕ) (r : Role) (ns : List Placed) (b : Builder) : Type 0 where
   pub chain : Option Chain
   pub fitting : Bare x sn r ns b chain
 

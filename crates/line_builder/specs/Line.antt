@@ -27,7 +27,7 @@ unfolding notes_text labels labels_of marks_in site_lists_in sums_in
 notes_after swap ss ps numbers rows = notes_text (labels swap (labels_of ss)) (marks_in ps) (site_lists_in ps numbers rows) (sums_in ps)
 
 -- it is written at the builder's place, and all else stands as it stood
-pub record Finished (swap : Bool) (s : Sites) (numbers rows notes : List ℕ) (xs : List ℕ) (b : Builder) (ys : List ℕ) (q : Builder) : Type 0 where
+pub record Finished (swap : Bool) (s : Sites) (numbers rows : List ℕ) (notes : List Placed) (xs : List ℕ) (b : Builder) (ys : List ℕ) (q : Builder) : Type 0 where
   pub size : length ys ≡ length xs
   pub text : Written xs b.at (notes_after swap (sites_in s) (placed_in b notes) numbers rows) ys q.at
   pub used : q.used ≡ b.used

@@ -6,7 +6,7 @@
 
 ghost use Rattle.std.specs.Prelude.{◌≡◌};
 ghost use Rattle.drawn_chain.specs.drawable.Drawn.{drawn_of};
-ghost use Rattle.request_chains.specs.chain_numbers.Shapes.{chains_kept};
+ghost use Rattle.request_chains.specs.chain_shapes.Shapes.{chains_kept};
 ghost use Rattle.placement.specs.chain_strand.Strand.{Carried};
 ghost use Rattle.line_builder.specs.Build.{rooms, plus, in_labels, variables_for, Fresh, FixedPushed, FragmentPushed, placed_of, Settled, StandsSome, ChainPushed, SlotFits, SlotPushed, BareFits, BarePushed};
 ghost use Rattle.line_builder.specs.Line.{Few, Finished};
@@ -15,8 +15,8 @@ use chain_indices::Figures;
 use chain_lists::Sites;
 use chain_rules::Role;
 use drawn_chain::{MAX_CHAINS, Shape, chain_part};
-use placement::{NOTE_ROOM, Placed, Strand};
-use request_chains::{SHAPE_ROOM, shape_at};
+use placement::{Placed, Strand};
+use request_chains::shape_at;
 
 // The first ring label of a line is `%10`.
 pub const FIRST_LABEL: u32 = 10;
@@ -131,7 +131,7 @@ impl Builder {
     // room.
     fn settle(
         mut self,
-        notes: &mut [u32; NOTE_ROOM],
+        notes: &mut [Placed; MAX_CHAINS],
         sn: u8,
         role: Role,
         site: u32,
@@ -184,7 +184,7 @@ impl Builder {
         out: &mut [u8],
         index: &mut [u16],
         rows: &mut [u8],
-        notes: &mut [u32; NOTE_ROOM],
+        notes: &mut [Placed; MAX_CHAINS],
         x: Shape,
         part: &[u64],
         sn: u8,
@@ -212,9 +212,9 @@ impl Builder {
         out: &mut [u8],
         index: &mut [u16],
         rows: &mut [u8],
-        notes: &mut [u32; NOTE_ROOM],
+        notes: &mut [Placed; MAX_CHAINS],
         count: usize,
-        shapes: &[u64; SHAPE_ROOM],
+        shapes: &[Shape; MAX_CHAINS],
         lists: &[u64],
         sn: u8,
         role: Role,
@@ -247,9 +247,9 @@ impl Builder {
         out: &mut [u8],
         index: &mut [u16],
         rows: &mut [u8],
-        notes: &mut [u32; NOTE_ROOM],
+        notes: &mut [Placed; MAX_CHAINS],
         count: usize,
-        shapes: &[u64; SHAPE_ROOM],
+        shapes: &[Shape; MAX_CHAINS],
         lists: &[u64],
         sn: u8,
     ) -> Builder
@@ -279,9 +279,9 @@ impl Builder {
         out: &mut [u8],
         index: &mut [u16],
         rows: &mut [u8],
-        notes: &mut [u32; NOTE_ROOM],
+        notes: &mut [Placed; MAX_CHAINS],
         count: usize,
-        shapes: &[u64; SHAPE_ROOM],
+        shapes: &[Shape; MAX_CHAINS],
         lists: &[u64],
         sn: u8,
         role: Role,
@@ -302,7 +302,7 @@ impl Builder {
         sites: Sites,
         index: &[u16],
         rows: &[u8],
-        notes: &[u32; NOTE_ROOM],
+        notes: &[Placed; MAX_CHAINS],
     ) -> Builder
         requires { Few sites }
         ensures { Finished swap sites index.now rows.now notes.now out.old self out.new result }

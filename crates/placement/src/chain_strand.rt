@@ -48,7 +48,7 @@ fn put_heads(index: &mut [u16], at: usize, role: Role) -> usize
 }
 
 // How many they are.
-fn head_count(role: Role) -> u16
+pub fn head_count(role: Role) -> u16
     ensures { Counts 2 (head_count role) result }
 {
     match role {

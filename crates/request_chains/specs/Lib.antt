@@ -1,1 +1,1 @@
-pub mod chain_numbers
+pub mod chain_shapes

@@ -1,9 +1,9 @@
-// The chains of a request as numbers of lent arrays: how many there are at most, and what is known of each beside its lists. What is kept of
+// The chains of a request in lent arrays: how many there are at most, and what is known of each beside its lists. What is kept of
 // a chain is what is found again. Every place has an answer; past the last stands an empty chain. Nothing is refused.
 #![tactic(auto)]
 
 mod chain_count;
-pub mod chain_numbers;
+pub mod chain_shapes;
 
 pub use chain_count::in_places;
-pub use chain_numbers::{SHAPE_ROOM, keep_shape, shape_at, shape_in};
+pub use chain_shapes::{keep_shape, no_shape, shape_at, shape_in};

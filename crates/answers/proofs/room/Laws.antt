@@ -12,7 +12,7 @@ use Rattle.writer.specs.emit.Text.{after}
 use Rattle.chain_rules.proofs.chain.Lists.{or_left, or_right}
 use Rattle.chain_record.specs.plain.Chain.{Chain}
 use Rattle.drawn_chain.specs.drawable.Chains.{Chains}
-use Rattle.request_chains.specs.chain_numbers.Shapes.{chains_kept}
+use Rattle.request_chains.specs.chain_shapes.Shapes.{chains_kept}
 use Rattle.template_rules.specs.declared.Class.{Class}
 use Rattle.template_rules.specs.Written.{line_of, index_of}
 use Rattle.line_builder.specs.Build.{rooms}

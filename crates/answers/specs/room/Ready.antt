@@ -2,7 +2,7 @@
 use Rattle.std.specs.Prelude.{ℕ, ◌*◌, ◌≤◌, ◌≡◌, Bool, true, false, List, length}
 use Rattle.chain_record.specs.plain.Chain.{Chain}
 use Rattle.drawn_chain.specs.drawable.Chains.{Chains}
-use Rattle.request_chains.specs.chain_numbers.Shapes.{chains_kept}
+use Rattle.request_chains.specs.chain_shapes.Shapes.{chains_kept}
 use Rattle.template_rules.specs.declared.Class.{Class}
 use Rattle.template_rules.specs.Drawn.{placed}
 use Rattle.template_rules.specs.Written.{indices_of}

@@ -1,11 +1,12 @@
 -- Laws of the index lists.
 -- Assumes nothing.
 use Prim.Native.Nat.{ℕ, zero, suc, ◌+◌, ◌-◌, ◌*◌, ◌≤◌, ◌<◌, ◌^◌, min}
+use native.Mathlib.Numerals.{add-one}
 use native.Mathlib.Omega.{arith}
 use mathlib.Core.Path.{◌≡◌, refl, sym, ap, ap₂, ◌∙◌}
 use mathlib.Core.List.{List, [], ◌∷◌, ◌++◌, append_assoc, map}
-use lib.ListN.{length, take, drop, get_or, length-drop, length-map, drop_of_length-le, take-append-drop}
-use lib.Seq.{take_all, take-nil, take_at, drop_at, drop-drop}
+use lib.ListN.{length, take, drop, get_or, length-drop, length-take, length-map, drop_of_length-le, take-append-drop}
+use lib.Seq.{take-suc, take_all, take-nil, take_at, drop_at, drop-drop}
 use Rattle.writer.specs.emit.Text.{Written}
 use Rattle.writer.proofs.emit.Laws.{written-nil, written-append}
 use Rattle.reading_rules.proofs.reading.PartingLaws.{All}
@@ -17,36 +18,40 @@ use Rattle.placement.specs.chain_notes.Fragment.{noted, gathered, summed}
 use Rattle.placement.proofs.chain_notes.Laws.{gathered-append}
 use Rattle.chain_lists.specs.declared.rising.Rising.{Rising}
 use Rattle.chain_lists.specs.rising.Order.{picked, places_in, InOrder}
-use Rattle.chain_lists.proofs.rising.OrderLaws.{take_places, take_behind, drop_past}
+use Rattle.chain_lists.proofs.rising.OrderLaws.{take_places}
 use Rattle.chain_lists.proofs.rising.Picked.{gathered-one, picked-here, picked-past}
 use Rattle.chain_lists.proofs.rising.Sorted.{picked-sorted, take_counted}
 use Rattle.chain_lists.specs.indices.Index.{parts_of, indices_at, Starts}
 
 -- ---- where a part starts
 
--- those of the first n chains from the one at i on
-pub record SumBehind (l : List Placed) (n i sum : ℕ) : Type 0 where
-  pub is : sum ≡ summed (λ (p : Placed). p.count) (drop i (take n l))
-  pub few : sum + 65535 * i ≤ 262140
+-- those of the first i of some chains
+pub record SumTo (l : List Placed) (i sum : ℕ) : Type 0 where
+  pub is : sum ≡ summed (λ (p : Placed). p.count) (take i l)
+  pub few : sum ≤ 65535 * i
 
-pub sum-none : (l : List Placed) (n k : ℕ) → n ≡ min k 4 → SumBehind l n n 0
+summed-one : (l : List Placed) (p : Placed) → summed (λ (q : Placed). q.count) (l ++ p ∷ []) ≡ summed (λ (q : Placed). q.count) l + p.count
 unfolding summed
-sum-none l n k h = record { is = rw (drop_past l n) refl; few = omega arith }
+summed-one [] p = omega arith
+summed-one (q ∷ l) p = omega (arith, summed-one l p)
 
-pub sum_more : (l : List Placed) (n i sum : ℕ) (p d : Placed) → length l ≡ 4 → n ≤ 4 → 0 < i → i ≤ n → p ≡ get_or l (i - 1) d → p.count < 65536 → SumBehind l n i sum
-    → SumBehind l n (i - 1) (sum + p.count)
+pub sum-none : (l : List Placed) → SumTo l 0 0
 unfolding summed
-sum_more l n i sum p d k m h g e f s =
+sum-none l = record { is = refl; few = omega arith }
+
+pub sum_more : (l : List Placed) (i sum : ℕ) (d : Placed) → i < length l → (get_or l i d).count < 65536 → SumTo l i sum → SumTo l (i + 1) (sum + (get_or l i d).count)
+sum_more l i sum d h e s =
     record {
-      is = rw (take_behind l i n d h g (omega arith), ← e) (omega (arith, s.is));
+      is = rw (add-one i, take-suc l i d h, summed-one (take i l) (get_or l i d)) (omega (arith, s.is));
       few = omega (arith, s.few);
     }
 
-pub sum-all : (l : List Placed) (n i sum k : ℕ) → length l ≡ 4 → n ≡ min k 4 → i ≤ 0 → SumBehind l n i sum → Starts l k sum
-sum-all l n i sum k m e h s =
-    let z : i ≡ 0 = omega arith in
-    let all : sum ≡ summed (λ (p : Placed). p.count) (drop 0 (take n l)) = s.is ∙ ap (λ (j : ℕ). summed (λ (p : Placed). p.count) (drop j (take n l))) z in
-    record { is = all ∙ rw (take_places l 4 k n m e); few = omega (arith, s.few) }
+pub sum-all : (l : List Placed) (n i sum k : ℕ) → length l ≡ 4 → n ≡ min k 4 → i ≤ length (take n l) → length (take n l) ≤ i → SumTo (take n l) i sum → Starts l k sum
+sum-all l n i sum k m e g h s =
+    record {
+      is = s.is ∙ ap (summed (λ (p : Placed). p.count)) (take_all i (take n l) h ∙ take_places l 4 k n m e);
+      few = omega (arith, s.few, length-take n l);
+    }
 
 -- ---- a part
 
@@ -82,25 +87,26 @@ part_at (p ∷ ps) xs (suc k) d h =
     part_at ps (drop p.count xs) k d (omega arith)
     ∙ ap (take (get_or ps k d).count) (drop-drop (summed (λ (q : Placed). q.count) (take k ps)) p.count xs)
 
-module _ (ps : List Placed) (numbers l : List ℕ) (i n : ℕ) where
-  pub indices-more : {xs ys zs : List ℕ} {a b : ℕ} (p d : Placed) (from : ℕ) → length xs < 2 ^ 64 → length ps ≡ 4 → length l ≡ 4 → n ≤ 4 → i < n → get_or l i 0 < 4
-      → p ≡ get_or ps (get_or l i 0) d → Starts ps (get_or l i 0) from → Written xs 0 (indices_at ps numbers (take i l)) ys a → Written ys a (take p.count (drop from numbers)) zs b
+module _ (ps : List Placed) (numbers l : List ℕ) (i : ℕ) where
+  pub indices-more : {xs ys zs : List ℕ} {a b : ℕ} (d : Placed) (from : ℕ) → length xs < 2 ^ 64 → length ps ≡ 4 → i < length l → get_or l i 0 < 4
+      → Starts ps (get_or l i 0) from → Written xs 0 (indices_at ps numbers (take i l)) ys a → Written ys a (take (get_or ps (get_or l i 0) d).count (drop from numbers)) zs b
       → Written xs 0 (indices_at ps numbers (take (i + 1) l)) zs b
   unfolding indices_at
-  indices-more p d from g k m few h f e s u w =
-      let is : take p.count (drop from numbers) ≡ get_or (parts_of ps numbers) (get_or l i 0) [] =
-      ap₂ (λ (q : Placed) (z : ℕ). take q.count (drop z numbers)) e s.is ∙ sym (part_at ps numbers (get_or l i 0) d (omega arith)) in
-      rw (picked-here (parts_of ps numbers) l i [] (omega arith) (omega (arith, parts-length ps numbers)), gathered-append (λ (z : List ℕ). z) (picked (parts_of ps numbers) (take i l)) (get_or (parts_of ps numbers) (get_or l i 0) [] ∷ []), gathered-one (λ (z : List ℕ). z) (get_or (parts_of ps numbers) (get_or l i 0) []), ← is)
+  indices-more d from g k h f s u w =
+      let is : take (get_or ps (get_or l i 0) d).count (drop from numbers) ≡ get_or (parts_of ps numbers) (get_or l i 0) [] =
+      ap (λ (z : ℕ). take (get_or ps (get_or l i 0) d).count (drop z numbers)) s.is ∙ sym (part_at ps numbers (get_or l i 0) d (omega arith)) in
+      rw (picked-here (parts_of ps numbers) l i [] h (omega (arith, parts-length ps numbers)), gathered-append (λ (z : List ℕ). z) (picked (parts_of ps numbers) (take i l)) (get_or (parts_of ps numbers) (get_or l i 0) [] ∷ []), gathered-one (λ (z : List ℕ). z) (get_or (parts_of ps numbers) (get_or l i 0) []), ← is)
       (written-append g u w)
 
-  pub indices-past : {xs ys : List ℕ} {p : ℕ} → length ps ≡ 4 → length l ≡ 4 → n ≤ 4 → i < n → 4 ≤ get_or l i 0 → Written xs 0 (indices_at ps numbers (take i l)) ys p
+  pub indices-past : {xs ys : List ℕ} {p : ℕ} → length ps ≡ 4 → i < length l → 4 ≤ get_or l i 0 → Written xs 0 (indices_at ps numbers (take i l)) ys p
       → Written xs 0 (indices_at ps numbers (take (i + 1) l)) ys p
   unfolding indices_at
-  indices-past k m b h f u = rw (picked-past (parts_of ps numbers) l i (omega arith) (omega (arith, parts-length ps numbers))) u
+  indices-past k h f u = rw (picked-past (parts_of ps numbers) l i h (omega (arith, parts-length ps numbers))) u
 
-  pub indices-all : {xs ys : List ℕ} {p : ℕ} (count : ℕ) → length l ≡ 4 → n ≡ min count 4 → i ≤ n → n ≤ i → Written xs 0 (indices_at ps numbers (take i l)) ys p
-      → Written xs 0 (indices_at ps numbers (take count l)) ys p
-  indices-all count k e h g u = let q : i ≡ n = omega arith in rw (q, take_places l 4 count n k e) at u
+-- those of all places that count
+pub indices-all : {xs ys : List ℕ} {p : ℕ} (ps : List Placed) (numbers l : List ℕ) (i n count : ℕ) → length l ≡ 4 → n ≡ min count 4 → length (take n l) ≤ i
+    → Written xs 0 (indices_at ps numbers (take i (take n l))) ys p → Written xs 0 (indices_at ps numbers (take count l)) ys p
+indices-all ps numbers l i n count k e h u = rw (take_all i (take n l) h, take_places l 4 count n k e) at u
 
 pub indices-none : (ps : List Placed) (numbers xs : List ℕ) → Written xs 0 (indices_at ps numbers []) xs 0
 unfolding indices_at gathered picked

@@ -5,6 +5,7 @@ use native.Mathlib.Omega.{arith}
 use mathlib.Core.Path.{◌≡◌, refl, ap, ◌∙◌}
 use mathlib.Core.List.{List, [], ◌∷◌, map, map-append}
 use lib.ListN.{length, take, get_or, set, replicate}
+use lib.Seq.{take_all}
 use Rattle.reading_rules.proofs.reading.PartingLaws.{All}
 use Rattle.template_rules.specs.Drawn as request
 use Rattle.template_rules.specs.Drawn.{by_sn}
@@ -24,21 +25,24 @@ use Rattle.chain_lists.specs.listing.Lists.{no_list, list_of, list_in, lists_at}
 
 -- ---- the lists of all chains
 
-module _ (ps : List Placed) (l : List ℕ) (i n : ℕ) where
-  pub lists-more : (q : ℕ) (xs : List Listed) (p d : Placed) → length ps ≡ 4 → length l ≡ 4 → n ≤ 4 → i < n → get_or l i 0 < 4 → q ≤ i → p ≡ get_or ps (get_or l i 0) d → Filled no_list (lists_at ps (take i l)) q xs
-      → Filled no_list (lists_at ps (take (i + 1) l)) (q + 1) (set xs q (record { sn = p.sn; count = p.count }))
+module _ (ps : List Placed) (l : List ℕ) (i : ℕ) where
+  pub lists-more : (q : ℕ) (xs : List Listed) (r : Listed) (d : Placed) → length ps ≡ 4 → i < length l → get_or l i 0 < 4 → q < 4 → r ≡ list_in (get_or ps (get_or l i 0) d) → Filled no_list (lists_at ps (take i l)) q xs
+      → Filled no_list (lists_at ps (take (i + 1) l)) (q + 1) (set xs q r)
   unfolding lists_at
-  lists-more q xs p d k m b h g w e f =
-      rw (picked-here ps l i d (omega arith) (omega arith), ← e, map-append list_in (picked ps (take i l)) (p ∷ []))
-      ((added_more no_list (list_in p) q xs (omega arith)).holds (map list_in (picked ps (take i l))) f)
+  lists-more q xs r d k h g w e f =
+      let p : Placed = get_or ps (get_or l i 0) d in
+      rw (picked-here ps l i d h (omega arith), e, map-append list_in (picked ps (take i l)) (p ∷ []))
+      ((added_more no_list (list_in p) q xs w).holds (map list_in (picked ps (take i l))) f)
 
-  pub lists-past : (q : ℕ) (xs : List Listed) → length ps ≡ 4 → length l ≡ 4 → n ≤ 4 → i < n → 4 ≤ get_or l i 0 → Filled no_list (lists_at ps (take i l)) q xs
+  pub lists-past : (q : ℕ) (xs : List Listed) → length ps ≡ 4 → i < length l → 4 ≤ get_or l i 0 → Filled no_list (lists_at ps (take i l)) q xs
       → Filled no_list (lists_at ps (take (i + 1) l)) q xs
   unfolding lists_at
-  lists-past q xs k m b h g f = rw (picked-past ps l i (omega arith) (omega arith)) f
+  lists-past q xs k h g f = rw (picked-past ps l i h (omega arith)) f
 
-  pub lists-all : (q : ℕ) (xs : List Listed) (count : ℕ) → length l ≡ 4 → n ≡ min count 4 → i ≤ n → n ≤ i → Filled no_list (lists_at ps (take i l)) q xs → Filled no_list (lists_at ps (take count l)) q xs
-  lists-all q xs count k e h g f = let z : i ≡ n = omega arith in rw (z, take_places l 4 count n k e) at f
+-- those of all places that count
+pub lists-all : (ps : List Placed) (l : List ℕ) (i n q : ℕ) (xs : List Listed) (count : ℕ) → length l ≡ 4 → n ≡ min count 4 → length (take n l) ≤ i → Filled no_list (lists_at ps (take i (take n l))) q xs
+    → Filled no_list (lists_at ps (take count l)) q xs
+lists-all ps l i n q xs count k e h f = rw (take_all i (take n l) h, take_places l 4 count n k e) at f
 
 pub lists-first : (ps : List Placed) → Filled no_list (lists_at ps []) 0 (replicate 4 no_list)
 unfolding lists_at picked gathered
@@ -46,12 +50,12 @@ lists-first ps = filled_none no_list no_list
 
 -- ---- the list of one chain
 
-pub list-here : (ps : List Placed) (k : ℕ) (p d : Placed) → length ps ≡ 4 → k < 4 → p ≡ get_or ps k d
-    → Filled no_list (lists_at ps (k ∷ [])) 1 (record { sn = p.sn; count = p.count } ∷ no_list ∷ no_list ∷ no_list ∷ [])
-list-here ps k p d m h e = lists-more ps (k ∷ 0 ∷ 0 ∷ 0 ∷ []) 0 1 0 (replicate 4 no_list) p d m refl (omega arith) (omega arith) h (omega arith) e (lists-first ps)
+pub list-here : (ps : List Placed) (k : ℕ) (r : Listed) (d : Placed) → length ps ≡ 4 → k < 4 → r ≡ list_in (get_or ps k d)
+    → Filled no_list (lists_at ps (k ∷ [])) 1 (r ∷ no_list ∷ no_list ∷ no_list ∷ [])
+list-here ps k r d m h e = lists-more ps (k ∷ []) 0 0 (replicate 4 no_list) r d m (omega arith) h (omega arith) e (lists-first ps)
 
 pub list-past : (ps : List Placed) (k : ℕ) → length ps ≡ 4 → 4 ≤ k → Filled no_list (lists_at ps (k ∷ [])) 0 (replicate 4 no_list)
-list-past ps k m h = lists-past ps (k ∷ 0 ∷ 0 ∷ 0 ∷ []) 0 1 0 (replicate 4 no_list) m refl (omega arith) (omega arith) h (lists-first ps)
+list-past ps k m h = lists-past ps (k ∷ []) 0 0 (replicate 4 no_list) m (omega arith) h (lists-first ps)
 
 pub list-alone : (ps : List Placed) (l : List ℕ) (n count q : ℕ) (xs : List Listed) → length l ≡ 4 → n ≡ min count 4 → n ≡ 1 → Filled no_list (lists_at ps (get_or l 0 0 ∷ [])) q xs
     → Filled no_list (lists_at ps (take count l)) q xs
@@ -59,14 +63,10 @@ list-alone ps l n count q xs k e f h = rw (← take_places l 4 count n k e, f, f
 
 -- ---- the lists of two chains
 
-pub list-told : (p q : Placed) → p ≡ q → record { sn = p.sn; count = p.count } ≡ list_in q
-list-told p q e = rw e
-
 pub lists-here : (ps : List Placed) (a b : ℕ) (x y : Listed) (d : Placed) → length ps ≡ 4 → a < 4 → b < 4 → x ≡ list_in (get_or ps a d) → y ≡ list_in (get_or ps b d)
     → Filled no_list (lists_at ps (a ∷ b ∷ [])) 2 (x ∷ y ∷ no_list ∷ no_list ∷ [])
 lists-here ps a b x y d m h g e f =
-    let one : Filled no_list (lists_at ps (a ∷ [])) 1 (x ∷ no_list ∷ no_list ∷ no_list ∷ []) = rw e (list-here ps a (get_or ps a d) d m h refl) in
-    rw f (lists-more ps (a ∷ b ∷ 0 ∷ 0 ∷ []) 1 2 1 (x ∷ no_list ∷ no_list ∷ no_list ∷ []) (get_or ps b d) d m refl (omega arith) (omega arith) g (omega arith) refl one)
+    lists-more ps (a ∷ b ∷ []) 1 1 (x ∷ no_list ∷ no_list ∷ no_list ∷ []) y d m (omega arith) g (omega arith) f (list-here ps a x d m h e)
 
 pub lists-both : (ps : List Placed) (l : List ℕ) (n count q : ℕ) (xs : List Listed) → length l ≡ 4 → n ≡ min count 4 → n ≡ 2 → Filled no_list (lists_at ps (get_or l 0 0 ∷ get_or l 1 0 ∷ [])) q xs
     → Filled no_list (lists_at ps (take count l)) q xs

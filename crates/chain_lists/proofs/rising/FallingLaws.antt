@@ -1,17 +1,19 @@
 -- Chains whose sns fall: by rising sn the last goes first.
 -- Assumes nothing.
-use Prim.Native.Nat.{ℕ, zero, suc, ◌+◌, ◌-◌, ◌≤◌, ◌<◌, min}
+use Prim.Native.Nat.{ℕ, zero, suc, ◌+◌, ◌≤◌, ◌<◌, min}
+use native.Mathlib.Numerals.{add-one}
 use native.Mathlib.Omega.{arith}
 use native.Mathlib.Decide.{dec_le}
 use mathlib.Core.Path.{◌≡◌, refl, sym, ap, ◌∙◌}
 use mathlib.Core.Bool.{Bool, true, false, false≢true}
-use mathlib.Core.List.{List, [], ◌∷◌, ◌++◌, append_assoc}
-use lib.ListN.{length, take, drop, get_or, length-take}
+use mathlib.Core.List.{List, [], ◌∷◌, ◌++◌, append-nil, append_assoc, map-append}
+use lib.ListN.{length, take, get_or, length-take}
+use lib.Seq.{take-suc, take_all}
 use borrow.Author.Tests.{eq-eqb, ne_eqb}
 use Rattle.placement.specs.declared.chain_notes.Placed.{Placed}
 use Rattle.chain_lists.specs.declared.rising.Rising.{Rising}
 use Rattle.chain_lists.specs.rising.Order.{sns_of, places_of, places_from, Falling, Falls, from_last, InOrder}
-use Rattle.chain_lists.proofs.rising.OrderLaws.{sns-length, take_behind, drop_past, in-places}
+use Rattle.chain_lists.proofs.rising.OrderLaws.{sns-length, in-places}
 
 -- ---- the places of numbers that fall
 
@@ -80,46 +82,32 @@ falling-at m i [] f = at_none 1 1 i m [] tt (omega arith)
 falling-at m i (n ∷ ns) f =
     at_first m 1 i n ns f.2 f.1 (omega (arith, f.0)) ∙ ap (λ (l : List ℕ). l ++ (i ∷ [])) (falling-at m (suc i) ns (higher n (suc m) ns f.2 (omega (arith, f.0))))
 
--- ---- one more at a time from behind
+-- ---- one more at a time
 
-abbrev pub FallsBehind : List Placed → ℕ → ℕ → ℕ → Type 0
-FallsBehind l n i last = Falling (suc last) (sns_of (drop i (take n l)))
+-- what falls from below m on still falls behind these chains
+abbrev pub FallsOn : List Placed → ℕ → Type 0
+FallsOn ps m = (ns : List ℕ) → Falling m ns → Falling 5 (sns_of ps ++ ns)
 
-pub falls-none : (l : List Placed) (n : ℕ) → FallsBehind l n n 0
+pub falls-first : FallsOn [] 5
+unfolding sns_of
+falls-first ns f = f
+
+pub falls-more : (l : List Placed) (i m : ℕ) (d : Placed) → i < length l → (get_or l i d).sn < m → 1 ≤ (get_or l i d).sn → FallsOn (take i l) m
+    → FallsOn (take (i + 1) l) (get_or l i d).sn
 unfolding sns_of Falling
-falls-none l n = rw (drop_past l n) tt
-
-pub falls-more : (l : List Placed) (n i last : ℕ) (p d : Placed) → length l ≡ 4 → n ≤ 4 → 0 < i → i ≤ n → p ≡ get_or l (i - 1) d → last < p.sn → FallsBehind l n i last
-    → FallsBehind l n (i - 1) p.sn
-unfolding sns_of Falling
-falls-more l n i last p d k few h g e up f =
-    rw (take_behind l i n d h g (omega arith), ← e)
-    (omega arith, omega arith, higher (suc last) p.sn (sns_of (drop i (take n l))) f (omega arith))
+falls-more l i m d h up some f ns g =
+    rw (add-one i, take-suc l i d h, map-append (λ (p : Placed). p.sn) (take i l) (get_or l i d ∷ []), append_assoc (sns_of (take i l)) ((get_or l i d).sn ∷ []) ns)
+    (f ((get_or l i d).sn ∷ ns) (up, some, g))
 
 pub falls-not : (ps : List Placed) → Falls ps false
 falls-not ps = record { told = λ e. absurd (false≢true e) }
 
-pub falls-all : (l : List Placed) (n i last : ℕ) → i ≤ 0 → last ≤ 4 → FallsBehind l n i last → Falls (take n l) true
-falls-all l n i last h few f =
-    let z : i ≡ 0 = omega arith in
-    let g : Falling (suc last) (sns_of (take n l)) = rw z at f in
-    record { told = λ e. higher (suc last) 5 (sns_of (take n l)) g (omega arith) }
+pub falls-all : (l : List Placed) (i m : ℕ) → length l ≤ i → FallsOn (take i l) m → Falls l true
+unfolding Falling
+falls-all l i m h f =
+    record { told = λ t. rw (take_all i l h, append-nil (sns_of l)) at (f [] tt) }
 
 -- ---- in an array
-
-pub last-two : (n : ℕ) → n ≡ 2 → record { count = n; items = 1 ∷ 0 ∷ 0 ∷ 0 ∷ [] } ≡ from_last n
-last-two n e = rw e
-
-pub last-three : (n : ℕ) → n ≡ 3 → record { count = n; items = 2 ∷ 1 ∷ 0 ∷ 0 ∷ [] } ≡ from_last n
-last-three n e = rw e
-
-pub last-four : (n : ℕ) → n ≡ 4 → record { count = n; items = 3 ∷ 2 ∷ 1 ∷ 0 ∷ [] } ≡ from_last n
-last-four n e = rw e
-
-pub last-few : (n : ℕ) → n ≤ 4 → (n ≡ 2 → ⊥) → (n ≡ 3 → ⊥) → (n ≡ 4 → ⊥) → record { count = n; items = 0 ∷ 0 ∷ 0 ∷ 0 ∷ [] } ≡ from_last n
-last-few zero h a b c = refl
-last-few (suc zero) h a b c = refl
-last-few (suc (suc n)) h a b c = absurd (omega arith)
 
 down-items : (n : ℕ) → n ≤ 4 → take n (from_last n).items ≡ down_to 0 n
 unfolding down_to

@@ -1,15 +1,15 @@
 -- Laws of the places by rising sn.
 -- Assumes nothing.
-use Prim.Native.Nat.{ℕ, zero, suc, ◌+◌, ◌-◌, ◌≤◌, ◌<◌, min}
+use Prim.Native.Nat.{ℕ, zero, suc, ◌+◌, ◌≤◌, ◌<◌, min}
 use native.Mathlib.Nat.{add-zero, add-suc, suc-add, zero-add}
 use native.Mathlib.Numerals.{add-one}
 use native.Mathlib.Omega.{arith}
 use native.Mathlib.Decide.{dec_le}
 use mathlib.Core.Path.{◌≡◌, refl, sym, ap, ◌∙◌}
 use mathlib.Core.Bool.{Bool, true, false, cond}
-use mathlib.Core.List.{List, [], ◌∷◌, ◌++◌, append-nil}
+use mathlib.Core.List.{List, [], ◌∷◌, ◌++◌, append-nil, map-append}
 use lib.Dec.{eqb}
-use lib.ListN.{length, take, drop, get_or, set, length-append, length-take, length-map}
+use lib.ListN.{length, take, get_or, length-append, length-take, length-map}
 use lib.Seq.{take-suc, take_all, length-take-le}
 use borrow.Author.Tests.{eq-eqb, ne_eqb}
 use Rattle.placement.specs.declared.chain_notes.Placed.{Placed}
@@ -38,10 +38,6 @@ of-append sn i (n ∷ a) b = go (eqb n sn) (rw (add-suc i (length a), ← suc-ad
     go true e = ap (λ (l : List ℕ). i ∷ l) e
     go false e = e
 
-of-more : (sn : ℕ) (l : List ℕ) (i d : ℕ) → i < length l → places_of sn 0 (take (i + 1) l) ≡ places_of sn 0 (take i l) ++ places_of sn i (get_or l i d ∷ [])
-of-more sn l i d h =
-    rw (add-one i, take-suc l i d h, of-append sn 0 (take i l) (get_or l i d ∷ []), zero-add (length (take i l)), length-take-le i l (omega arith)) refl
-
 of-own : (sn i n : ℕ) → n ≡ sn → places_of sn i (n ∷ []) ≡ i ∷ []
 unfolding places_of
 of-own sn i n e = rw (eq-eqb n sn e)
@@ -50,20 +46,29 @@ of_other : (sn i n : ℕ) → (n ≡ sn → ⊥) → places_of sn i (n ∷ []) �
 unfolding places_of
 of_other sn i n e = rw (ne_eqb n sn e)
 
+pub sns-length : (l : List Placed) → length (sns_of l) ≡ length l
+unfolding sns_of
+sns-length l = length-map l (λ (p : Placed). p.sn)
+
 pub sn-none : (sn n : ℕ) (xs : List ℕ) → Added 0 (places_of sn 0 []) n xs n xs
 unfolding places_of
 sn-none sn n xs = added_none 0 n xs
 
-module _ (sn : ℕ) (l : List ℕ) (k : length l ≡ 4) (n i a b : ℕ) (few : n ≤ 4) (xs ys : List ℕ) where
-  pub sn-here : (c : ℕ) (zs : List ℕ) → i < n → get_or l i 0 ≡ sn → Added 0 (places_of sn 0 (take i l)) a xs b ys → Added 0 (i ∷ []) b ys c zs
-      → Added 0 (places_of sn 0 (take (i + 1) l)) a xs c zs
-  sn-here c zs h q u w = rw (of-more sn l i 0 (omega arith), of-own sn i (get_or l i 0) q) (added_then 0 (places_of sn 0 (take i l)) (i ∷ []) u w)
+module _ (sn : ℕ) (l : List Placed) (i a b : ℕ) (xs ys : List ℕ) where
+  sns-next : (d : Placed) → i < length l → places_of sn 0 (sns_of (take (i + 1) l)) ≡ places_of sn 0 (sns_of (take i l)) ++ places_of sn i ((get_or l i d).sn ∷ [])
+  unfolding sns_of
+  sns-next d h =
+      rw (add-one i, take-suc l i d h, map-append (λ (p : Placed). p.sn) (take i l) (get_or l i d ∷ []), of-append sn 0 (sns_of (take i l)) ((get_or l i d).sn ∷ []), zero-add (length (sns_of (take i l))), sns-length (take i l), length-take-le i l (omega arith)) refl
 
-  pub sn-other : i < n → (get_or l i 0 ≡ sn → ⊥) → Added 0 (places_of sn 0 (take i l)) a xs b ys → Added 0 (places_of sn 0 (take (i + 1) l)) a xs b ys
-  sn-other h q u = rw (of-more sn l i 0 (omega arith), of_other sn i (get_or l i 0) q, append-nil (places_of sn 0 (take i l))) u
+  pub sn-here : (d : Placed) (c : ℕ) (zs : List ℕ) → i < length l → (get_or l i d).sn ≡ sn → Added 0 (places_of sn 0 (sns_of (take i l))) a xs b ys → Added 0 (i ∷ []) b ys c zs
+      → Added 0 (places_of sn 0 (sns_of (take (i + 1) l))) a xs c zs
+  sn-here d c zs h q u w = rw (sns-next d h, of-own sn i (get_or l i d).sn q) (added_then 0 (places_of sn 0 (sns_of (take i l))) (i ∷ []) u w)
 
-  pub sn-all : i ≤ n → n ≤ i → Added 0 (places_of sn 0 (take i l)) a xs b ys → Added 0 (places_of sn 0 (take n l)) a xs b ys
-  sn-all h g u = let q : i ≡ n = omega arith in rw q at u
+  pub sn-other : (d : Placed) → i < length l → ((get_or l i d).sn ≡ sn → ⊥) → Added 0 (places_of sn 0 (sns_of (take i l))) a xs b ys → Added 0 (places_of sn 0 (sns_of (take (i + 1) l))) a xs b ys
+  sn-other d h q u = rw (sns-next d h, of_other sn i (get_or l i d).sn q, append-nil (places_of sn 0 (sns_of (take i l)))) u
+
+  pub sn-all : length l ≤ i → Added 0 (places_of sn 0 (sns_of (take i l))) a xs b ys → Added 0 (places_of sn 0 (sns_of l)) a xs b ys
+  sn-all h u = rw (take_all i l h) at u
 
 -- ---- no chain is there twice
 
@@ -88,63 +93,18 @@ from-few ns =
     rw (four-sns ns, length-append, length-append, length-append)
     (omega (arith, few-of 0 ns))
 
--- ---- the sns alone, one more at a time from behind
-
-take-here : {A : Type 0} (l : List A) (i n : ℕ) (d : A) → i < n → n ≤ length l → drop i (take n l) ≡ get_or l i d ∷ drop (suc i) (take n l)
-take-here [] i n d h g = absurd (omega arith)
-take-here (x ∷ l) i zero d h g = absurd (omega arith)
-take-here (x ∷ l) zero (suc n) d h g = refl
-take-here (x ∷ l) (suc i) (suc n) d h g = take-here l i n d (omega arith) (omega arith)
-
-pub take_behind : {A : Type 0} (l : List A) (i n : ℕ) (d : A) → 0 < i → i ≤ n → n ≤ length l → drop (i - 1) (take n l) ≡ get_or l (i - 1) d ∷ drop i (take n l)
-take_behind l i n d h g k =
-    let s : suc (i - 1) ≡ i = omega arith in
-    take-here l (i - 1) n d (omega arith) k ∙ ap (λ (j : ℕ). get_or l (i - 1) d ∷ drop j (take n l)) s
-
-set_here : (xs : List ℕ) (i n v : ℕ) → i < n → n ≤ length xs → drop i (take n (set xs i v)) ≡ v ∷ drop (suc i) (take n xs)
-set_here [] i n v h g = absurd (omega arith)
-set_here (x ∷ xs) i zero v h g = absurd (omega arith)
-set_here (x ∷ xs) zero (suc n) v h g = refl
-set_here (x ∷ xs) (suc i) (suc n) v h g = set_here xs i n v (omega arith) (omega arith)
-
-pub drop_past : {A : Type 0} (l : List A) (n : ℕ) → drop n (take n l) ≡ []
-drop_past l zero = refl
-drop_past [] (suc n) = refl
-drop_past (x ∷ l) (suc n) = drop_past l n
-
-pub behind-none : (l : List Placed) (xs : List ℕ) (n : ℕ) → drop n (take n xs) ≡ sns_of (drop n (take n l))
-unfolding sns_of
-behind-none l xs n = rw (drop_past xs n, drop_past l n) refl
-
-module _ (l : List Placed) (k : length l ≡ 4) (n i : ℕ) (few : n ≤ 4) (h : 0 < i) (g : i ≤ n) where
-  pub behind_more : (xs : List ℕ) (p d : Placed) → length xs ≡ 4 → p ≡ get_or l (i - 1) d → drop i (take n xs) ≡ sns_of (drop i (take n l))
-      → drop (i - 1) (take n (set xs (i - 1) p.sn)) ≡ sns_of (drop (i - 1) (take n l))
-  unfolding sns_of
-  behind_more xs p d m q e =
-      let s : suc (i - 1) ≡ i = omega arith in
-      let all : drop (i - 1) (take n l) ≡ p ∷ drop i (take n l) = rw q (take_behind l i n d h g (omega arith)) in
-      (set_here xs (i - 1) n p.sn (omega arith) (omega arith) ∙ ap (λ (j : ℕ). p.sn ∷ drop j (take n xs)) s)
-      ∙ (ap (λ (z : List ℕ). p.sn ∷ z) e ∙ sym (ap sns_of all))
-
-pub behind-all : (l : List Placed) (xs : List ℕ) (n i : ℕ) → i ≤ 0 → drop i (take n xs) ≡ sns_of (drop i (take n l)) → take n xs ≡ sns_of (take n l)
-behind-all l xs n i h e = let z : i ≡ 0 = omega arith in rw z at e
-
 -- ---- all of them
 
-pub sns-length : (l : List Placed) → length (sns_of l) ≡ length l
-unfolding sns_of
-sns-length l = length-map l (λ (p : Placed). p.sn)
-
-pub places-are : (l : List Placed) (n : ℕ) (sns os xs ys zs rs : List ℕ) (a b c d : ℕ) → n ≤ 4 → take n sns ≡ sns_of (take n l) → Filled 0 [] 0 os → Added 0 (places_of 1 0 (take n sns)) 0 os a xs
-    → Added 0 (places_of 2 0 (take n sns)) a xs b ys → Added 0 (places_of 3 0 (take n sns)) b ys c zs → Added 0 (places_of 4 0 (take n sns)) c zs d rs → InOrder (take n l) (record { count = d; items = rs })
-places-are l n sns os xs ys zs rs a b c d h is none s1 s2 s3 s4 =
-    let ns : List ℕ = take n sns in
+pub places-are : (l : List Placed) (os xs ys zs rs : List ℕ) (a b c d : ℕ) → length l ≤ 4 → Filled 0 [] 0 os → Added 0 (places_of 1 0 (sns_of l)) 0 os a xs
+    → Added 0 (places_of 2 0 (sns_of l)) a xs b ys → Added 0 (places_of 3 0 (sns_of l)) b ys c zs → Added 0 (places_of 4 0 (sns_of l)) c zs d rs → InOrder l (record { count = d; items = rs })
+places-are l os xs ys zs rs a b c d h none s1 s2 s3 s4 =
+    let ns : List ℕ = sns_of l in
     let s = added_then 0 (places_of 1 0 ns) (places_of 2 0 ns ++ (places_of 3 0 ns ++ places_of 4 0 ns)) s1 (added_then 0 (places_of 2 0 ns) (places_of 3 0 ns ++ places_of 4 0 ns) s2 (added_then 0 (places_of 3 0 ns) (places_of 4 0 ns) s3 s4)) in
     let f : Filled 0 (places_from 1 4 ns) d rs = rw (four-sns ns) (s.holds [] none) in
-    let few : length (places_from 1 4 ns) ≤ 4 = omega (arith, from-few ns, length-take n sns) in
+    let few : length (places_from 1 4 ns) ≤ 4 = omega (arith, from-few ns, sns-length l) in
     record {
       room = omega (arith, f.count, length-take 4 (places_from 1 4 ns));
-      held = (filled-held 0 (places_from 1 4 ns) d rs f.count f.items ∙ take_all 4 (places_from 1 4 ns) few) ∙ ap (places_from 1 4) is;
+      held = filled-held 0 (places_from 1 4 ns) d rs f.count f.items ∙ take_all 4 (places_from 1 4 ns) few;
     }
 
 pub in-places : (l : List Placed) (count n : ℕ) (r : Rising) → length l ≡ 4 → n ≡ min count 4 → InOrder (take n l) r → InOrder (take count l) r

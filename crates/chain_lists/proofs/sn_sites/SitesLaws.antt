@@ -129,32 +129,36 @@ digits-all ps = digits-gathered (picked ps (places_from 1 4 (sns_of ps))) (sns-f
 
 -- ---- the sites of all chains
 
-module _ (ps : List Placed) (l : List ℕ) (i n : ℕ) where
-  sites-added : (p d : Placed) → length ps ≡ 4 → length l ≡ 4 → n ≤ 4 → i < n → get_or l i 0 < 4 → p ≡ get_or ps (get_or l i 0) d → sites_at ps (take (i + 1) l) ≡ sites_at ps (take i l) ++ site_list p
+module _ (ps : List Placed) (l : List ℕ) (i : ℕ) where
+  sites-added : (d : Placed) → length ps ≡ 4 → i < length l → get_or l i 0 < 4 → sites_at ps (take (i + 1) l) ≡ sites_at ps (take i l) ++ site_list (get_or ps (get_or l i 0) d)
   unfolding sites_at
-  sites-added p d k m b h g e =
-      rw (picked-here ps l i d (omega arith) (omega arith), ← e, gathered-append site_list (picked ps (take i l)) (p ∷ []), gathered-one site_list p) refl
+  sites-added d k h g =
+      let p : Placed = get_or ps (get_or l i 0) d in
+      rw (picked-here ps l i d h (omega arith), gathered-append site_list (picked ps (take i l)) (p ∷ []), gathered-one site_list p) refl
 
   -- one more, which has a site
-  pub sites-more : (q : ℕ) (xs : List Site) (p d : Placed) (b : Bool) → length ps ≡ 4 → length l ≡ 4 → n ≤ 4 → i < n → get_or l i 0 < 4 → q ≤ i → p ≡ get_or ps (get_or l i 0) d
-      → Filled no_site (sites_at ps (take i l)) q xs → b ≡ has_site p.role → b ≡ true
-      → Filled no_site (sites_at ps (take (i + 1) l)) (q + 1) (set xs q (record { sn = p.sn; atom = p.site }))
-  sites-more q xs p d b k m few h g w is f e t =
-      rw (sites-added p d k m few h g is, site-own p (sym e ∙ t)) ((added_more no_site (record { sn = p.sn; atom = p.site }) q xs (omega arith)).holds (sites_at ps (take i l)) f)
+  pub sites-more : (q : ℕ) (xs : List Site) (d : Placed) (s : Site) (b : Bool) → length ps ≡ 4 → i < length l → get_or l i 0 < 4 → q < 4
+      → Filled no_site (sites_at ps (take i l)) q xs → s ≡ record { sn = (get_or ps (get_or l i 0) d).sn; atom = (get_or ps (get_or l i 0) d).site } → b ≡ has_site (get_or ps (get_or l i 0) d).role → b ≡ true
+      → Filled no_site (sites_at ps (take (i + 1) l)) (q + 1) (set xs q s)
+  sites-more q xs d s b k h g w f z e t =
+      let p : Placed = get_or ps (get_or l i 0) d in
+      rw (sites-added d k h g, site-own p (sym e ∙ t), z) ((added_more no_site (record { sn = p.sn; atom = p.site }) q xs w).holds (sites_at ps (take i l)) f)
 
   -- one more, which has none
-  pub sites-base : (q : ℕ) (xs : List Site) (p d : Placed) (b : Bool) → length ps ≡ 4 → length l ≡ 4 → n ≤ 4 → i < n → get_or l i 0 < 4 → p ≡ get_or ps (get_or l i 0) d
-      → Filled no_site (sites_at ps (take i l)) q xs → b ≡ has_site p.role → b ≡ false → Filled no_site (sites_at ps (take (i + 1) l)) q xs
-  sites-base q xs p d b k m few h g is f e t =
-      rw (sites-added p d k m few h g is, site-none p (sym e ∙ t), append-nil (sites_at ps (take i l))) f
+  pub sites-base : (q : ℕ) (xs : List Site) (d : Placed) (b : Bool) → length ps ≡ 4 → i < length l → get_or l i 0 < 4
+      → Filled no_site (sites_at ps (take i l)) q xs → b ≡ has_site (get_or ps (get_or l i 0) d).role → b ≡ false → Filled no_site (sites_at ps (take (i + 1) l)) q xs
+  sites-base q xs d b k h g f e t =
+      rw (sites-added d k h g, site-none (get_or ps (get_or l i 0) d) (sym e ∙ t), append-nil (sites_at ps (take i l))) f
 
-  pub sites-past : (q : ℕ) (xs : List Site) → length ps ≡ 4 → length l ≡ 4 → n ≤ 4 → i < n → 4 ≤ get_or l i 0 → Filled no_site (sites_at ps (take i l)) q xs
+  pub sites-past : (q : ℕ) (xs : List Site) → length ps ≡ 4 → i < length l → 4 ≤ get_or l i 0 → Filled no_site (sites_at ps (take i l)) q xs
       → Filled no_site (sites_at ps (take (i + 1) l)) q xs
   unfolding sites_at
-  sites-past q xs k m b h g f = rw (picked-past ps l i (omega arith) (omega arith)) f
+  sites-past q xs k h g f = rw (picked-past ps l i h (omega arith)) f
 
-  pub sites-all : (q : ℕ) (xs : List Site) (count : ℕ) → length l ≡ 4 → n ≡ min count 4 → i ≤ n → n ≤ i → Filled no_site (sites_at ps (take i l)) q xs → Filled no_site (sites_at ps (take count l)) q xs
-  sites-all q xs count k e h g f = let z : i ≡ n = omega arith in rw (z, take_places l 4 count n k e) at f
+-- those of all places that count
+pub sites-all : (ps : List Placed) (l : List ℕ) (i n q : ℕ) (xs : List Site) (count : ℕ) → length l ≡ 4 → n ≡ min count 4 → length (take n l) ≤ i → Filled no_site (sites_at ps (take i (take n l))) q xs
+    → Filled no_site (sites_at ps (take count l)) q xs
+sites-all ps l i n q xs count k e h f = rw (take_all i (take n l) h, take_places l 4 count n k e) at f
 
 pub sites-first : (ps : List Placed) → Filled no_site (sites_at ps []) 0 (replicate 4 no_site)
 unfolding sites_at gathered picked
@@ -163,16 +167,15 @@ sites-first ps = filled_none no_site no_site
 -- ---- the site of one chain
 
 module _ (ps : List Placed) (k : ℕ) where
-  pub site-here : (p d : Placed) (s : Site) (b : Bool) → length ps ≡ 4 → k < 4 → p ≡ get_or ps k d → s ≡ record { sn = p.sn; atom = p.site } → b ≡ has_site p.role → b ≡ true
+  pub site-here : (d : Placed) (s : Site) (b : Bool) → length ps ≡ 4 → k < 4 → s ≡ record { sn = (get_or ps k d).sn; atom = (get_or ps k d).site } → b ≡ has_site (get_or ps k d).role → b ≡ true
       → Filled no_site (sites_at ps (k ∷ [])) 1 (s ∷ no_site ∷ no_site ∷ no_site ∷ [])
-  site-here p d s b m h e z f g =
-      rw z (sites-more ps (k ∷ 0 ∷ 0 ∷ 0 ∷ []) 0 1 0 (replicate 4 no_site) p d b m refl (omega arith) (omega arith) h (omega arith) e (sites-first ps) f g)
+  site-here d s b m h z f g = sites-more ps (k ∷ []) 0 0 (replicate 4 no_site) d s b m (omega arith) h (omega arith) (sites-first ps) z f g
 
-  pub site-lacks : (p d : Placed) (b : Bool) → length ps ≡ 4 → k < 4 → p ≡ get_or ps k d → b ≡ has_site p.role → b ≡ false → Filled no_site (sites_at ps (k ∷ [])) 0 (replicate 4 no_site)
-  site-lacks p d b m h e f g = sites-base ps (k ∷ 0 ∷ 0 ∷ 0 ∷ []) 0 1 0 (replicate 4 no_site) p d b m refl (omega arith) (omega arith) h e (sites-first ps) f g
+  pub site-lacks : (d : Placed) (b : Bool) → length ps ≡ 4 → k < 4 → b ≡ has_site (get_or ps k d).role → b ≡ false → Filled no_site (sites_at ps (k ∷ [])) 0 (replicate 4 no_site)
+  site-lacks d b m h f g = sites-base ps (k ∷ []) 0 0 (replicate 4 no_site) d b m (omega arith) h (sites-first ps) f g
 
   pub site-past : length ps ≡ 4 → 4 ≤ k → Filled no_site (sites_at ps (k ∷ [])) 0 (replicate 4 no_site)
-  site-past m h = sites-past ps (k ∷ 0 ∷ 0 ∷ 0 ∷ []) 0 1 0 (replicate 4 no_site) m refl (omega arith) (omega arith) h (sites-first ps)
+  site-past m h = sites-past ps (k ∷ []) 0 0 (replicate 4 no_site) m (omega arith) h (sites-first ps)
 
 pub site-alone : (ps : List Placed) (l : List ℕ) (n count q : ℕ) (xs : List Site) → length l ≡ 4 → n ≡ min count 4 → n ≡ 1 → Filled no_site (sites_at ps (get_or l 0 0 ∷ [])) q xs
     → Filled no_site (sites_at ps (take count l)) q xs
@@ -180,26 +183,26 @@ site-alone ps l n count q xs k e f h = rw (← take_places l 4 count n k e, f, f
 
 -- ---- the sites of two chains
 
-module _ (ps : List Placed) (a b : ℕ) (p q d : Placed) (u v : Bool) where
-  pub sites-both : (s t : Site) → length ps ≡ 4 → a < 4 → b < 4 → p ≡ get_or ps a d → q ≡ get_or ps b d → s ≡ record { sn = p.sn; atom = p.site } → t ≡ record { sn = q.sn; atom = q.site }
-      → u ≡ has_site p.role → v ≡ has_site q.role → u ≡ true → v ≡ true → Filled no_site (sites_at ps (a ∷ b ∷ [])) 2 (s ∷ t ∷ no_site ∷ no_site ∷ [])
-  sites-both s t m h g e f x y i j k l =
-      rw y (sites-more ps (a ∷ b ∷ 0 ∷ 0 ∷ []) 1 2 1 (s ∷ no_site ∷ no_site ∷ no_site ∷ []) q d v m refl (omega arith) (omega arith) g (omega arith) f (site-here ps a p d s u m h e x i k) j l)
+module _ (ps : List Placed) (a b : ℕ) (d : Placed) (u v : Bool) where
+  pub sites-both : (s t : Site) → length ps ≡ 4 → a < 4 → b < 4 → s ≡ record { sn = (get_or ps a d).sn; atom = (get_or ps a d).site } → t ≡ record { sn = (get_or ps b d).sn; atom = (get_or ps b d).site }
+      → u ≡ has_site (get_or ps a d).role → v ≡ has_site (get_or ps b d).role → u ≡ true → v ≡ true → Filled no_site (sites_at ps (a ∷ b ∷ [])) 2 (s ∷ t ∷ no_site ∷ no_site ∷ [])
+  sites-both s t m h g x y i j k l =
+      sites-more ps (a ∷ b ∷ []) 1 1 (s ∷ no_site ∷ no_site ∷ no_site ∷ []) d t v m (omega arith) g (omega arith) (site-here ps a d s u m h x i k) y j l
 
-  pub sites-lower : (s : Site) → length ps ≡ 4 → a < 4 → b < 4 → p ≡ get_or ps a d → q ≡ get_or ps b d → s ≡ record { sn = p.sn; atom = p.site }
-      → u ≡ has_site p.role → v ≡ has_site q.role → u ≡ true → v ≡ false → Filled no_site (sites_at ps (a ∷ b ∷ [])) 1 (s ∷ no_site ∷ no_site ∷ no_site ∷ [])
-  sites-lower s m h g e f x i j k l =
-      sites-base ps (a ∷ b ∷ 0 ∷ 0 ∷ []) 1 2 1 (s ∷ no_site ∷ no_site ∷ no_site ∷ []) q d v m refl (omega arith) (omega arith) g f (site-here ps a p d s u m h e x i k) j l
+  pub sites-lower : (s : Site) → length ps ≡ 4 → a < 4 → b < 4 → s ≡ record { sn = (get_or ps a d).sn; atom = (get_or ps a d).site }
+      → u ≡ has_site (get_or ps a d).role → v ≡ has_site (get_or ps b d).role → u ≡ true → v ≡ false → Filled no_site (sites_at ps (a ∷ b ∷ [])) 1 (s ∷ no_site ∷ no_site ∷ no_site ∷ [])
+  sites-lower s m h g x i j k l =
+      sites-base ps (a ∷ b ∷ []) 1 1 (s ∷ no_site ∷ no_site ∷ no_site ∷ []) d v m (omega arith) g (site-here ps a d s u m h x i k) j l
 
-  pub sites-upper : (t : Site) → length ps ≡ 4 → a < 4 → b < 4 → p ≡ get_or ps a d → q ≡ get_or ps b d → t ≡ record { sn = q.sn; atom = q.site }
-      → u ≡ has_site p.role → v ≡ has_site q.role → u ≡ false → v ≡ true → Filled no_site (sites_at ps (a ∷ b ∷ [])) 1 (t ∷ no_site ∷ no_site ∷ no_site ∷ [])
-  sites-upper t m h g e f y i j k l =
-      rw y (sites-more ps (a ∷ b ∷ 0 ∷ 0 ∷ []) 1 2 0 (replicate 4 no_site) q d v m refl (omega arith) (omega arith) g (omega arith) f (site-lacks ps a p d u m h e i k) j l)
+  pub sites-upper : (t : Site) → length ps ≡ 4 → a < 4 → b < 4 → t ≡ record { sn = (get_or ps b d).sn; atom = (get_or ps b d).site }
+      → u ≡ has_site (get_or ps a d).role → v ≡ has_site (get_or ps b d).role → u ≡ false → v ≡ true → Filled no_site (sites_at ps (a ∷ b ∷ [])) 1 (t ∷ no_site ∷ no_site ∷ no_site ∷ [])
+  sites-upper t m h g y i j k l =
+      sites-more ps (a ∷ b ∷ []) 1 0 (replicate 4 no_site) d t v m (omega arith) g (omega arith) (site-lacks ps a d u m h i k) y j l
 
-  pub sites-neither : length ps ≡ 4 → a < 4 → b < 4 → p ≡ get_or ps a d → q ≡ get_or ps b d
-      → u ≡ has_site p.role → v ≡ has_site q.role → u ≡ false → v ≡ false → Filled no_site (sites_at ps (a ∷ b ∷ [])) 0 (replicate 4 no_site)
-  sites-neither m h g e f i j k l =
-      sites-base ps (a ∷ b ∷ 0 ∷ 0 ∷ []) 1 2 0 (replicate 4 no_site) q d v m refl (omega arith) (omega arith) g f (site-lacks ps a p d u m h e i k) j l
+  pub sites-neither : length ps ≡ 4 → a < 4 → b < 4
+      → u ≡ has_site (get_or ps a d).role → v ≡ has_site (get_or ps b d).role → u ≡ false → v ≡ false → Filled no_site (sites_at ps (a ∷ b ∷ [])) 0 (replicate 4 no_site)
+  sites-neither m h g i j k l =
+      sites-base ps (a ∷ b ∷ []) 1 0 (replicate 4 no_site) d v m (omega arith) g (site-lacks ps a d u m h i k) j l
 
 pub sites-pair : (ps : List Placed) (l : List ℕ) (n count q : ℕ) (xs : List Site) → length l ≡ 4 → n ≡ min count 4 → n ≡ 2 → Filled no_site (sites_at ps (get_or l 0 0 ∷ get_or l 1 0 ∷ [])) q xs
     → Filled no_site (sites_at ps (take count l)) q xs

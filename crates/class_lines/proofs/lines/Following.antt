@@ -19,7 +19,6 @@ use Rattle.template_rules.specs.Written.{indices_of, text_of, line_of}
 use Rattle.chain_rules.specs.chain.Lists.{Each}
 use Rattle.placement.specs.declared.chain_notes.Placed.{Placed}
 use Rattle.placement.specs.chain_notes.Fragment.{noted, rows_of, gathered, Told}
-use Rattle.placement.specs.chain_notes.Notes.{chains_in}
 use Rattle.placement.proofs.chain_notes.Laws.{index-lists}
 use Rattle.chain_lists.specs.declared.sn_sites.Sites.{Sites}
 use Rattle.chain_lists.specs.listing.Sites.{sites_at, SitesHeld, all_site_list, SitesAre}
@@ -73,8 +72,8 @@ line-is c swap t ds s numbers rows n m h w e f =
     (line-noted (text_of c t ds) (labels swap (sn_sites (by_sn (placed c t ds)))) (all_marks (placed c t ds)) (all_sites (placed c t ds)) (all_sums (placed c t ds)) (marked-sums (placed c t ds)))
 
 -- THE LINE of a class: its text, and what follows it
-pub line-built : {c : Class} {swap : Bool} {t : List ℕ} {k : ℕ} {x : Chains} {xs ys zs is js rs ss ns ms : List ℕ} {b q : Builder} {o : Rising} {s : Sites} → Short (rooms xs is rs ns)
-    → ClassBuilt c t k x (rooms xs is rs ns) (rooms ys js ss ms) b → InOrder (take b.count (chains_in ms)) o → SitesHeld (sites_at (chains_in ms) (places_in o)) s
+pub line-built : {c : Class} {swap : Bool} {t : List ℕ} {k : ℕ} {x : Chains} {xs ys zs is js rs ss : List ℕ} {ns ms : List Placed} {b q : Builder} {o : Rising} {s : Sites} → Short (rooms xs is rs ns)
+    → ClassBuilt c t k x (rooms xs is rs ns) (rooms ys js ss ms) b → InOrder (take b.count ms) o → SitesHeld (sites_at ms (places_in o)) s
     → Finished swap s js ss ms ys b zs q → LineBuilt c swap t k x (rooms xs is rs ns) (rooms zs js ss ms) (record { at = q.at; used = q.used; count = q.count; order = o; sites = s })
 unfolding placed text_of placed_in
 line-built {c} {swap} {t} {k} {x} {xs} {ys} {zs} {is} {js} {rs} {ss} {ns} {ms} {b} {q} {o} {s} g w i h f =
@@ -85,8 +84,8 @@ line-built {c} {swap} {t} {k} {x} {xs} {ys} {zs} {is} {js} {rs} {ss} {ns} {ms} {
       line = line;
     }
   where
-    sited : SitesAre (all_site_list (take b.count (chains_in ms))) s
-    sited = sites-in-order (chains_in ms) b.count o s i h
+    sited : SitesAre (all_site_list (take b.count ms)) s
+    sited = sites-in-order ms b.count o s i h
 
     line : (ds : List Chain) → Writes c t k x (rooms xs is rs ns) ds → LineIs c swap t ds (rooms xs is rs ns) (rooms zs js ss ms) (record { at = q.at; used = q.used; count = q.count; order = o; sites = s })
     line ds m =
@@ -96,7 +95,7 @@ line-built {c} {swap} {t} {k} {x} {xs} {ys} {zs} {is} {js} {rs} {ss} {ns} {ms} {
         let n : b.used ≡ length (gathered indices_of (placed c t ds)) = omega (arith, own.next, m.room.index, g.index) in
         let front : take (length (gathered indices_of (placed c t ds))) js ≡ gathered indices_of (placed c t ds) = written-front own m.room.index in
         let behind : take (length (gathered rows_of (placed c t ds))) ss ≡ gathered rows_of (placed c t ds) = written-front u.rows m.room.rows in
-        let there : take b.count (chains_in ms) ≡ map noted (placed c t ds) = u.counts.placed in
+        let there : take b.count ms ≡ map noted (placed c t ds) = u.counts.placed in
         let after : Written ys b.at (notes_after swap (sites_in s) (map noted (placed c t ds)) js ss) zs q.at = rw there at f.text in
         let z = line-is c swap t ds s js ss (length (gathered indices_of (placed c t ds))) (length (gathered rows_of (placed c t ds))) p (rw there at sited) front behind in
         record {

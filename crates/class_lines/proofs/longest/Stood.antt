@@ -8,6 +8,7 @@ use mathlib.Core.Option.{Option, none, some}
 use mathlib.Core.List.{List, [], ◌∷◌}
 use lib.ListN.{length, take, drop, get_or, length-take, length-map}
 use borrow.Author.Tests.{not-false}
+use Rattle.std.proofs.lemmas.List.{get_or_past}
 use Rattle.chain_record.specs.plain.Chain.{Chain}
 use Rattle.chain_record.specs.codes.Codes.{group_in, ring_in}
 use Rattle.reading_rules.proofs.reading.Part.{none≢some}
@@ -19,15 +20,14 @@ use Rattle.chain_rules.specs.chain.Features.{groups_on, floating}
 use Rattle.drawn_chain.specs.declared.drawable.Shape.{Shape}
 use Rattle.drawn_chain.specs.drawable.Drawn.{Drawn, drawn_of, groups_in, rings_in, groups_part, floats_part, rings_part}
 use Rattle.drawn_chain.specs.drawable.Chains.{drawn_in, items_of}
-use Rattle.request_chains.specs.chain_numbers.Shapes.{no_shape, shapes_in, chains_kept}
-use Rattle.request_chains.proofs.chain_numbers.Laws.{shape-past}
+use Rattle.request_chains.specs.chain_shapes.Shapes.{no_shape, chains_kept}
 use Rattle.template_rules.specs.declared.Class.{Class}
 use Rattle.template_rules.specs.Template.{Element, fixed, tail, slot, chain, elements, role_of, has_tail}
 use Rattle.template_rules.specs.Drawn.{chain_at, nonempty, fixed_pieces, tail_part, atoms_of_pieces, site_of, place, atoms_after, variables_after, placed_from, placed}
 use Rattle.template_rules.specs.Written.{line_of}
 use Rattle.chain_rules.specs.chain.Lists.{Each}
 use Rattle.placement.specs.chain_notes.Fragment as fragment
-use Rattle.request_chains.specs.chain_numbers.Sn.{drawn_at, IsDrawn}
+use Rattle.request_chains.specs.chain_shapes.Sn.{drawn_at, IsDrawn}
 use Rattle.placement.specs.chain_notes.Fragment.{Carries, Stood}
 use Rattle.class_templates.specs.Templates.{TailOf}
 use Rattle.class_templates.specs.Classes.{StoodIn}
@@ -100,29 +100,29 @@ picked (x ∷ xs) (suc n) (suc i) l = go (drawn_at (suc i) (take n (items_of xs 
     go (some y) h = (omega (arith, h.0), h.1)
 
 -- a chain with carbons has a place among those that count, and its numbers there
-record Numbered (ns : List ℕ) (count i : ℕ) (r : Role) (d : Chain) : Type 0 where
+record Numbered (ns : List Shape) (count i : ℕ) (r : Role) (d : Chain) : Type 0 where
   counted : i < count
   modest : Modest r d
-  covered : chain_most r d ≤ shape_most (get_or (shapes_in ns) i no_shape)
-  carbon : d.carbon ≡ (get_or (shapes_in ns) i no_shape).carbon
+  covered : chain_most r d ≤ shape_most (get_or ns i no_shape)
+  carbon : d.carbon ≡ (get_or ns i no_shape).carbon
 
-module _ (ρ : ℕ → Role) (ds : List Chain) (count : ℕ) (ns l : List ℕ) (h : Stood ρ ds (chains_kept count ns l)) where
+module _ (ρ : ℕ → Role) (ds : List Chain) (count : ℕ) (ns : List Shape) (l : List ℕ) (h : Stood ρ ds (chains_kept count ns l)) where
   told : (i : ℕ) (d : Chain) → nonempty (suc i) ds ≡ some d → Numbered ns count i (ρ (suc i)) d
   unfolding drawn_in
-  told i d e = go (drawn_at (suc i) (take count (items_of (shapes_in ns) l))) refl (picked (shapes_in ns) count i l)
+  told i d e = go (drawn_at (suc i) (take count (items_of ns l))) refl (picked ns count i l)
     where
       r : Role
       r = ρ (suc i)
 
-      carried : (y : Drawn) → IsDrawn (drawn_at (suc i) (take count (items_of (shapes_in ns) l))) y → Carries r d y
+      carried : (y : Drawn) → IsDrawn (drawn_at (suc i) (take count (items_of ns l))) y → Carries r d y
       carried y g = let z = h.stands (suc i) y (record { is = g }) in rw e at z
 
-      go : (o : Option Drawn) → drawn_at (suc i) (take count (items_of (shapes_in ns) l)) ≡ o → Picked (shapes_in ns) count i o → Numbered ns count i r d
+      go : (o : Option Drawn) → drawn_at (suc i) (take count (items_of ns l)) ≡ o → Picked ns count i o → Numbered ns count i r d
       go none q p =
           let z : Carries r d (drawn_of no_shape []) = carried (drawn_of no_shape []) (rw q refl) in
           absurd (omega (arith, z.some, z.draws.carbon))
       go (some y) q p =
-          let x = get_or (shapes_in ns) i no_shape in
+          let x = get_or ns i no_shape in
           let z : Carries r d (drawn_of x p.1.0) = carried (drawn_of x p.1.0) (rw q (sym p.1.1)) in
           record { counted = p.0; modest = modest r d x p.1.0 z; covered = chain-covered r d x p.1.0 z; carbon = sym z.draws.carbon }
 
@@ -143,7 +143,7 @@ module _ (ρ : ℕ → Role) (ds : List Chain) (count : ℕ) (ns l : List ℕ) (
 -- ---- what the functions answer
 
 -- a number no less than what the shape at a place adds, if it counts
-shape-covered : (count i r : ℕ) (ns : List ℕ) → r ≤ 30000000 → (i < count → shape_most (get_or (shapes_in ns) i no_shape) ≤ r) → ChainCovered count ns i r
+shape-covered : (count i r : ℕ) (ns : List Shape) → r ≤ 30000000 → (i < count → shape_most (get_or ns i no_shape) ≤ r) → ChainCovered count ns i r
 shape-covered count i r ns f g = record { few = f; covers = λ ρ ds l h. go ρ ds l h (nonempty (suc i) ds) refl }
   where
     go : (ρ : ℕ → Role) (ds : List Chain) (l : List ℕ) → Stood ρ ds (chains_kept count ns l) → (o : Option Chain) → nonempty (suc i) ds ≡ o → chain_most_of (ρ (suc i)) o ≤ r
@@ -151,15 +151,15 @@ shape-covered count i r ns f g = record { few = f; covers = λ ρ ds l h. go ρ 
     go ρ ds l h (some d) q = let z = told ρ ds count ns l h i d q in omega (arith, z.covered, g z.counted)
 
 -- past the chains that count
-pub past-covered : (count i : ℕ) (ns : List ℕ) → count ≤ i → ChainCovered count ns i 0
+pub past-covered : (count i : ℕ) (ns : List Shape) → count ≤ i → ChainCovered count ns i 0
 past-covered count i ns g = shape-covered count i 0 ns (omega arith) (λ h. absurd (omega (arith, g, h)))
 
 -- one that counts
-pub there-covered : (count i r : ℕ) (ns : List ℕ) (x : Shape) → x ≡ get_or (shapes_in ns) i no_shape → r ≡ shape_most x → r ≤ 30000000 → ChainCovered count ns i r
+pub there-covered : (count i r : ℕ) (ns : List Shape) (x : Shape) → x ≡ get_or ns i no_shape → r ≡ shape_most x → r ≤ 30000000 → ChainCovered count ns i r
 there-covered count i r ns x e f g = shape-covered count i r ns g (λ h. rw (f, e) (omega arith))
 
 -- THE LINE
-pub line-covered : (t : List ℕ) (k count : ℕ) (ns : List ℕ) (a b c d : ℕ) → ChainCovered count ns 0 a → ChainCovered count ns 1 b → ChainCovered count ns 2 c → ChainCovered count ns 3 d
+pub line-covered : (t : List ℕ) (k count : ℕ) (ns : List Shape) (a b c d : ℕ) → ChainCovered count ns 0 a → ChainCovered count ns 1 b → ChainCovered count ns 2 c → ChainCovered count ns 3 d
     → Covered t k count ns (120 + length t + k + (a + b + c + d))
 unfolding line_most most_at
 line-covered t k count ns a b c d p q r s = record { covers = go }
@@ -179,24 +179,24 @@ line-covered t k count ns a b c d p q r s = record { covers = go }
 -- ---- chains of which none is long
 
 -- one past those that count
-pub past-slight : (m count i : ℕ) (ns : List ℕ) → count ≤ i → SlightAt m count ns i
+pub past-slight : (m count i : ℕ) (ns : List Shape) → count ≤ i → SlightAt m count ns i
 past-slight m count i ns g = λ h. absurd (omega arith)
 
 -- one that counts
-pub there-slight : (m count i : ℕ) (ns : List ℕ) (x : Shape) → x ≡ get_or (shapes_in ns) i no_shape → x.carbon ≤ m → x.unlocated ≤ m → SlightAt m count ns i
+pub there-slight : (m count i : ℕ) (ns : List Shape) (x : Shape) → x ≡ get_or ns i no_shape → x.carbon ≤ m → x.unlocated ≤ m → SlightAt m count ns i
 there-slight m count i ns x e a b = λ h. rw (← e) (record { carbons = a; bonds = b })
 
 -- all four places
-pub slight : {m count : ℕ} {ns : List ℕ} {a b c d : Bool} → (a ≡ true → SlightAt m count ns 0) → not a ≡ false → (b ≡ true → SlightAt m count ns 1) → not b ≡ false
+pub slight : {m count : ℕ} {ns : List Shape} {a b c d : Bool} → length ns ≡ 4 → (a ≡ true → SlightAt m count ns 0) → not a ≡ false → (b ≡ true → SlightAt m count ns 1) → not b ≡ false
     → (c ≡ true → SlightAt m count ns 2) → not c ≡ false → (d ≡ true → SlightAt m count ns 3) → not d ≡ false → Slight m count ns
-slight {m} {count} {ns} {a} {b} {c} {d} p q r s t u v w = record { all = go }
+slight {m} {count} {ns} {a} {b} {c} {d} size p q r s t u v w = record { all = go }
   where
     go : (i : ℕ) → SlightAt m count ns i
     go zero = p (not-false a q)
     go (suc zero) = r (not-false b s)
     go (suc (suc zero)) = t (not-false c u)
     go (suc (suc (suc zero))) = v (not-false d w)
-    go (suc (suc (suc (suc i)))) = λ h. rw (← shape-past ns (suc (suc (suc (suc i)))) no_shape (omega arith) refl) (record { carbons = omega arith; bonds = omega arith })
+    go (suc (suc (suc (suc i)))) = λ h. rw (get_or_past ns (suc (suc (suc (suc i)))) no_shape (omega (arith, size))) (record { carbons = omega arith; bonds = omega arith })
 
 -- what one adds to a line
 slight-numbers : (c u f : ℕ) → c ≤ 30 → u ≤ 30 → f ≤ 18 → numbers_most c u 18 f 8 ≤ 12672
@@ -207,8 +207,8 @@ slight-shape : (x : Shape) → SlightShape 30 x → shape_most x ≤ 12672
 unfolding shape_most
 slight-shape x h = slight-numbers x.carbon x.unlocated (min x.float_count 18) h.carbons h.bonds (omega arith)
 
-slight-chain : (count i : ℕ) (ns : List ℕ) → SlightAt 30 count ns i → ChainCovered count ns i 12672
-slight-chain count i ns g = shape-covered count i 12672 ns (omega arith) (λ h. slight-shape (get_or (shapes_in ns) i no_shape) (g h))
+slight-chain : (count i : ℕ) (ns : List Shape) → SlightAt 30 count ns i → ChainCovered count ns i 12672
+slight-chain count i ns g = shape-covered count i 12672 ns (omega arith) (λ h. slight-shape (get_or ns i no_shape) (g h))
 
 -- a line of four of them
 pub slight-covered : (t : List ℕ) (k : ℕ) → SlightCovered 30 t k (120 + length t + k + 50688)
@@ -239,7 +239,7 @@ slight-from m t ds h n v (chain sn r ∷ es) =
     all_append (λ p. p.chain.carbon ≤ m) (place sn r (site_of r n) n v (nonempty sn ds)) _ (slight-place m sn r (site_of r n) n v (nonempty sn ds) (h sn))
     (slight-from m t ds h (atoms_after r n (nonempty sn ds)) (variables_after v (nonempty sn ds)) es)
 
-pub slight-placed : (m : ℕ) (c : Class) (t : List ℕ) (ds : List Chain) (count : ℕ) (ns l : List ℕ) → StoodIn c ds (chains_kept count ns l) → Slight m count ns
+pub slight-placed : (m : ℕ) (c : Class) (t : List ℕ) (ds : List Chain) (count : ℕ) (ns : List Shape) (l : List ℕ) → StoodIn c ds (chains_kept count ns l) → Slight m count ns
     → All (λ p. p.chain.carbon ≤ m) (placed c t ds)
 unfolding placed
 slight-placed m c t ds count ns l h g = slight-from m t ds (all-slight (role_of c) ds count ns l h m g) 0 0 (elements c)

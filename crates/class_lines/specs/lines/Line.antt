@@ -9,7 +9,6 @@ use Rattle.template_rules.specs.Drawn.{placed}
 use Rattle.template_rules.specs.Written.{indices_of, line_of}
 use Rattle.chain_rules.specs.chain.Lists.{Each}
 use Rattle.placement.specs.declared.chain_notes.Placed.{Placed}
-use Rattle.placement.specs.chain_notes.Notes.{chains_in}
 use Rattle.placement.specs.chain_notes.Fragment.{noted, rows_of, gathered, Told}
 use Rattle.chain_lists.specs.listing.Order.{InOrder}
 use Rattle.chain_lists.specs.listing.Sites.{all_site_list, SitesAre}
@@ -18,8 +17,8 @@ use Rattle.class_templates.specs.Classes.{InClass}
 use Rattle.class_lines.specs.declared.lines.Line.{Line}
 
 -- the chains of a line, in the order of the text, by what is noted of them
-abbrev pub chains_of : Line → List ℕ → List Placed
-chains_of r ns = take r.count (chains_in ns)
+abbrev pub chains_of : Line → List Placed → List Placed
+chains_of r ns = take r.count ns
 
 -- there is room for the indices and rows of some chains
 pub record Roomy (ps : List request.Placed) (xs : Rooms) : Type 0 where

@@ -17,9 +17,7 @@ use Rattle.line_parts.specs.declared.shown.Site.{Site}
 use Rattle.line_parts.specs.shown.Chained.{shown, still_first, blocks_end}
 use Rattle.line_parts.specs.shown.Notes.{labels_of, sum_list}
 use Rattle.placement.specs.declared.chain_notes.Placed.{Placed}
-use Rattle.placement.specs.chain_notes.Notes.{chains_in, nowhere}
 use Rattle.placement.specs.chain_notes.Fragment.{gathered}
-use Rattle.placement.proofs.chain_notes.Notes.{length-chains}
 use Rattle.line_blocks.specs.declared.chain_marks.Next.{Next}
 use Rattle.line_blocks.specs.chain_marks.Put.{start_at, PutBlocks, PutParts}
 use Rattle.line_blocks.specs.chain_marks.Marks.{marks_of, sums_of, marks_in, sums_in}
@@ -35,17 +33,14 @@ unfolding Bare
 bare-snoc [] p h e f = (e, f, tt)
 bare-snoc (q ∷ ps) p h e f = (h.0, h.1, bare-snoc ps p h.2 e f)
 
-pub bare-more : (ns : List ℕ) (i n : ℕ) (p : Placed) → i < n → n ≤ 4 → p ≡ get_or (chains_in ns) i nowhere → p.unlocated ≤ 0 → p.float_count ≤ 0
-    → Bare (take i (chains_in ns)) → Bare (take (i + 1) (chains_in ns))
-bare-more ns i n p h k e f g b =
-    let next : take (i + 1) (chains_in ns) ≡ take i (chains_in ns) ++ (p ∷ []) = rw (add-one i, e) (take-suc (chains_in ns) i nowhere (omega (arith, length-chains ns))) in
-    rw next (bare-snoc (take i (chains_in ns)) p b (omega arith) (omega arith))
+pub bare-more : (l : List Placed) (i : ℕ) (d : Placed) → i < length l → (get_or l i d).unlocated ≤ 0 → (get_or l i d).float_count ≤ 0 → Bare (take i l) → Bare (take (i + 1) l)
+bare-more l i d h f g b = rw (add-one i, take-suc l i d h) (bare-snoc (take i l) (get_or l i d) b (omega arith) (omega arith))
 
 pub plain-not : (ps : List Placed) → Plain ps false
 plain-not ps = record { told = λ e. absurd (false≢true e) }
 
-pub plain-all : (ns : List ℕ) (count n i : ℕ) → n ≡ min count 4 → i ≤ n → n ≤ i → Bare (take i (chains_in ns)) → Plain (take count (chains_in ns)) true
-plain-all ns count n i e h g b = record { told = λ z. rw (places-are (chains_in ns) count n i (length-chains ns) e h g) at b }
+pub plain-all : (l : List Placed) (count n i : ℕ) → length l ≡ 4 → n ≡ min count 4 → length (take n l) ≤ i → Bare (take i (take n l)) → Plain (take count l) true
+plain-all l count n i k e h b = record { told = λ z. rw (places-are l count n i k e h) at b }
 
 bare-marks : (ps : List Placed) → Bare ps → marks_in ps ≡ []
 unfolding Bare marks_in marks_of gathered mark_list

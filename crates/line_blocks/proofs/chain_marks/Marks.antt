@@ -1,6 +1,5 @@
 -- Laws of the marks and the sums, chain by chain. Assumes nothing.
 use Prim.Native.Nat.{ℕ, ◌+◌, ◌<◌, ◌^◌}
-use native.Mathlib.Omega.{arith}
 use mathlib.Core.Path.{◌≡◌, sym, ◌∙◌}
 use mathlib.Core.Bool.{Bool, false, cond}
 use mathlib.Core.List.{List, ◌++◌, map, map-append}
@@ -16,9 +15,7 @@ use Rattle.line_parts.specs.shown.Notes.{sum_list}
 use Rattle.line_parts.proofs.shown.Chained.{still-marks, still-sums}
 use Rattle.placement.specs.declared.chain_notes.Placed.{Placed}
 use Rattle.writer.specs.index_runs.Index.{in_room}
-use Rattle.placement.specs.chain_notes.Notes.{nowhere, chains_in}
 use Rattle.placement.specs.chain_notes.Fragment.{gathered}
-use Rattle.placement.proofs.chain_notes.Notes.{length-chains}
 use Rattle.placement.proofs.chain_notes.Laws.{gathered-more}
 use Rattle.line_blocks.specs.declared.chain_marks.Next.{Next}
 use Rattle.line_blocks.specs.chain_marks.Put.{PutBlocks, PutParts}
@@ -60,13 +57,13 @@ more-shown : {A : Type 0} (show : A → List ℕ) (f : Placed → List A) (l : L
     → map show (gathered f (take (i + 1) l)) ≡ map show (gathered f (take i l)) ++ map show (f (get_or l i d))
 more-shown show f l i d h = rw (gathered-more f l i d h) (map-append show (gathered f (take i l)) (f (get_or l i d)))
 
-module _ {xs ys zs : List ℕ} {a b c : Next} (ns : List ℕ) (i : ℕ) (p : Placed) (e : p ≡ get_or (chains_in ns) i nowhere) (h : i < 4) where
-  pub marks-more : PutBlocks (map show_mark (marks_in (take i (chains_in ns)))) xs a ys b
-      → PutBlocks (map show_mark (marks_of p)) ys b zs c → length xs < 2 ^ 64 → PutBlocks (map show_mark (marks_in (take (i + 1) (chains_in ns)))) xs a zs c
+module _ {xs ys zs : List ℕ} {a b c : Next} (l : List Placed) (i : ℕ) (d : Placed) (h : i < length l) where
+  pub marks-more : PutBlocks (map show_mark (marks_in (take i l))) xs a ys b
+      → PutBlocks (map show_mark (marks_of (get_or l i d))) ys b zs c → length xs < 2 ^ 64 → PutBlocks (map show_mark (marks_in (take (i + 1) l))) xs a zs c
   unfolding marks_in
-  marks-more u w g = rw (more-shown show_mark marks_of (chains_in ns) i nowhere (omega (arith, length-chains ns)), ← e) (put_then g u w)
+  marks-more u w g = rw (more-shown show_mark marks_of l i d h) (put_then g u w)
 
-  pub sums-more : PutParts (map show_sum (sums_in (take i (chains_in ns)))) xs a ys b
-      → PutParts (map show_sum (sums_of p)) ys b zs c → length xs < 2 ^ 64 → PutParts (map show_sum (sums_in (take (i + 1) (chains_in ns)))) xs a zs c
+  pub sums-more : PutParts (map show_sum (sums_in (take i l))) xs a ys b
+      → PutParts (map show_sum (sums_of (get_or l i d))) ys b zs c → length xs < 2 ^ 64 → PutParts (map show_sum (sums_in (take (i + 1) l))) xs a zs c
   unfolding sums_in
-  sums-more u w g = rw (more-shown show_sum sums_of (chains_in ns) i nowhere (omega (arith, length-chains ns)), ← e) (put_then g u w)
+  sums-more u w g = rw (more-shown show_sum sums_of l i d h) (put_then g u w)

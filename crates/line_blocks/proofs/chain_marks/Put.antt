@@ -30,9 +30,9 @@ pub put-length : {opening sep : List ℕ} {bs : List (List ℕ)} {xs ys : List �
 put-length u = written-length u.text
 
 -- a count past the last place counts all of them
-pub places-are : (l : List Placed) (count n i : ℕ) → length l ≡ 4 → n ≡ min count 4 → i ≤ n → n ≤ i → take i l ≡ take count l
-places-are l count n i k e h g = go (dec_le count 4)
+pub places-are : (l : List Placed) (count n i : ℕ) → length l ≡ 4 → n ≡ min count 4 → length (take n l) ≤ i → take i (take n l) ≡ take count l
+places-are l count n i k e h = take_all i (take n l) h ∙ go (dec_le count 4)
   where
-    go : Dec (count ≤ 4) → take i l ≡ take count l
-    go (yes z) = let q : i ≡ count = omega arith in rw q
-    go (no z) = take_all i l (omega arith) ∙ sym (take_all count l (omega arith))
+    go : Dec (count ≤ 4) → take n l ≡ take count l
+    go (yes z) = let q : n ≡ count = omega arith in rw q
+    go (no z) = take_all n l (omega arith) ∙ sym (take_all count l (omega arith))

@@ -21,9 +21,7 @@ use Rattle.line_parts.specs.shown.Chained.{shown}
 use Rattle.line_parts.proofs.shown.Chained.{still_one}
 use Rattle.template_rules.specs.Written.{head_carbons}
 use Rattle.placement.specs.declared.chain_notes.Placed.{Placed}
-use Rattle.placement.specs.chain_notes.Notes.{nowhere, chains_in}
 use Rattle.placement.specs.chain_notes.Fragment.{summed}
-use Rattle.placement.proofs.chain_notes.Notes.{length-chains}
 use Rattle.line_blocks.specs.declared.chain_marks.Next.{Next}
 use Rattle.line_blocks.specs.chain_marks.Put.{PutBlocks}
 use Rattle.line_blocks.proofs.chain_marks.Put.{put-none, put_then}
@@ -158,13 +156,13 @@ pub sites-start : (l : List Placed) (numbers rows xs : List ℕ) (a : Next) → 
 unfolding site_lists_in summed
 sites-start l numbers rows xs a h = record { starts = refl; begins = refl; few = omega arith; less = omega arith; put = put-none _ _ xs a h }
 
-pub sites-more : {numbers rows xs ys zs : List ℕ} {a b c : Next} {i from row : ℕ} (ns : List ℕ) (p : Placed) → p ≡ get_or (chains_in ns) i nowhere → length xs < 2 ^ 64 → i < 4 → p.count < 65536 → p.float_count < 65536
-    → SitesTo (chains_in ns) numbers rows xs a i ys b from row
-    → PutBlocks (map show_sites (site_lists_of p (take p.count (drop from numbers)) (take p.float_count (drop row rows)))) ys b zs c
-    → SitesTo (chains_in ns) numbers rows xs a (i + 1) zs c (from + p.count) (row + p.float_count)
-sites-more {numbers} {rows} {i = i} ns p e g h m k v w =
-    let l = chains_in ns in
-    let next : take (i + 1) l ≡ take i l ++ (p ∷ []) = rw (add-one i, e) (take-suc l i nowhere (omega (arith, length-chains ns))) in
+pub sites-more : {numbers rows xs ys zs : List ℕ} {a b c : Next} {i from row : ℕ} (l : List Placed) (d : Placed) → length xs < 2 ^ 64 → i < length l → (get_or l i d).count < 65536 → (get_or l i d).float_count < 65536
+    → SitesTo l numbers rows xs a i ys b from row
+    → PutBlocks (map show_sites (site_lists_of (get_or l i d) (take (get_or l i d).count (drop from numbers)) (take (get_or l i d).float_count (drop row rows)))) ys b zs c
+    → SitesTo l numbers rows xs a (i + 1) zs c (from + (get_or l i d).count) (row + (get_or l i d).float_count)
+sites-more {numbers} {rows} {i = i} l d g h m k v w =
+    let p : Placed = get_or l i d in
+    let next : take (i + 1) l ≡ take i l ++ (p ∷ []) = rw (add-one i) (take-suc l i d h) in
     record {
       starts = rw (next, summed-snoc (λ (q : Placed). q.count) (take i l) p) (omega (arith, v.starts));
       begins = rw (next, summed-snoc (λ (q : Placed). q.float_count) (take i l) p) (omega (arith, v.begins));

@@ -8,7 +8,7 @@ use Rattle.chain_rules.specs.chain.Features.{is_acyl, drawn_count, floating}
 use Rattle.chain_rules.specs.chain.Drawing.{carbons, carbon_atoms, flexible_atom}
 use Rattle.drawn_chain.specs.drawable.Drawn.{Drawn, Draws}
 use Rattle.drawn_chain.specs.drawable.Chains.{Chains}
-use Rattle.request_chains.specs.chain_numbers.Sn.{ChainAt}
+use Rattle.request_chains.specs.chain_shapes.Sn.{ChainAt}
 use Rattle.chain_pieces.specs.branches.Text.{rows_in}
 use Rattle.chain_text.specs.fragment.Segment.{Readable}
 use Rattle.writer.specs.index_runs.Index.{indices}

@@ -1,21 +1,20 @@
 use native.Mathlib.Omega.{arith}
-use Rattle.writer.proofs.emit.Laws.{written-length}
-use Rattle.placement.proofs.chain_notes.Notes.{length-chains}
 use Rattle.chain_lists.proofs.indices.IndexLaws.{indices-none, indices-more, indices-past, indices-all}
-use borrow.Author.Rules.{rules}
 use Rattle.chain_lists.proofs.indices.write_indices.Goals as goal
+use Rattle.chain_lists.proofs.indices.write_indices.Goals.{then-k-lt-MAX_CHAINS, else-k-lt-MAX_CHAINS}
 
-pub loop-i-init : goal.loop-i-init
-loop-i-init c = (omega arith, omega arith, search rules, indices-none _ _ _)
+pub loop-place-init : goal.loop-place-init
+loop-place-init c = indices-none _ _ _
 
-pub loop-i-preserved-then-k-lt-MAX_CHAINS : goal.loop-i-preserved-then-k-lt-MAX_CHAINS
-loop-i-preserved-then-k-lt-MAX_CHAINS c = let v = c.loop-i in (omega arith, omega arith, search rules, indices-more _ _ _ v.i _ _ _ _ (omega arith) (length-chains _) v.invariant.2 v.invariant.1 c.loop-i-test.true c.if-k-lt-MAX_CHAINS.true c.placed_at-p.ensures c.start_of-from.ensures v.invariant.3 c.put_part-q.ensures)
-
-pub loop-i-preserved : goal.loop-i-preserved
-loop-i-preserved c = (omega arith, omega arith, search rules, search (indices-past, length-chains))
-
-pub shape_of-out : goal.shape_of-out
-shape_of-out c = search written-length
+pub loop-place-preserved : goal.loop-place-preserved
+loop-place-preserved c =
+    elim c.if-k-lt-MAX_CHAINS.branch [
+      | then-k-lt-MAX_CHAINS w ↦
+          rw (w.out-is, w.q-is)
+          (indices-more _ _ _ _ _ w.start_of-from.result (omega arith) c.told-notes c.loop-place-test.true w.if-k-lt-MAX_CHAINS.true w.start_of-from.ensures c.loop-place.invariant w.put_part-q.ensures)
+      | else-k-lt-MAX_CHAINS w ↦
+          rw (w.out-is, w.q-is) (indices-past _ _ _ _ c.told-notes c.loop-place-test.true w.if-k-lt-MAX_CHAINS.false c.loop-place.invariant)
+    ]
 
 pub returns : goal.returns
 returns c = search indices-all

@@ -1,6 +1,5 @@
-use Rattle.placement.proofs.chain_notes.Notes.{length-chains}
 use Rattle.chain_lists.proofs.listing.ListsLaws.{lists-here}
 use Rattle.chain_lists.proofs.listing.two_lists.Goals as goal
 
 pub returns : goal.returns
-returns c = search (lists-here, length-chains)
+returns c = search lists-here

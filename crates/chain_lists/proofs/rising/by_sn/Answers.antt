@@ -1,10 +1,9 @@
-use Rattle.placement.proofs.chain_notes.Notes.{length-chains}
 use Rattle.chain_lists.proofs.rising.OrderLaws.{in-places}
 use Rattle.chain_lists.proofs.rising.FallingLaws.{falling-held}
 use Rattle.chain_lists.proofs.rising.by_sn.Goals as goal
 
 pub returns-then-falling : goal.returns-then-falling
-returns-then-falling c = search (falling-held, length-chains)
+returns-then-falling c = search falling-held
 
 pub returns : goal.returns
-returns c = search (in-places, length-chains)
+returns c = search in-places

@@ -1,19 +1,18 @@
 use native.Mathlib.Omega.{arith}
-use Rattle.placement.proofs.chain_notes.Notes.{length-chains}
-use Rattle.chain_lists.proofs.rising.FallingLaws.{falls-none, falls-more, falls-not, falls-all}
+use Rattle.chain_lists.proofs.rising.FallingLaws.{falls-first, falls-more, falls-not, falls-all}
 use Rattle.chain_lists.proofs.rising.falling.Goals as goal
 
-pub loop-i-init : goal.loop-i-init
-loop-i-init c = (omega arith, omega arith, search falls-none)
+pub loop-p-init : goal.loop-p-init
+loop-p-init c = falls-first
 
-pub returns-then-sn-last : goal.returns-then-sn-last
-returns-then-sn-last c = falls-not _
+pub returns-then-p-eq0 : goal.returns-then-p-eq0
+returns-then-p-eq0 c = falls-not _
 
-pub loop-i-preserved : goal.loop-i-preserved
-loop-i-preserved c = (omega arith, omega arith, search (falls-more, length-chains))
+pub returns-then-last-p : goal.returns-then-last-p
+returns-then-last-p c = falls-not _
 
-pub returns-then-last-gt4 : goal.returns-then-last-gt4
-returns-then-last-gt4 c = falls-not _
+pub loop-p-preserved : goal.loop-p-preserved
+loop-p-preserved c = falls-more _ _ _ _ c.loop-p-test.true (omega arith) (omega arith) c.loop-p.invariant
 
 pub returns : goal.returns
-returns c = search falls-all
+returns c = falls-all _ _ _ c.loop-p-test.false c.loop-p.invariant

@@ -1,20 +1,27 @@
 use native.Mathlib.Omega.{arith}
-use Rattle.placement.proofs.chain_notes.Notes.{length-chains}
+use lib.ListN.{length-take}
 use Rattle.chain_lists.proofs.sn_sites.SitesLaws.{sites-first, sites-more, sites-base, sites-past, sites-all}
 use borrow.Author.Rules.{rules}
 use Rattle.chain_lists.proofs.sn_sites.some_sites.Goals as goal
+use Rattle.chain_lists.proofs.sn_sites.some_sites.Goals.{then-k-lt-MAX_CHAINS+then-has_site, then-k-lt-MAX_CHAINS+else-has_site, else-k-lt-MAX_CHAINS}
 
-pub loop-i-init : goal.loop-i-init
-loop-i-init c = (omega arith, omega arith, omega arith, search rules, search rules, sites-first _)
+pub loop-place-init : goal.loop-place-init
+loop-place-init c = (omega arith, search rules, sites-first _)
 
-pub loop-i-preserved-then-has_site : goal.loop-i-preserved-then-has_site
-loop-i-preserved-then-has_site c = let v = c.loop-i in (omega arith, omega arith, omega arith, search rules, search rules, sites-more _ _ _ _ _ _ _ _ _ (length-chains _) v.invariant.3 v.invariant.1 c.loop-i-test.true c.if-k-lt-MAX_CHAINS.true v.invariant.2 c.placed_at-p.ensures v.invariant.5 c.has_site.ensures c.if-has_site.true)
-
-pub loop-i-preserved-then-k-lt-MAX_CHAINS : goal.loop-i-preserved-then-k-lt-MAX_CHAINS
-loop-i-preserved-then-k-lt-MAX_CHAINS c = let v = c.loop-i in (omega arith, omega arith, omega arith, search rules, search rules, sites-base _ _ _ _ _ _ _ _ _ (length-chains _) v.invariant.3 v.invariant.1 c.loop-i-test.true c.if-k-lt-MAX_CHAINS.true c.placed_at-p.ensures v.invariant.5 c.has_site.ensures c.if-has_site.false)
-
-pub loop-i-preserved : goal.loop-i-preserved
-loop-i-preserved c = (omega arith, omega arith, omega arith, search rules, search rules, search (sites-past, length-chains))
+pub loop-place-preserved : goal.loop-place-preserved
+loop-place-preserved c =
+    let v = c.loop-place.invariant in
+    let few = length-take c.in_places-n.result c.args.order.items in
+    elim c.if-k-lt-MAX_CHAINS.branch [
+      | then-k-lt-MAX_CHAINS+then-has_site w ↦
+          rw (w.sites-is, w.count-is)
+          (omega (arith, v.0), search rules, sites-more _ _ _ _ _ _ _ _ c.told-notes c.loop-place-test.true w.if-k-lt-MAX_CHAINS.true (omega (arith, v.0, few)) v.2 w.site_of.ensures w.has_site.ensures w.if-has_site.true)
+      | then-k-lt-MAX_CHAINS+else-has_site w ↦
+          rw (w.sites-is, w.count-is)
+          (omega (arith, v.0), v.1, sites-base _ _ _ _ _ _ _ c.told-notes c.loop-place-test.true w.if-k-lt-MAX_CHAINS.true v.2 w.has_site.ensures w.if-has_site.false)
+      | else-k-lt-MAX_CHAINS w ↦
+          rw (w.sites-is, w.count-is) (omega (arith, v.0), v.1, sites-past _ _ _ _ _ c.told-notes c.loop-place-test.true w.if-k-lt-MAX_CHAINS.false v.2)
+    ]
 
 pub returns : goal.returns
 returns c = search sites-all

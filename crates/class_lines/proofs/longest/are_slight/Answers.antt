@@ -15,4 +15,4 @@ pub returns-then-not-slight_at-4 : goal.returns-then-not-slight_at-4
 returns-then-not-slight_at-4 c = λ e. absurd (false≢true e)
 
 pub returns : goal.returns
-returns c = λ e. slight c.slight_at.ensures c.if-not-slight_at.false-raw c.slight_at-2.ensures c.if-not-slight_at-2.false-raw c.slight_at-3.ensures c.if-not-slight_at-3.false-raw c.slight_at-4.ensures c.if-not-slight_at-4.false-raw
+returns c = λ e. slight c.told-shapes c.slight_at.ensures c.if-not-slight_at.false-raw c.slight_at-2.ensures c.if-not-slight_at-2.false-raw c.slight_at-3.ensures c.if-not-slight_at-3.false-raw c.slight_at-4.ensures c.if-not-slight_at-4.false-raw

@@ -1,22 +1,20 @@
 use native.Mathlib.Omega.{arith}
+use borrow.Author.Rules.{rules}
 use Rattle.placement.specs.chain_notes.Fragment.{gathered}
-use Rattle.placement.proofs.chain_notes.Notes.{length-chains}
 use Rattle.line_blocks.specs.chain_marks.Marks.{marks_in}
 use Rattle.line_blocks.proofs.chain_marks.Put.{put-none, put-length, places-are}
 use Rattle.line_blocks.proofs.chain_marks.Marks.{marks-more}
 use Rattle.line_blocks.proofs.chain_marks.put_all_marks.Goals as goal
 
-pub loop-i-init : goal.loop-i-init
+pub loop-p-init : goal.loop-p-init
 unfolding gathered marks_in
-loop-i-init c = (omega arith, omega arith, put-none _ _ _ _ (omega arith))
+loop-p-init c = put-none _ _ _ _ (omega arith)
 
-pub loop-i-preserved : goal.loop-i-preserved
-loop-i-preserved c =
-    let v = c.loop-i in
-    (omega arith, omega arith, marks-more _ v.i _ c.placed_at-p.ensures (omega arith) v.invariant.2 c.put_chain_marks-b.ensures (omega arith))
+pub loop-p-preserved : goal.loop-p-preserved
+loop-p-preserved c = marks-more _ _ _ c.loop-p-test.true c.loop-p.invariant c.put_chain_marks-b.ensures (omega arith)
 
 pub shape_of-out : goal.shape_of-out
 shape_of-out c = search put-length
 
 pub returns : goal.returns
-returns c = rw (places-are _ _ _ _ (length-chains _) c.in_places-n.ensures c.loop-i.invariant.0 c.loop-i-test.false) at c.loop-i.invariant.2
+returns c = rw (places-are _ _ _ _ (search rules) c.in_places-n.ensures c.loop-p-test.false) at c.loop-p.invariant

@@ -1,14 +1,8 @@
-use Prim.Native.Nat.{◌≤◌, ◌-◌}
-use mathlib.Core.List.{map}
-use lib.ListN.{take}
+use Rattle.std.proofs.Common.{map, take}
 use Rattle.reading_rules.specs.reading.Show.{show_mark}
-use Rattle.placement.specs.chain_notes.Notes.{chains_in}
 use Rattle.line_blocks.specs.chain_marks.Put.{PutBlocks}
 use Rattle.line_blocks.specs.chain_marks.Marks.{marks_in}
 use Rattle.line_blocks.proofs.chain_marks.put_all_marks.Given as goal
 
-abbrev pub invariant-loop-i : goal.invariant-loop-i
-invariant-loop-i l = (l.i ≤ l.n) × (l.n ≤ 4) × PutBlocks (map show_mark (marks_in (take l.i (chains_in l.notes)))) l.initial.out l.initial.b l.out l.b
-
-abbrev pub decreases-loop-i : goal.decreases-loop-i
-decreases-loop-i l = l.n - l.i
+abbrev pub invariant-loop-p : goal.invariant-loop-p
+invariant-loop-p l = PutBlocks (map show_mark (marks_in (take l.p-index l.chains))) l.initial.out l.initial.b l.out l.b

@@ -3,11 +3,11 @@ use Rattle.line_blocks.proofs.chain_marks.Put.{put-length}
 use Rattle.line_blocks.proofs.chain_sites.Sites.{floats-start, floats-more, floats-all}
 use Rattle.line_blocks.proofs.chain_sites.put_floats.Goals as goal
 
-pub loop-i-init : goal.loop-i-init
-loop-i-init c = (omega arith, omega arith, omega arith, floats-start _ _ _ _ _ (omega arith))
+pub loop-row-init : goal.loop-row-init
+loop-row-init c = floats-start _ _ _ _ _ (omega arith)
 
-pub loop-i-preserved : goal.loop-i-preserved
-loop-i-preserved c = (omega arith, omega arith, omega arith, search (floats-more, arith))
+pub loop-row-preserved : goal.loop-row-preserved
+loop-row-preserved c = search (floats-more, arith)
 
 pub shape_of-out : goal.shape_of-out
 shape_of-out c = search put-length

@@ -1,5 +1,5 @@
-use Rattle.request_chains.proofs.chain_numbers.Sn.{shape-none, shape-past, shape-there}
-use Rattle.request_chains.proofs.chain_numbers.shape_at.Goals as goal
+use Rattle.request_chains.proofs.chain_shapes.Sn.{shape-none, shape-past, shape-there}
+use Rattle.request_chains.proofs.chain_shapes.shape_at.Goals as goal
 
 pub returns-then-i-eq0 : goal.returns-then-i-eq0
 returns-then-i-eq0 c = search shape-none

@@ -4,7 +4,7 @@ use Rattle.std.proofs.Math.Option.{Option, none, some}
 use Rattle.drawn_chain.specs.declared.drawable.Shape.{Shape}
 use Rattle.drawn_chain.specs.drawable.Drawn.{Drawn, drawn_of}
 use Rattle.drawn_chain.specs.drawable.Chains.{Chains, drawn_in, part_of}
-use Rattle.request_chains.specs.chain_numbers.Shapes.{chains_kept}
+use Rattle.request_chains.specs.chain_shapes.Shapes.{chains_kept}
 
 -- the chain with this sn, if there is one
 unfoldable pub drawn_at : ℕ → List Drawn → Option Drawn
@@ -22,5 +22,5 @@ pub record ChainAt (x : Chains) (sn : ℕ) (f : Drawn) : Type 0 where
   pub is : IsDrawn (drawn_at sn (drawn_in x)) f
 
 -- the chain of an sn is x with the part of that sn, whatever array the parts stand in
-pub record ShapeAt (n : ℕ) (ns : List ℕ) (sn : ℕ) (x : Shape) : Type 0 where
-  pub is : (l : List ℕ) → ChainAt (chains_kept n ns l) sn (drawn_of x (part_of sn l))
+pub record ShapeAt (n : ℕ) (xs : List Shape) (sn : ℕ) (x : Shape) : Type 0 where
+  pub is : (l : List ℕ) → ChainAt (chains_kept n xs l) sn (drawn_of x (part_of sn l))
