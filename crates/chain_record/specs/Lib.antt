@@ -4,3 +4,4 @@ pub mod groupcodes
 pub mod ringcodes
 pub mod codes
 pub mod parsed
+pub mod refusal

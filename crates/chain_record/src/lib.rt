@@ -7,6 +7,7 @@ pub mod codes;
 mod groupcodes;
 pub mod parsed;
 pub mod plain;
+pub mod refusal;
 mod ringcodes;
 
 pub use bondcodes::{bond_code, bond_in};
@@ -18,4 +19,5 @@ pub use plain::{
     Bridge, ChainPrefix, DbPos, GROUP_ROOM, Geometry, MAX_BONDS, MAX_CARBONS, MAX_GROUPS,
     MAX_RINGS, Mod, OVER_LIMIT, Ring, UNREADABLE,
 };
+pub use refusal::Refusal;
 pub use ringcodes::{ring_code, ring_in};

@@ -4,7 +4,7 @@ ghost use Rattle.std.specs.Prelude.{◌≡◌, ◌+◌, ◌*◌, ◌^◌, ◌<�
 ghost use Rattle.group_table.specs.groups.Groups.{substituent_of};
 ghost use Rattle.group_table.specs.abbreviations.Key.{key_of};
 
-use super::groups::{Found, HYDROXY, KETO, METHYL};
+use super::groups::{HYDROXY, KETO, METHYL};
 
 // A key with one more byte.
 fn after(k: u64, b: u8) -> u64
@@ -41,35 +41,35 @@ fn key(s: &[u8]) -> u64
     0
 }
 
-// The group that an abbreviation means: a row's own, and hydroxy and keto. Beside each key stands the text that it is of.
-pub fn substituent(s: &[u8]) -> Found
+// The row of the group that an abbreviation means: a row's own, and hydroxy and keto. Beside each key stands the text that it is of.
+pub fn substituent(s: &[u8]) -> Option<u8>
     ensures { result ≡ substituent_of s.now }
 {
     let k = key(s);
     match k {
-        0x1_6b_65_74_6f => Found::At(KETO), // keto
-        0x1_45_74 => Found::At(0), // Et
-        0x1_4d_65 => Found::At(METHYL), // Me
-        0x1_42_72 => Found::At(2), // Br
-        0x1_43_6c => Found::At(3), // Cl
-        0x1_46 => Found::At(4), // F
-        0x1_49 => Found::At(5), // I
-        0x1_4e_4f_32 => Found::At(6), // NO2
-        0x1_4f_4d_65 => Found::At(7), // OMe
-        0x1_4e_48_32 => Found::At(8), // NH2
-        0x1_4f_4f_48 => Found::At(9), // OOH
-        0x1_53_48 => Found::At(10), // SH
-        0x1_4f_48 => Found::At(HYDROXY), // OH
-        0x1_6f_78_6f => Found::At(KETO), // oxo
-        0x1_43_4e => Found::At(13), // CN
-        0x1_50 => Found::At(14), // P
-        0x1_53 => Found::At(15), // S
-        0x1_43_4f_4f_48 => Found::At(16), // COOH
+        0x1_6b_65_74_6f => Some(KETO), // keto
+        0x1_45_74 => Some(0), // Et
+        0x1_4d_65 => Some(METHYL), // Me
+        0x1_42_72 => Some(2), // Br
+        0x1_43_6c => Some(3), // Cl
+        0x1_46 => Some(4), // F
+        0x1_49 => Some(5), // I
+        0x1_4e_4f_32 => Some(6), // NO2
+        0x1_4f_4d_65 => Some(7), // OMe
+        0x1_4e_48_32 => Some(8), // NH2
+        0x1_4f_4f_48 => Some(9), // OOH
+        0x1_53_48 => Some(10), // SH
+        0x1_4f_48 => Some(HYDROXY), // OH
+        0x1_6f_78_6f => Some(KETO), // oxo
+        0x1_43_4e => Some(13), // CN
+        0x1_50 => Some(14), // P
+        0x1_53 => Some(15), // S
+        0x1_43_4f_4f_48 => Some(16), // COOH
         _ => {
             if scanner::same(s, b"hydroxy") {
-                return Found::At(HYDROXY);
+                return Some(HYDROXY);
             }
-            Found::Nothing
+            None
         }
     }
 }

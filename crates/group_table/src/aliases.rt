@@ -2,26 +2,24 @@
 ghost use Rattle.std.specs.Prelude.{◌≡◌};
 ghost use Rattle.group_table.specs.groups.Groups.{alias_ring_size};
 
-use super::groups::RingSize;
-
-// The alias rings: an epoxide spans two carbons, a cyclopropane three.
-pub fn alias_ring_size(s: &[u8]) -> RingSize
+// The carbons that an alias ring spans: two in an epoxide, three in a cyclopropane.
+pub fn alias_ring_size(s: &[u8]) -> Option<u16>
     ensures { result ≡ alias_ring_size s.now }
 {
     if scanner::same(s, b"Ep") {
-        return RingSize::Carbons(2);
+        return Some(2);
     }
     if scanner::same(s, b"ep") {
-        return RingSize::Carbons(2);
+        return Some(2);
     }
     if scanner::same(s, b"epox") {
-        return RingSize::Carbons(2);
+        return Some(2);
     }
     if scanner::same(s, b"cyc") {
-        return RingSize::Carbons(3);
+        return Some(3);
     }
     if scanner::same(s, b"cyclo") {
-        return RingSize::Carbons(3);
+        return Some(3);
     }
-    RingSize::Nothing
+    None
 }

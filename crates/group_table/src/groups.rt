@@ -170,17 +170,3 @@ pub fn row_at(i: u8) -> Row
         atoms: 0,
     }
 }
-
-// The row that an abbreviation names.
-#[derive(Clone, Copy)]
-pub enum Found {
-    At(u8),
-    Nothing,
-}
-
-// The carbons that an alias ring spans.
-#[derive(Clone, Copy)]
-pub enum RingSize {
-    Carbons(u16),
-    Nothing,
-}

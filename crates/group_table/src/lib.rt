@@ -8,4 +8,4 @@ pub mod groups;
 
 pub use abbreviations::substituent;
 pub use aliases::alias_ring_size;
-pub use groups::{Found, HYDROXY, KETO, METHYL, ROW_COUNT, RingSize, row_at};
+pub use groups::{HYDROXY, KETO, METHYL, ROW_COUNT, row_at};

@@ -10,9 +10,9 @@ use lib.ListN.{length, take, drop}
 use lib.Dec.{eqb, ltb}
 use Rattle.scanner.specs.scan.Part.{part, trimmed, index_of, starts_with, same_bytes}
 use Rattle.scanner.specs.scan.Number.{digit_run, digits_up_to, number_up_to, number_limit}
-use Rattle.scanner.specs.declared.scan.Number.{Number}
-use Rattle.scanner.specs.declared.scan.Number.TheVariants.{Value, Unreadable}
+use Rattle.std.specs.Prelude.{Option, Some, None}
 use Rattle.chain_record.specs.declared.plain.ChainPrefix.{ChainPrefix}
+use Rattle.chain_record.specs.declared.plain.DbPos.{DbPos}
 use Rattle.chain_record.specs.declared.plain.Ring.{Ring}
 use Rattle.chain_record.specs.plain.Chain.{Chain, Outcome, Read, Refused, and_then, counts_of, max_carbons, max_bonds, max_groups, max_rings}
 use Rattle.token_syntax.specs.form.Parts.{parts_at, list_parts}
@@ -21,8 +21,6 @@ use Rattle.token_syntax.specs.form.Numbers.{trimmed_number, ring_count}
 use Rattle.token_syntax.specs.declared.form.Form.{Form}
 use Rattle.token_syntax.specs.declared.form.Form.TheVariants.{Ring as Form-as-Ring, Repeated as Form-as-Repeated, Listed as Form-as-Listed, Parts as Form-as-Parts}
 use Rattle.token_head.specs.positions.Each.{each}
-use Rattle.token_head.specs.declared.positions.Position.{Position}
-use Rattle.token_head.specs.declared.positions.Position.TheVariants.{At as Position-as-At, Unreadable as Position-as-Unreadable}
 use Rattle.token_head.specs.positions.Positions.{position_of, with_position, bond_at, bond_list, inside, ring_bond_at, ring_bond_list}
 use Rattle.token_features.specs.declared.features.Segment.{Segment}
 use Rattle.token_features.specs.declared.features.Segment.TheVariants.{Cycle, Located, Repeated, Oxygens, Unreadable as Segment-as-Unreadable}
@@ -58,9 +56,9 @@ module _ (P : ℕ → Type 0) (p31 : P 31) (p11 : P 11) where
   by-each f g [] d = tt
   by-each f g (s ∷ ss) d = by-then (f s d) (each f ss) (g s d) (λ e. by-each f g ss e)
 
-  by_value : (v : Number) (f : ℕ → Outcome) → ((n : ℕ) → By (f n)) → By (value_or11 v f)
-  by_value (Value n) f g = g n
-  by_value Unreadable f g = p11
+  by_value : (v : Option ℕ) (f : ℕ → Outcome) → ((n : ℕ) → By (f n)) → By (value_or11 v f)
+  by_value (Some n) f g = g n
+  by_value None f g = p11
 
   by-closed : (f : List ℕ → Chain → Outcome) (s : List ℕ) (d : Chain) → ((t : List ℕ) → By (f t d)) → By (closed_or11 f s d)
   unfolding closed_or11
@@ -72,17 +70,17 @@ module _ (P : ℕ → Type 0) (p31 : P 31) (p11 : P 11) where
   unfolding bond_list bond_at
   by-bonds s d = by-each bond_at (λ t e. go (position_of t) e) (list_parts s) d
     where
-      go : (p : Position) (e : Chain) → By (with_position p e)
-      go (Position-as-At b) e = tt
-      go Position-as-Unreadable e = p11
+      go : (p : Option DbPos) (e : Chain) → By (with_position p e)
+      go (Some b) e = tt
+      go None e = p11
 
   by-ring-bonds : (start end : ℕ) (s : List ℕ) (d : Chain) → By (ring_bond_list start end s d)
   unfolding ring_bond_list ring_bond_at
   by-ring-bonds start end s d = by-each (ring_bond_at start end) (λ t e. go (position_of t) e) (list_parts s) d
     where
-      go : (p : Position) (e : Chain) → By (inside start end p e)
-      go (Position-as-At b) e = by-either (ltb b.pos start) _ _ p11 (by-either (ltb b.pos end) _ _ tt p11)
-      go Position-as-Unreadable e = p11
+      go : (p : Option DbPos) (e : Chain) → By (inside start end p e)
+      go (Some b) e = by-either (ltb b.pos start) _ _ p11 (by-either (ltb b.pos end) _ _ tt p11)
+      go None e = p11
 
   -- ---- a segment
 
@@ -175,10 +173,10 @@ module _ (P : ℕ → Type 0) (p31 : P 31) (p11 : P 11) where
       (by-then (counted_list (take (index_of 41 s) s) d) (λ e. rest_of (missing_of d.carbon e.bonds n) (drop (index_of 41 s + 1) s) e) (by-list (take (index_of 41 s) s) d)
       (λ e. by-rest (missing_of d.carbon e.bonds n) (drop (index_of 41 s + 1) s) e))
 
-  by_count : (v : Number) (s : List ℕ) (d : Chain) → By (count_by v s d)
+  by_count : (v : Option ℕ) (s : List ℕ) (d : Chain) → By (count_by v s d)
   unfolding after_count
-  by_count Unreadable s d = p11
-  by_count (Value n) s d = by-either (starts_with (40 ∷ []) s) _ _ (by-after-list n (drop 1 s) d) (by-rest (missing_of d.carbon d.bonds n) s d)
+  by_count None s d = p11
+  by_count (Some n) s d = by-either (starts_with (40 ∷ []) s) _ _ (by-after-list n (drop 1 s) d) (by-rest (missing_of d.carbon d.bonds n) s d)
 
   by-start : (p : ChainPrefix) (b : Branch) (w : ℕ) → By (start_chain p b w)
   unfolding branched
@@ -186,9 +184,9 @@ module _ (P : ℕ → Type 0) (p31 : P 31) (p11 : P 11) where
   by-start p Iso w = by-either (ltb w (1 + 3)) _ _ p11 tt
   by-start p Anteiso w = by-either (ltb w (2 + 3)) _ _ p11 tt
 
-  by-carbons : (p : ChainPrefix) (b : Branch) (v : Number) → By (carbons_by p b v)
-  by-carbons p b (Value n) = by-either (ltb max_carbons n) _ _ p31 (by-start p b n)
-  by-carbons p b Unreadable = p11
+  by-carbons : (p : ChainPrefix) (b : Branch) (v : Option ℕ) → By (carbons_by p b v)
+  by-carbons p b (Some n) = by-either (ltb max_carbons n) _ _ p31 (by-start p b n)
+  by-carbons p b None = p11
 
   by-named : (p : ChainPrefix) (b : Branch) (s : List ℕ) → By (named_chain p b s)
   unfolding named_chain carbons_of bonds_of

@@ -12,5 +12,5 @@ pub mod spaces;
 pub use digits::{digit_run, is_digit};
 pub use part::{find, same, starts_with};
 pub use reader::next_segment;
-pub use scan::{Number, read_digits, read_number};
+pub use scan::{read_digits, read_number};
 pub use spaces::trim;

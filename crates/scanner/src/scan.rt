@@ -5,13 +5,6 @@ ghost use Rattle.scanner.specs.scan.Number.{after_plus, digits_up_to, number_up_
 
 use super::digits::is_digit;
 
-// A number as it was read.
-#[derive(Clone, Copy)]
-pub enum Number {
-    Value(u64),
-    Unreadable,
-}
-
 fn wide(x: u8) -> u64
     ensures { result ≡ x }
 {
@@ -19,57 +12,57 @@ fn wide(x: u8) -> u64
 }
 
 // The number that at most nine digits say, at most the limit. It stays below 1,000,000,000, so it is compared with the limit once, at the end.
-fn read_few(s: &[u8], limit: u64) -> Number
+fn read_few(s: &[u8], limit: u64) -> Option<u64>
     requires { length s.now ≤ 9 }
     ensures { result ≡ digits_up_to limit s.now }
 {
     if s.len() == 0 {
-        return Number::Unreadable;
+        return None;
     }
     let mut t = s;
     let mut v: u64 = 0;
     while t.len() > 0 {
         if !is_digit(t[0]) {
-            return Number::Unreadable;
+            return None;
         }
         let digit = wide(t[0]) - 48;
         v = v * 10 + digit;
         t = &t[1..];
     }
     if limit < v {
-        return Number::Unreadable;
+        return None;
     }
-    Number::Value(v)
+    Some(v)
 }
 
 // The number that digits alone say, at most the limit. The value stays at most the limit on the way, so nothing overflows.
-fn read_many(s: &[u8], limit: u64) -> Number
+fn read_many(s: &[u8], limit: u64) -> Option<u64>
     ensures { result ≡ digits_up_to limit s.now }
 {
     if s.len() == 0 {
-        return Number::Unreadable;
+        return None;
     }
     let mut t = s;
     let mut v: u64 = 0;
     while t.len() > 0 {
         if !is_digit(t[0]) {
-            return Number::Unreadable;
+            return None;
         }
         let x = wide(t[0]) - 48;
         if limit < x {
-            return Number::Unreadable;
+            return None;
         }
         if (limit - x) / 10 < v {
-            return Number::Unreadable;
+            return None;
         }
         v = v * 10 + x;
         t = &t[1..];
     }
-    Number::Value(v)
+    Some(v)
 }
 
 // The number that digits alone say, at most the limit. Nearly every number has few digits.
-pub fn read_digits(s: &[u8], limit: u64) -> Number
+pub fn read_digits(s: &[u8], limit: u64) -> Option<u64>
     ensures { result ≡ digits_up_to limit s.now }
 {
     if s.len() < 10 {
@@ -92,7 +85,7 @@ fn after_plus(s: &[u8]) -> &[u8]
 }
 
 // The number that a part says, digits after at most one plus sign, at most the limit.
-pub fn read_number(s: &[u8], limit: u64) -> Number
+pub fn read_number(s: &[u8], limit: u64) -> Option<u64>
     ensures { result ≡ number_up_to limit s.now }
 {
     read_digits(after_plus(s), limit)

@@ -7,7 +7,6 @@ use super::features;
 use super::features::{Feature, Segment};
 use super::naming::feature_of;
 use chain_record::Mod;
-use scanner::Number;
 
 // A feature at a position.
 fn placed_at(feature: Feature, pos: u32, carbon: u16) -> Segment
@@ -24,7 +23,7 @@ fn placed_at(feature: Feature, pos: u32, carbon: u16) -> Segment
 pub fn read_listed(s: &[u8], feature: Feature, carbon: u16) -> Segment
     ensures { result ≡ listed_as feature s.now carbon }
 {
-    let Number::Value(pos) = token_syntax::trimmed_number(s) else {
+    let Some(pos) = token_syntax::trimmed_number(s) else {
         return Segment::Unreadable;
     };
     placed_at(feature, pos as u32, carbon)
@@ -34,7 +33,7 @@ pub fn read_listed(s: &[u8], feature: Feature, carbon: u16) -> Segment
 fn oxygen_count(s: &[u8]) -> Segment
     ensures { result ≡ oxygen_count s.now }
 {
-    let Number::Value(n) = token_syntax::number_or_one(s) else {
+    let Some(n) = token_syntax::number_or_one(s) else {
         return Segment::Unreadable;
     };
     Segment::Oxygens(n as u32)
@@ -73,7 +72,7 @@ pub fn read_part(s: &[u8], carbon: u16) -> Segment
     if n == s.len() {
         return Segment::Unreadable;
     }
-    let Number::Value(pos) = token_syntax::leading_position(&s[0..n]) else {
+    let Some(pos) = token_syntax::leading_position(&s[0..n]) else {
         return Segment::Unreadable;
     };
     read_item(&s[n..], pos as u32, carbon)

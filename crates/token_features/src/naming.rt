@@ -5,8 +5,6 @@ ghost use Rattle.token_features.specs.features.Features.{bridge_of, feature_of, 
 
 use super::features::{Feature, Segment};
 use chain_record::Bridge;
-use group_table::{Found, RingSize};
-use scanner::Number;
 
 // A ring of two carbons is bridged by an oxygen.
 fn bridge_of(size: u16) -> Bridge
@@ -22,11 +20,10 @@ fn bridge_of(size: u16) -> Bridge
 pub fn feature_of(abbr: &[u8]) -> Feature
     ensures { result ≡ feature_of abbr.now }
 {
-    let group = group_table::substituent(abbr);
-    if let Found::At(row) = group {
+    if let Some(row) = group_table::substituent(abbr) {
         return Feature::Group(row);
     }
-    let RingSize::Carbons(size) = group_table::alias_ring_size(abbr) else {
+    let Some(size) = group_table::alias_ring_size(abbr) else {
         return Feature::Other;
     };
     let bridge = bridge_of(size);
@@ -41,10 +38,10 @@ pub fn read_repeated(s: &[u8]) -> Segment
     if close == s.len() {
         return Segment::Unreadable;
     }
-    let Found::At(row) = group_table::substituent(&s[0..close]) else {
+    let Some(row) = group_table::substituent(&s[0..close]) else {
         return Segment::Unreadable;
     };
-    let Number::Value(n) = token_syntax::number_or_one(&s[close + 1..]) else {
+    let Some(n) = token_syntax::number_or_one(&s[close + 1..]) else {
         return Segment::Unreadable;
     };
     Segment::Repeated {

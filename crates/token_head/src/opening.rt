@@ -7,7 +7,6 @@ ghost use Rattle.token_head.specs.opening.Opening.{Word, Prefixed, branch_length
 
 use chain_record::{ChainPrefix, Mod};
 use group_table::METHYL;
-use scanner::Number;
 
 // The branch word before the carbons.
 #[derive(Clone, Copy)]
@@ -231,7 +230,7 @@ pub fn parse_carbons(
     requires { max_groups ≤ length groups.old }
     ensures { Starts result groups.new (carbons_of prefix branch text.now) }
 {
-    let Number::Value(n) = scanner::read_number(text, 4294967295) else {
+    let Some(n) = scanner::read_number(text, 4294967295) else {
         return Started::Refused(chain_record::UNREADABLE);
     };
     if (chain_record::MAX_CARBONS as u64) < n {

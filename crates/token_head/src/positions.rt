@@ -7,14 +7,6 @@ ghost use Rattle.chain_record.specs.parsed.Parsed.{Pushes, bonds_as};
 ghost use Rattle.token_head.specs.positions.Positions.{geometry_of, numbered, position_of, bond_list, ring_position, ring_bond_list};
 
 use chain_record::{DbPos, Geometry, Pushed};
-use scanner::Number;
-
-// A position as it was read.
-#[derive(Clone, Copy)]
-pub enum Position {
-    At(DbPos),
-    Unreadable,
-}
 
 // What the last letter of a position states.
 fn geometry_of(b: u8) -> Geometry
@@ -36,25 +28,25 @@ fn geometry_of(b: u8) -> Geometry
 }
 
 // The number of a position whose geometry is known.
-fn numbered_position(s: &[u8], geom: Geometry) -> Position
+fn numbered_position(s: &[u8], geom: Geometry) -> Option<DbPos>
     ensures { result ≡ numbered geom s.now }
 {
-    let Number::Value(n) = scanner::read_number(s, 4294967295) else {
-        return Position::Unreadable;
+    let Some(n) = scanner::read_number(s, 4294967295) else {
+        return None;
     };
-    Position::At(DbPos {
+    Some(DbPos {
         pos: n as u32,
         geom,
     })
 }
 
 // A double bond's position: trimmed, with at most one letter at its end.
-fn read_position(s: &[u8]) -> Position
+fn read_position(s: &[u8]) -> Option<DbPos>
     ensures { result ≡ position_of s.now }
 {
     let t = scanner::trim(s);
     if t.len() == 0 {
-        return Position::Unreadable;
+        return None;
     }
     let n = t.len() - 1;
     let g = geometry_of(t[n]);
@@ -66,20 +58,20 @@ fn read_position(s: &[u8]) -> Position
 }
 
 // A position from the carbon `start` up to, not including, the carbon `end`.
-fn read_ring_position(s: &[u8], start: u64, end: u64) -> Position
+fn read_ring_position(s: &[u8], start: u64, end: u64) -> Option<DbPos>
     ensures { result ≡ ring_position start end s.now }
 {
-    let Position::At(bond) = read_position(s) else {
-        return Position::Unreadable;
+    let Some(bond) = read_position(s) else {
+        return None;
     };
     let pos = bond.pos as u64;
     if pos < start {
-        return Position::Unreadable;
+        return None;
     }
     if end <= pos {
-        return Position::Unreadable;
+        return None;
     }
-    Position::At(bond)
+    Some(bond)
 }
 
 // The double bonds that the list of a ring from `start` to `end` gives, after `count` others.
@@ -94,7 +86,7 @@ pub fn parse_ring_bonds(s: &[u8], start: u64, end: u64, bonds: &mut [u64], count
     let mut so_far = count;
     loop {
         let n = scanner::find(t, b',');
-        let Position::At(bond) = read_ring_position(&t[0..n], start, end) else {
+        let Some(bond) = read_ring_position(&t[0..n], start, end) else {
             return Pushed::Refused(chain_record::UNREADABLE);
         };
         so_far = chain_record::push_bond(bonds, so_far, bond);

@@ -12,7 +12,6 @@ use super::seats;
 use chain_record::{
     ChainPrefix, Counted, Counts, DbPos, Geometry, MAX_BONDS, MAX_GROUPS, MAX_RINGS, Mod, Pushed,
 };
-use scanner::Number;
 use token_features::{Feature, Segment};
 use token_head::{Branch, Start, Started};
 
@@ -228,7 +227,7 @@ fn parse_bonds(
     ensures { Ends carbon counts bonds.old groups.old rings.old result bonds.new groups.new rings.new (bonds_of s.now) }
 {
     let n = scanner::digit_run(s);
-    let Number::Value(declared) = scanner::read_digits(&s[0..n], 4294967295) else {
+    let Some(declared) = scanner::read_digits(&s[0..n], 4294967295) else {
         return Ended::Refused(chain_record::UNREADABLE);
     };
     parse_after_count(declared, &s[n..], carbon, bonds, groups, rings, counts)

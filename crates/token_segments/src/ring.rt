@@ -7,7 +7,6 @@ ghost use Rattle.token_segments.specs.ring.Ring.{ring_list, ring_listed, ring_bo
 ghost use Rattle.chain_record.specs.parsed.Parsed.{Collects, gather, ungrouped_as, on};
 
 use chain_record::{Counted, Counts, Pushed, Ring};
-use scanner::Number;
 use token_features::Segment;
 
 // A ring's list of at most n positions, and then the ring.
@@ -77,7 +76,7 @@ fn parse_ring_bond_count(
     ensures { Collects ungrouped_as (gather counts bonds.old [] rings.old) result bonds.new [] rings.new (ring_bonds ring s.now) }
 {
     let open = scanner::find(s, b'(');
-    let Number::Value(n) = token_syntax::ring_count(&s[0..open]) else {
+    let Some(n) = token_syntax::ring_count(&s[0..open]) else {
         return Counted::Refused(chain_record::UNREADABLE);
     };
     if open == s.len() {
@@ -103,7 +102,7 @@ fn parse_ring_size(
     ensures { Collects (on carbon ungrouped_as) (gather counts bonds.old [] rings.old) result bonds.new [] rings.new (ring_sized start end s.now) }
 {
     let colon = scanner::find(s, b':');
-    let Number::Value(size) = token_syntax::trimmed_number(&s[0..colon]) else {
+    let Some(size) = token_syntax::trimmed_number(&s[0..colon]) else {
         return Counted::Refused(chain_record::UNREADABLE);
     };
     let Segment::Cycle(ring) = token_features::ring_of(start, end, size, carbon) else {
@@ -133,10 +132,10 @@ pub fn parse_ring_segment(
     requires max_rings_in_bounds { max_rings ≤ length rings.old }
     ensures { Collects (on carbon ungrouped_as) (gather counts bonds.old [] rings.old) result bonds.new [] rings.new (ring_segment s.now dash cy) }
 {
-    let Number::Value(start) = token_syntax::trimmed_number(&s[0..dash]) else {
+    let Some(start) = token_syntax::trimmed_number(&s[0..dash]) else {
         return Counted::Refused(chain_record::UNREADABLE);
     };
-    let Number::Value(end) = token_syntax::trimmed_number(&s[dash + 1..cy]) else {
+    let Some(end) = token_syntax::trimmed_number(&s[dash + 1..cy]) else {
         return Counted::Refused(chain_record::UNREADABLE);
     };
     parse_ring_size(start, end, &s[cy + 2..], carbon, bonds, rings, counts)

@@ -3,10 +3,8 @@ ghost use Rattle.std.specs.Prelude.{◌≡◌, true, ◌-◌, ◌≤◌};
 ghost use Rattle.scanner.specs.scan.Number.{is_digit};
 ghost use Rattle.token_syntax.specs.padded.Padded.{trimmed_number, Shortly};
 
-use scanner::Number;
-
 // A number with spaces around it.
-fn any_number(s: &[u8]) -> Number
+fn any_number(s: &[u8]) -> Option<u64>
     ensures { result ≡ trimmed_number s.now }
 {
     scanner::read_number(scanner::trim(s), 4294967295)
@@ -21,36 +19,32 @@ fn figure(b: u8) -> u64
 }
 
 // The number that one or two digits say; unreadable is anything else.
-fn short_number(s: &[u8]) -> Number
+fn short_number(s: &[u8]) -> Option<u64>
     ensures { Shortly s.now result }
 {
     if s.len() == 0 {
-        return Number::Unreadable;
+        return None;
     }
     if !scanner::is_digit(s[0]) {
-        return Number::Unreadable;
+        return None;
     }
     let first = figure(s[0]);
     if s.len() == 1 {
-        return Number::Value(first);
+        return Some(first);
     }
     if s.len() != 2 {
-        return Number::Unreadable;
+        return None;
     }
     if !scanner::is_digit(s[1]) {
-        return Number::Unreadable;
+        return None;
     }
     let one = figure(s[1]);
-    Number::Value(first * 10 + one)
+    Some(first * 10 + one)
 }
 
 // A number with spaces around it: a ring's start, end and size, and the position of a group in a list. Nearly every one is a digit or two.
-pub fn trimmed_number(s: &[u8]) -> Number
+pub fn trimmed_number(s: &[u8]) -> Option<u64>
     ensures { result ≡ trimmed_number s.now }
 {
-    let short = short_number(s);
-    match short {
-        Number::Value(_) => short,
-        Number::Unreadable => any_number(s),
-    }
+    short_number(s).or_else(|| any_number(s))
 }

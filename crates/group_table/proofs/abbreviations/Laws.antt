@@ -13,8 +13,7 @@ use lib.Seq.{drop-cons}
 use borrow.Author.Tests.{ne_eqb, leb-true, le-leb, lt-leb}
 use Rattle.scanner.proofs.part.Laws.{same-equal}
 use Rattle.scanner.specs.scan.Part.{same_bytes}
-use Rattle.group_table.specs.declared.groups.Found.{Found}
-use Rattle.group_table.specs.declared.groups.Found.TheVariants.{Nothing}
+use Rattle.std.specs.Prelude.{Option, None}
 use Rattle.group_table.specs.groups.Groups.{Entry, entries, lookup_from, substituent_of, hydroxy_text, keto_text}
 use Rattle.group_table.specs.abbreviations.Key.{number_from, key_of}
 
@@ -98,7 +97,7 @@ module _ (s : List ℕ) (k : ℕ) (b : (i : ℕ) → Fits w8 (get_or s i 0)) (e 
           (text-back 4 (4 - length s) 1 s [] (omega (arith, leb-true (length s) 4 p)) (omega arith) (λ i. (b i).fits) ∙ text-end (4 - length s) (s ++ []) ∙ append-nil s)
       go false p q = absurd (omega (arith, leb-true 1 l g))
 
-  pub named_by : (r : Found) (l : ℕ) → k ≡ l → leb 1 l ≡ true → r ≡ substituent_of (text_of l) → r ≡ substituent_of s
+  pub named_by : (r : Option ℕ) (l : ℕ) → k ≡ l → leb 1 l ≡ true → r ≡ substituent_of (text_of l) → r ≡ substituent_of s
   named_by r l f g h = h ∙ ap substituent_of (key-text l f g)
 
 -- ---- a key that no abbreviation has
@@ -124,7 +123,7 @@ unlike s t k e n = go (same_bytes s t) refl
 abbrev pub row_keys : List Entry → List ℕ
 row_keys es = map (λ (e : Entry). key_of e.abbr) es
 
-no_row : (A : Type 0) (i : ℕ) (es : List Entry) (s : List ℕ) (k : ℕ) → k ≡ key_of s → NoneOf A k (row_keys es) → lookup_from i es s ≡ Nothing
+no_row : (A : Type 0) (i : ℕ) (es : List Entry) (s : List ℕ) (k : ℕ) → k ≡ key_of s → NoneOf A k (row_keys es) → lookup_from i es s ≡ None
 unfolding lookup_from
 no_row A i [] s k e a = refl
 no_row A i (x ∷ es) s k e a =
@@ -132,7 +131,7 @@ no_row A i (x ∷ es) s k e a =
 
 -- neither keto nor a row has the key, and the text is not hydroxy
 pub names-none : (s : List ℕ) (k : ℕ) (b : Bool) → k ≡ key_of s → NoneOf Unit k (key_of keto_text ∷ row_keys entries) → b ≡ same_bytes s hydroxy_text → b ≡ false
-    → Nothing ≡ substituent_of s
+    → None ≡ substituent_of s
 unfolding substituent_of
 names-none s k b e a f n =
     sym

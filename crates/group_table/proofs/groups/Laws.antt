@@ -10,8 +10,7 @@ use lib.Dec.{leb}
 use lib.ListN.{length, get_or}
 use borrow.Author.Tests.{leb-true, eqb-true}
 use Rattle.scanner.specs.scan.Part.{same_bytes}
-use Rattle.group_table.specs.declared.groups.Found.TheVariants.{At}
-use Rattle.group_table.specs.declared.groups.RingSize.TheVariants.{Carbons, Nothing as NoRing}
+use Rattle.std.specs.Prelude.{Some, None}
 use Rattle.group_table.specs.declared.groups.Row.{Row}
 use Rattle.group_table.specs.groups.Groups.{Entry, entries, blank, entry_at, entry_of, RowIs, lookup_from, substituent_of, alias_ring_size, atoms_in, atoms_from, opens_atom, count_is_right, hydroxy, hydroxy_text, keto_text, ep_upper_text, ep_lower_text, epox_text, cyc_text, cyclo_text}
 
@@ -89,73 +88,73 @@ atoms-right i h = eqb-true _ _ (every-at count_is_right entries i blank counts-r
 -- ---- the tests of an abbreviation, in order
 
 module _ (s : List ℕ) (a₁ : Bool) (e₁ : a₁ ≡ same_bytes s ep_upper_text) where
-  pub ep-upper : a₁ ≡ true → Carbons 2 ≡ alias_ring_size s
+  pub ep-upper : a₁ ≡ true → Some 2 ≡ alias_ring_size s
   unfolding alias_ring_size
   ep-upper t = rw (sym e₁ ∙ t)
 
   module _ (n₁ : a₁ ≡ false) (a₂ : Bool) (e₂ : a₂ ≡ same_bytes s ep_lower_text) where
-    pub ep-lower : a₂ ≡ true → Carbons 2 ≡ alias_ring_size s
+    pub ep-lower : a₂ ≡ true → Some 2 ≡ alias_ring_size s
     unfolding alias_ring_size
     ep-lower t = rw (sym e₁ ∙ n₁, sym e₂ ∙ t)
 
     module _ (n₂ : a₂ ≡ false) (a₃ : Bool) (e₃ : a₃ ≡ same_bytes s epox_text) where
-      pub epox-found : a₃ ≡ true → Carbons 2 ≡ alias_ring_size s
+      pub epox-found : a₃ ≡ true → Some 2 ≡ alias_ring_size s
       unfolding alias_ring_size
       epox-found t = rw (sym e₁ ∙ n₁, sym e₂ ∙ n₂, sym e₃ ∙ t)
 
       module _ (n₃ : a₃ ≡ false) (a₄ : Bool) (e₄ : a₄ ≡ same_bytes s cyc_text) where
-        pub cyc-found : a₄ ≡ true → Carbons 3 ≡ alias_ring_size s
+        pub cyc-found : a₄ ≡ true → Some 3 ≡ alias_ring_size s
         unfolding alias_ring_size
         cyc-found t = rw (sym e₁ ∙ n₁, sym e₂ ∙ n₂, sym e₃ ∙ n₃, sym e₄ ∙ t)
 
         module _ (n₄ : a₄ ≡ false) (a₅ : Bool) (e₅ : a₅ ≡ same_bytes s cyclo_text) where
-          pub cyclo-found : a₅ ≡ true → Carbons 3 ≡ alias_ring_size s
+          pub cyclo-found : a₅ ≡ true → Some 3 ≡ alias_ring_size s
           unfolding alias_ring_size
           cyclo-found t = rw (sym e₁ ∙ n₁, sym e₂ ∙ n₂, sym e₃ ∙ n₃, sym e₄ ∙ n₄, sym e₅ ∙ t)
 
-          pub no-alias : a₅ ≡ false → NoRing ≡ alias_ring_size s
+          pub no-alias : a₅ ≡ false → None ≡ alias_ring_size s
           unfolding alias_ring_size
           no-alias t = rw (sym e₁ ∙ n₁, sym e₂ ∙ n₂, sym e₃ ∙ n₃, sym e₄ ∙ n₄, sym e₅ ∙ t)
 
 module _ (s : List ℕ) (a₁ : Bool) (e₁ : a₁ ≡ same_bytes s hydroxy_text) where
-  pub hydroxy-found : a₁ ≡ true → At hydroxy ≡ substituent_of s
+  pub hydroxy-found : a₁ ≡ true → Some hydroxy ≡ substituent_of s
   unfolding substituent_of
   hydroxy-found t = rw (sym e₁ ∙ t)
 
 -- ---- what callers use
 
-lookup-row : (i : ℕ) (es : List Entry) (s : List ℕ) (n : ℕ) → lookup_from i es s ≡ At n → n < i + length es
+lookup-row : (i : ℕ) (es : List Entry) (s : List ℕ) (n : ℕ) → lookup_from i es s ≡ Some n → n < i + length es
 unfolding lookup_from
 lookup-row i [] s n e = let z : ◌≡◌ {A = ℕ} 0 1 = cc in absurd (omega arith)
 lookup-row i (x ∷ es) s n e = go (same_bytes s x.abbr) e (lookup-row (suc i) es s n)
   where
-    go : (b : Bool) → cond b (At i) (lookup_from (suc i) es s) ≡ At n → (lookup_from (suc i) es s ≡ At n → n < suc i + length es) → n < i + suc (length es)
+    go : (b : Bool) → cond b (Some i) (lookup_from (suc i) es s) ≡ Some n → (lookup_from (suc i) es s ≡ Some n → n < suc i + length es) → n < i + suc (length es)
     go true e f = let z : i ≡ n = cc in omega arith
     go false e f = omega (arith, f e)
 
 -- a row that was found is one of the 17
-pub substituent-row : (s : List ℕ) (n : ℕ) → substituent_of s ≡ At n → n < 17
+pub substituent-row : (s : List ℕ) (n : ℕ) → substituent_of s ≡ Some n → n < 17
 unfolding substituent_of
 substituent-row s n e = go (same_bytes s hydroxy_text) (same_bytes s keto_text) e
   where
-    go : (a b : Bool) → cond a (At 11) (cond b (At 12) (lookup_from 0 entries s)) ≡ At n → n < 17
+    go : (a b : Bool) → cond a (Some 11) (cond b (Some 12) (lookup_from 0 entries s)) ≡ Some n → n < 17
     go true b e = let z : 11 ≡ n = cc in omega arith
     go false true e = let z : 12 ≡ n = cc in omega arith
     go false false e = omega (arith, lookup-row 0 entries s n e, long)
 
 -- an alias ring spans two carbons or three
-pub alias-spans : (s : List ℕ) (n : ℕ) → alias_ring_size s ≡ Carbons n → (2 ≤ n) × (n ≤ 3)
+pub alias-spans : (s : List ℕ) (n : ℕ) → alias_ring_size s ≡ Some n → (2 ≤ n) × (n ≤ 3)
 unfolding alias_ring_size
 alias-spans s n e =
     go (same_bytes s ep_upper_text) (same_bytes s ep_lower_text) (same_bytes s epox_text) (same_bytes s cyc_text) (same_bytes s cyclo_text) e
   where
-    two : Carbons 2 ≡ Carbons n → (2 ≤ n) × (n ≤ 3)
+    two : Some 2 ≡ Some n → (2 ≤ n) × (n ≤ 3)
     two e = let z : 2 ≡ n = cc in (omega arith, omega arith)
 
-    three : Carbons 3 ≡ Carbons n → (2 ≤ n) × (n ≤ 3)
+    three : Some 3 ≡ Some n → (2 ≤ n) × (n ≤ 3)
     three e = let z : 3 ≡ n = cc in (omega arith, omega arith)
 
-    go : (a b c d f : Bool) → cond a (Carbons 2) (cond b (Carbons 2) (cond c (Carbons 2) (cond d (Carbons 3) (cond f (Carbons 3) NoRing)))) ≡ Carbons n
+    go : (a b c d f : Bool) → cond a (Some 2) (cond b (Some 2) (cond c (Some 2) (cond d (Some 3) (cond f (Some 3) None)))) ≡ Some n
         → (2 ≤ n) × (n ≤ 3)
     go true b c d f e = two e
     go false true c d f e = two e

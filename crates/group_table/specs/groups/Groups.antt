@@ -1,13 +1,9 @@
 -- 01, Token reader: the group table, the abbreviations beside it and the alias rings. Assumes nothing.
-use Rattle.std.specs.Prelude.{ℕ, suc, ◌≤◌, List, [], ◌∷◌, Bool, true, false, cond, ◌≡◌, take, get_or, eqb}
+use Rattle.std.specs.Prelude.{ℕ, suc, ◌≤◌, List, [], ◌∷◌, Bool, true, false, cond, ◌≡◌, take, get_or, eqb, Option, Some, None}
 use Prim.Native.Char.{code}
 use Prim.Native.String.{String}
 use Rattle.scanner.specs.scan.Ascii.{ascii}
 use Rattle.scanner.specs.scan.Part.{same_bytes}
-use Rattle.group_table.specs.declared.groups.Found.{Found}
-use Rattle.group_table.specs.declared.groups.Found.TheVariants.{At, Nothing}
-use Rattle.group_table.specs.declared.groups.RingSize.{RingSize}
-use Rattle.group_table.specs.declared.groups.RingSize.TheVariants.{Carbons, Nothing as NoRing}
 use Rattle.group_table.specs.declared.groups.Row.{Row}
 
 -- a group: its abbreviation, the branch that its carbon carries and the atoms of the branch
@@ -61,9 +57,9 @@ abbrev pub keto : ℕ
 keto = 12
 
 -- the place of the first entry with an abbreviation, counted from i
-unfoldable pub lookup_from : ℕ → List Entry → List ℕ → Found
-lookup_from i [] s = Nothing
-lookup_from i (e ∷ es) s = let r = lookup_from (suc i) es s in cond (same_bytes s e.abbr) (At i) r
+unfoldable pub lookup_from : ℕ → List Entry → List ℕ → Option ℕ
+lookup_from i [] s = None
+lookup_from i (e ∷ es) s = let r = lookup_from (suc i) es s in cond (same_bytes s e.abbr) (Some i) r
 
 -- the abbreviations beside the table
 abbrev pub hydroxy_text : List ℕ
@@ -88,21 +84,21 @@ abbrev pub cyclo_text : List ℕ
 cyclo_text = ascii "cyclo"
 
 -- "also hydroxy O, keto `=O`": no row has either abbreviation, so the order of the tests says nothing
-unfoldable pub substituent_of : List ℕ → Found
+unfoldable pub substituent_of : List ℕ → Option ℕ
 unfolding ascii
 substituent_of s =
-    cond (same_bytes s hydroxy_text) (At hydroxy)
-    (cond (same_bytes s keto_text) (At keto) (lookup_from 0 entries s))
+    cond (same_bytes s hydroxy_text) (Some hydroxy)
+    (cond (same_bytes s keto_text) (Some keto) (lookup_from 0 entries s))
 
 -- "Alias rings: Ep, ep, epox span 2 with an O bridge; cyc, cyclo span 3"
-unfoldable pub alias_ring_size : List ℕ → RingSize
+unfoldable pub alias_ring_size : List ℕ → Option ℕ
 unfolding ascii
 alias_ring_size s =
-    cond (same_bytes s ep_upper_text) (Carbons 2)
-    (cond (same_bytes s ep_lower_text) (Carbons 2)
-    (cond (same_bytes s epox_text) (Carbons 2)
-    (cond (same_bytes s cyc_text) (Carbons 3)
-    (cond (same_bytes s cyclo_text) (Carbons 3) NoRing))))
+    cond (same_bytes s ep_upper_text) (Some 2)
+    (cond (same_bytes s ep_lower_text) (Some 2)
+    (cond (same_bytes s epox_text) (Some 2)
+    (cond (same_bytes s cyc_text) (Some 3)
+    (cond (same_bytes s cyclo_text) (Some 3) None))))
 
 -- what a row of the code holds
 unfoldable pub entry_of : Row → Entry

@@ -10,8 +10,7 @@ use mathlib.Core.List.{List, [], ◌∷◌, ◌++◌, append_assoc, append-nil}
 use lib.Dec.{eqb, ltb, leb}
 use borrow.Author.Tests.{ne_eqb, eqb-false, ltb-false, leb-true, not-true}
 use Rattle.scanner.specs.scan.Number.{after_plus, is_digit, all_digits, value_from, checked, digits_up_to, number_up_to, number_limit}
-use Rattle.scanner.specs.declared.scan.Number.{Number}
-use Rattle.scanner.specs.declared.scan.Number.TheVariants.{Value, Unreadable}
+use Rattle.std.specs.Prelude.{Option, Some, None}
 use Rattle.writer.specs.emit.Text.{decimal}
 use Rattle.writer.proofs.emit.Laws.{decimal-small, decimal_step}
 use Rattle.writer.proofs.emit.ReadsBack.{decimal-reads-back}
@@ -58,9 +57,9 @@ no_plus : (n : ℕ) → after_plus (decimal n) ≡ decimal n
 unfolding after_plus
 no_plus n = let s : Led n (decimal n) = led (suc n) n (omega arith) in rw (s.is, ne_eqb (48 + s.first) 43 (λ e. omega arith))
 
-digits_value : (m n : ℕ) → n ≤ m → digits_up_to m (decimal n) ≡ Value n
+digits_value : (m n : ℕ) → n ≤ m → digits_up_to m (decimal n) ≡ Some n
 unfolding number_up_to
-digits_value m n h = let e : digits_up_to m (after_plus (decimal n)) ≡ Value n = decimal-reads-back m n h in rw no_plus at e
+digits_value m n h = let e : digits_up_to m (after_plus (decimal n)) ≡ Some n = decimal-reads-back m n h in rw no_plus at e
 
 all-every : (xs : List ℕ) → all_digits xs ≡ true → every is_digit xs ≡ true
 unfolding all_digits every
@@ -76,13 +75,13 @@ pub decimal-digits : (n : ℕ) → every is_digit (decimal n) ≡ true
 unfolding digits_up_to checked
 decimal-digits n = all-every (decimal n) (go (decimal n) (digits_value n n (omega arith)))
   where
-    tested : (xs : List ℕ) (b : Bool) (o : Number) → cond b o Unreadable ≡ Value n → b ≡ true
+    tested : (xs : List ℕ) (b : Bool) (o : Option ℕ) → cond b o None ≡ Some n → b ≡ true
     tested xs true o e = refl
     tested xs false o e = cc
 
-    go : (xs : List ℕ) → digits_up_to n xs ≡ Value n → all_digits xs ≡ true
+    go : (xs : List ℕ) → digits_up_to n xs ≡ Some n → all_digits xs ≡ true
     go [] e = cc
-    go (x ∷ xs) e = tested xs (all_digits (x ∷ xs)) (cond (ltb n (value_from 0 (x ∷ xs))) Unreadable (Value (value_from 0 (x ∷ xs)))) e
+    go (x ∷ xs) e = tested xs (all_digits (x ∷ xs)) (cond (ltb n (value_from 0 (x ∷ xs))) None (Some (value_from 0 (x ∷ xs)))) e
 
 -- a number below 2^32 that is shown in decimal is read as itself
 pub number-decimal : (n : ℕ) → n < 2 ^ 32 → number (decimal n) ≡ some n
@@ -138,7 +137,7 @@ checked-told limit n [] e = let z : ◌≡◌ {A = ℕ} 0 1 = cc in absurd (omeg
 checked-told limit n (x ∷ xs) e = go (all_digits (x ∷ xs)) refl (ltb limit (value_from 0 (x ∷ xs))) refl e
   where
     go : (a : Bool) → all_digits (x ∷ xs) ≡ a → (b : Bool) → ltb limit (value_from 0 (x ∷ xs)) ≡ b
-        → value_of (cond a (cond b Unreadable (Value (value_from 0 (x ∷ xs)))) Unreadable) ≡ some n → Checked limit n (x ∷ xs)
+        → value_of (cond a (cond b None (Some (value_from 0 (x ∷ xs)))) None) ≡ some n → Checked limit n (x ∷ xs)
     go false p b q e = let z : ◌≡◌ {A = ℕ} 0 1 = cc in absurd (omega arith)
     go true p true q e = let z : ◌≡◌ {A = ℕ} 0 1 = cc in absurd (omega arith)
     go true p false q e =

@@ -11,8 +11,7 @@ use mathlib.Core.List.{List, [], ◌∷◌}
 use lib.ListN.{length, take, drop, get_or, length-drop}
 use lib.Dec.{ltb, leb}
 use borrow.Author.Tests.{lt-ltb, le-ltb, eq-eqb, ne_eqb, ltb-false, leb-true}
-use Rattle.scanner.specs.declared.scan.Number.{Number}
-use Rattle.scanner.specs.declared.scan.Number.TheVariants.{Value, Unreadable}
+use Rattle.std.specs.Prelude.{Option, Some, None}
 use Rattle.scanner.specs.scan.Number.{is_digit, all_digits, value_from, checked, digits_up_to, after_plus, number_up_to}
 pub use Rattle.scanner.proofs.part.Laws.{to_end, starts-length, found-room, same-equal}
 
@@ -39,7 +38,7 @@ digit-to b e = go (ltb b 48) e
     go true e = absurd (true≢false (sym e))
     go false e = leb-true b 57 e
 
-pub digits-none : (limit : ℕ) (s : List ℕ) → length s ≡ 0 → Unreadable ≡ digits_up_to limit s
+pub digits-none : (limit : ℕ) (s : List ℕ) → length s ≡ 0 → None ≡ digits_up_to limit s
 unfolding digits_up_to
 digits-none limit [] l = refl
 digits-none limit (x ∷ xs) l = absurd (omega arith)
@@ -49,11 +48,11 @@ unfolding digits_up_to
 digits-start limit [] l = absurd (l refl)
 digits-start limit (x ∷ xs) l = refl
 
-large-unreadable : (limit w : ℕ) (t : List ℕ) → limit < w → checked limit w t ≡ Unreadable
+large-unreadable : (limit w : ℕ) (t : List ℕ) → limit < w → checked limit w t ≡ None
 unfolding checked
 large-unreadable limit w t h = rw (lt-ltb limit (value_from w t) (le_trans h (value_grows w t))) (go (all_digits t))
   where
-    go : (b : Bool) → cond b Unreadable Unreadable ≡ Unreadable
+    go : (b : Bool) → cond {A = Option ℕ} b None None ≡ None
     go true = refl
     go false = refl
 
@@ -63,13 +62,13 @@ unfolding checked all_digits value_from
 checked-digit limit [] v d l e a = absurd (omega arith)
 checked-digit limit (x ∷ xs) v d l e a = rw (sym e, a)
 
-checked-other : (limit : ℕ) (t : List ℕ) (v : ℕ) → 0 < length t → is_digit (get_or t 0 0) ≡ false → checked limit v t ≡ Unreadable
+checked-other : (limit : ℕ) (t : List ℕ) (v : ℕ) → 0 < length t → is_digit (get_or t 0 0) ≡ false → checked limit v t ≡ None
 unfolding checked all_digits
 checked-other limit [] v l e = absurd (omega arith)
 checked-other limit (x ∷ xs) v l e = rw e
 
-module _ (A : Number) (limit : ℕ) where
-  pub digits-other : (t : List ℕ) (v : ℕ) (b : Bool) → 0 < length t → b ≡ is_digit (get_or t 0 0) → not b ≡ true → A ≡ checked limit v t → Unreadable ≡ A
+module _ (A : Option ℕ) (limit : ℕ) where
+  pub digits-other : (t : List ℕ) (v : ℕ) (b : Bool) → 0 < length t → b ≡ is_digit (get_or t 0 0) → not b ≡ true → A ≡ checked limit v t → None ≡ A
   digits-other t v true l e n h = absurd (true≢false (sym n))
   digits-other t v false l e n h = sym (h ∙ checked-other limit t v l (sym e))
 
@@ -81,22 +80,22 @@ module _ (A : Number) (limit : ℕ) where
         go true f n = ap is_digit e ∙ sym f
         go false f n = absurd (true≢false n)
 
-    large : limit < v * 10 + (d - 48) → Unreadable ≡ A
+    large : limit < v * 10 + (d - 48) → None ≡ A
     large g = sym (h ∙ checked-digit limit t v d l e is ∙ large-unreadable limit _ _ g)
 
-    pub digits-over : limit < d - 48 → Unreadable ≡ A
+    pub digits-over : limit < d - 48 → None ≡ A
     digits-over g = large (omega arith)
 
-    pub digits-past : d - 48 ≤ limit → (limit - (d - 48)) / 10 < v → Unreadable ≡ A
+    pub digits-past : d - 48 ≤ limit → (limit - (d - 48)) / 10 < v → None ≡ A
     digits-past k g = large (omega arith)
 
     pub digits_more : A ≡ checked limit (v * 10 + (d - 48)) (take (length t - 1) (drop 1 t))
     digits_more = rw (to_end 1 t) (h ∙ checked-digit limit t v d l e is)
 
-  pub digits-large : (t : List ℕ) (v : ℕ) → limit < v → A ≡ checked limit v t → Unreadable ≡ A
+  pub digits-large : (t : List ℕ) (v : ℕ) → limit < v → A ≡ checked limit v t → None ≡ A
   digits-large t v g h = sym (h ∙ large-unreadable limit v t g)
 
-  pub digits-end : (t : List ℕ) (v : ℕ) → length t ≤ 0 → v ≤ limit → A ≡ checked limit v t → Value v ≡ A
+  pub digits-end : (t : List ℕ) (v : ℕ) → length t ≤ 0 → v ≤ limit → A ≡ checked limit v t → Some v ≡ A
   unfolding checked all_digits value_from
   digits-end [] v l b h = sym (rw (le-ltb limit v b) at h)
   digits-end (x ∷ xs) v l b h = absurd (omega arith)
@@ -160,30 +159,30 @@ unfolding after_plus
 plus-other [] l e = absurd (l refl)
 plus-other (x ∷ xs) l e = rw (ne_eqb x 43 e)
 
-pub number_is : (limit : ℕ) (s t : List ℕ) (r : Number) → t ≡ after_plus s → r ≡ digits_up_to limit t → r ≡ number_up_to limit s
+pub number_is : (limit : ℕ) (s t : List ℕ) (r : Option ℕ) → t ≡ after_plus s → r ≡ digits_up_to limit t → r ≡ number_up_to limit s
 unfolding number_up_to
 number_is limit s t r e f = f ∙ ap (digits_up_to limit) e
 
 -- ---- what callers use of a number
 
-checked-bound : (limit v : ℕ) (t : List ℕ) (n : ℕ) → checked limit v t ≡ Value n → n ≤ limit
+checked-bound : (limit v : ℕ) (t : List ℕ) (n : ℕ) → checked limit v t ≡ Some n → n ≤ limit
 unfolding checked
 checked-bound limit v t n e = go (all_digits t) (ltb limit (value_from v t)) refl e
   where
-    go : (b c : Bool) → ltb limit (value_from v t) ≡ c → cond b (cond c Unreadable (Value (value_from v t))) Unreadable ≡ Value n → n ≤ limit
+    go : (b c : Bool) → ltb limit (value_from v t) ≡ c → cond b (cond c None (Some (value_from v t))) None ≡ Some n → n ≤ limit
     go true true h f = let z : ◌≡◌ {A = ℕ} 0 1 = cc in absurd (omega arith)
     go true false h f = let z : value_from v t ≡ n = cc in omega (arith, ltb-false limit (value_from v t) h)
     go false c h f = let z : ◌≡◌ {A = ℕ} 0 1 = cc in absurd (omega arith)
 
-digits-bound : (limit : ℕ) (t : List ℕ) (n : ℕ) → digits_up_to limit t ≡ Value n → n ≤ limit
+digits-bound : (limit : ℕ) (t : List ℕ) (n : ℕ) → digits_up_to limit t ≡ Some n → n ≤ limit
 unfolding digits_up_to
 digits-bound limit [] n e = let z : ◌≡◌ {A = ℕ} 0 1 = cc in absurd (omega arith)
 digits-bound limit (x ∷ t) n e = checked-bound limit 0 (x ∷ t) n e
 
 -- a number that was read is at most the limit
-pub number_bound : (limit : ℕ) (t : List ℕ) (r : Number) (n : ℕ) → r ≡ number_up_to limit t → r ≡ Value n → n ≤ limit
+pub number_bound : (limit : ℕ) (t : List ℕ) (r : Option ℕ) (n : ℕ) → r ≡ number_up_to limit t → r ≡ Some n → n ≤ limit
 unfolding number_up_to
 number_bound limit t r n e f = digits-bound limit (after_plus t) n (sym e ∙ f)
 
-pub digits-value-bound : (limit : ℕ) (t : List ℕ) (r : Number) (n : ℕ) → r ≡ digits_up_to limit t → r ≡ Value n → n ≤ limit
+pub digits-value-bound : (limit : ℕ) (t : List ℕ) (r : Option ℕ) (n : ℕ) → r ≡ digits_up_to limit t → r ≡ Some n → n ≤ limit
 digits-value-bound limit t r n e f = digits-bound limit t n (sym e ∙ f)

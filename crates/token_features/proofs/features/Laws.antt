@@ -10,15 +10,10 @@ use lib.ListN.{length, take, drop, get_or}
 use borrow.Author.Tests.{lt-ltb, le-ltb, eq-eqb, ne_eqb}
 use Rattle.scanner.specs.scan.Part.{Place, index_of}
 use Rattle.scanner.specs.scan.Number.{digit_run}
-use Rattle.scanner.specs.declared.scan.Number.{Number}
-use Rattle.scanner.specs.declared.scan.Number.TheVariants.{Value as Number-as-Value, Unreadable as Number-as-Unreadable}
+use Rattle.std.specs.Prelude.{Option, Some, None}
 use Rattle.scanner.proofs.scan.Laws.{to_end}
 use Rattle.token_syntax.specs.form.Numbers.{trimmed_number, leading_position, number_or_one}
 use Rattle.group_table.specs.groups.Groups.{substituent_of, alias_ring_size}
-use Rattle.group_table.specs.declared.groups.Found.{Found}
-use Rattle.group_table.specs.declared.groups.Found.TheVariants.{At as Found-as-At, Nothing as Found-as-Nothing}
-use Rattle.group_table.specs.declared.groups.RingSize.{RingSize}
-use Rattle.group_table.specs.declared.groups.RingSize.TheVariants.{Carbons, Nothing as RingSize-as-Nothing}
 use Rattle.chain_record.specs.declared.plain.Bridge.{Bridge}
 use Rattle.token_features.specs.declared.features.Segment.{Segment}
 use Rattle.token_features.specs.declared.features.Segment.TheVariants.{Cycle, Located, Repeated, Oxygens, Unreadable}
@@ -44,17 +39,17 @@ module _ (start : ℕ) (b : Bridge) (c : ℕ) where
 
 -- ---- what an abbreviation names
 
-module _ (abbr : List ℕ) (a : RingSize) (e : a ≡ alias_ring_size abbr) where
-  pub names-ring : (n : ℕ) (b : Bridge) → a ≡ Carbons n → b ≡ bridge_of n → Ring b ≡ feature_of abbr
+module _ (abbr : List ℕ) (a : Option ℕ) (e : a ≡ alias_ring_size abbr) where
+  pub names-ring : (n : ℕ) (b : Bridge) → a ≡ Some n → b ≡ bridge_of n → Ring b ≡ feature_of abbr
   unfolding feature_of
   names-ring n b f h = sym (rw (sym e ∙ f, h))
 
-  module _ (f : a ≡ RingSize-as-Nothing) (g : Found) (h : g ≡ substituent_of abbr) where
-    pub names-nothing : g ≡ Found-as-Nothing → Other ≡ feature_of abbr
+  module _ (f : a ≡ None) (g : Option ℕ) (h : g ≡ substituent_of abbr) where
+    pub names-nothing : g ≡ None → Other ≡ feature_of abbr
     unfolding feature_of
     names-nothing k = sym (rw (sym e ∙ f, sym h ∙ k))
 
-    pub names-group : (row : ℕ) → g ≡ Found-as-At row → Group row ≡ feature_of abbr
+    pub names-group : (row : ℕ) → g ≡ Some row → Group row ≡ feature_of abbr
     unfolding feature_of
     names-group row k = sym (rw (sym e ∙ f, sym h ∙ k))
 
@@ -67,23 +62,23 @@ module _ (f : Feature) (pos c : ℕ) where
   pub placed-group : (row : ℕ) → f ≡ Group row → Located (record { pos = pos; row = row }) ≡ placed f pos c
   placed-group row e = rw e
 
-module _ (s : List ℕ) (f : Feature) (c : ℕ) (n : Number) (e : n ≡ trimmed_number s) where
-  pub listed-unreadable : n ≡ Number-as-Unreadable → Unreadable ≡ listed_as f s c
+module _ (s : List ℕ) (f : Feature) (c : ℕ) (n : Option ℕ) (e : n ≡ trimmed_number s) where
+  pub listed-unreadable : n ≡ None → Unreadable ≡ listed_as f s c
   unfolding listed_as
   listed-unreadable h = sym (rw (sym e ∙ h))
 
-  pub listed-is : (pos : ℕ) (r : Segment) → n ≡ Number-as-Value pos → r ≡ placed f pos c → r ≡ listed_as f s c
+  pub listed-is : (pos : ℕ) (r : Segment) → n ≡ Some pos → r ≡ placed f pos c → r ≡ listed_as f s c
   unfolding listed_as
   listed-is pos r h k = k ∙ sym (rw (sym e ∙ h))
 
 -- ---- an oxygen count
 
-module _ (s : List ℕ) (n : Number) (e : n ≡ number_or_one s) where
-  pub oxygens-unreadable : n ≡ Number-as-Unreadable → Unreadable ≡ oxygen_count s
+module _ (s : List ℕ) (n : Option ℕ) (e : n ≡ number_or_one s) where
+  pub oxygens-unreadable : n ≡ None → Unreadable ≡ oxygen_count s
   unfolding oxygen_count
   oxygens-unreadable h = sym (rw (sym e ∙ h))
 
-  pub oxygens-are : (m : ℕ) → n ≡ Number-as-Value m → Oxygens m ≡ oxygen_count s
+  pub oxygens-are : (m : ℕ) → n ≡ Some m → Oxygens m ≡ oxygen_count s
   unfolding oxygen_count
   oxygens-are m h = sym (rw (sym e ∙ h))
 
@@ -122,15 +117,15 @@ module _ (s : List ℕ) (c n : ℕ) (p : Place s (digit_run s) n) where
   unfolding part_of
   part-no-abbreviation h = rw (← p.is, eq-eqb n (length s) h)
 
-  module _ (d : n ≡ length s → ⊥) (a : Number) (e : a ≡ leading_position (take (n - 0) s)) where
-    pub part-unreadable : a ≡ Number-as-Unreadable → Unreadable ≡ part_of s c
+  module _ (d : n ≡ length s → ⊥) (a : Option ℕ) (e : a ≡ leading_position (take (n - 0) s)) where
+    pub part-unreadable : a ≡ None → Unreadable ≡ part_of s c
     unfolding part_of
-    part-unreadable h = let z : leading_position (take n s) ≡ Number-as-Unreadable = (rw (sub-zero n) at (sym e)) ∙ h in rw (← p.is, ne_eqb n (length s) d, z)
+    part-unreadable h = let z : leading_position (take n s) ≡ None = (rw (sub-zero n) at (sym e)) ∙ h in rw (← p.is, ne_eqb n (length s) d, z)
 
-    pub part-is : (pos : ℕ) (r : Segment) → a ≡ Number-as-Value pos → r ≡ item_at (take (length s - n) (drop n s)) pos c → r ≡ part_of s c
+    pub part-is : (pos : ℕ) (r : Segment) → a ≡ Some pos → r ≡ item_at (take (length s - n) (drop n s)) pos c → r ≡ part_of s c
     unfolding part_of
     part-is pos r h k =
-        let z : leading_position (take n s) ≡ Number-as-Value pos = (rw (sub-zero n) at (sym e)) ∙ h in
+        let z : leading_position (take n s) ≡ Some pos = (rw (sub-zero n) at (sym e)) ∙ h in
         k ∙ rw (← p.is, ne_eqb n (length s) d, z, to_end n s)
 
 -- ---- groups without a position
@@ -140,22 +135,22 @@ module _ (s : List ℕ) (k : ℕ) (p : Place s (index_of 41 s) k) where
   unfolding repeated_of
   repeated-open h = rw (← p.is, eq-eqb k (length s) h)
 
-  module _ (d : k ≡ length s → ⊥) (g : Found) (e : g ≡ substituent_of (take (k - 0) s)) where
-    pub repeated-unknown : g ≡ Found-as-Nothing → Unreadable ≡ repeated_of s
+  module _ (d : k ≡ length s → ⊥) (g : Option ℕ) (e : g ≡ substituent_of (take (k - 0) s)) where
+    pub repeated-unknown : g ≡ None → Unreadable ≡ repeated_of s
     unfolding repeated_of
-    repeated-unknown h = let z : substituent_of (take k s) ≡ Found-as-Nothing = (rw (sub-zero k) at (sym e)) ∙ h in rw (← p.is, ne_eqb k (length s) d, z)
+    repeated-unknown h = let z : substituent_of (take k s) ≡ None = (rw (sub-zero k) at (sym e)) ∙ h in rw (← p.is, ne_eqb k (length s) d, z)
 
-    module _ (row : ℕ) (h : g ≡ Found-as-At row) (n : Number) (f : n ≡ number_or_one (take (length s - (k + 1)) (drop (k + 1) s))) where
-      group-row : substituent_of (take k s) ≡ Found-as-At row
+    module _ (row : ℕ) (h : g ≡ Some row) (n : Option ℕ) (f : n ≡ number_or_one (take (length s - (k + 1)) (drop (k + 1) s))) where
+      group-row : substituent_of (take k s) ≡ Some row
       group-row = (rw (sub-zero k) at (sym e)) ∙ h
 
       count-text : number_or_one (drop (suc k) s) ≡ n
       count-text = rw (to_end (k + 1) s, add-one k) at (sym f)
 
-      pub repeated-unreadable : n ≡ Number-as-Unreadable → Unreadable ≡ repeated_of s
+      pub repeated-unreadable : n ≡ None → Unreadable ≡ repeated_of s
       unfolding repeated_of
       repeated-unreadable i = rw (← p.is, ne_eqb k (length s) d, group-row, count-text ∙ i)
 
-      pub repeated-is : (m : ℕ) → n ≡ Number-as-Value m → Repeated row m ≡ repeated_of s
+      pub repeated-is : (m : ℕ) → n ≡ Some m → Repeated row m ≡ repeated_of s
       unfolding repeated_of
       repeated-is m i = rw (← p.is, ne_eqb k (length s) d, group-row, count-text ∙ i)

@@ -1,16 +1,10 @@
 -- What a piece of a segment says. 01, Token reader, the list after "A segment is trimmed, ..". Bytes: `)` 41, `O` 79. Assumes nothing.
-use Rattle.std.specs.Prelude.{ℕ, ◌+◌, ◌-◌, ◌<◌, ◌≤◌, ◌≡◌, List, [], ◌∷◌, cond, length, take, drop, eqb, ltb}
+use Rattle.std.specs.Prelude.{ℕ, ◌+◌, ◌-◌, ◌<◌, ◌≤◌, ◌≡◌, List, [], ◌∷◌, cond, length, take, drop, eqb, ltb, Option, Some, None}
 use Rattle.scanner.specs.scan.Part.{index_of}
 use Rattle.scanner.specs.scan.Number.{digit_run}
-use Rattle.scanner.specs.declared.scan.Number.{Number}
-use Rattle.scanner.specs.declared.scan.Number.TheVariants.{Value as Number-as-Value, Unreadable as Number-as-Unreadable}
 use Rattle.token_syntax.specs.form.Form.{after_place}
 use Rattle.token_syntax.specs.form.Numbers.{trimmed_number, leading_position, number_or_one}
 use Rattle.group_table.specs.groups.Groups.{substituent_of, alias_ring_size}
-use Rattle.group_table.specs.declared.groups.Found.{Found}
-use Rattle.group_table.specs.declared.groups.Found.TheVariants.{At as Found-as-At, Nothing as Found-as-Nothing}
-use Rattle.group_table.specs.declared.groups.RingSize.{RingSize}
-use Rattle.group_table.specs.declared.groups.RingSize.TheVariants.{Carbons, Nothing as RingSize-as-Nothing}
 use Rattle.chain_record.specs.declared.plain.Bridge.{Bridge}
 use Rattle.chain_record.specs.declared.plain.Bridge.TheVariants.{Epoxide, Carbocycle}
 use Rattle.token_features.specs.declared.features.Segment.{Segment}
@@ -47,10 +41,10 @@ unfoldable pub bridge_of : ℕ → Bridge
 bridge_of size = cond (eqb size 2) Epoxide Carbocycle
 
 -- 01: "The abbr is an alias ring, a group, or else": the alias ring before the group
-abbrev pub named : RingSize → Found → Feature
-named (Carbons n) f = Ring (bridge_of n)
-named RingSize-as-Nothing (Found-as-At row) = Group row
-named RingSize-as-Nothing Found-as-Nothing = Other
+abbrev pub named : Option ℕ → Option ℕ → Feature
+named (Some n) f = Ring (bridge_of n)
+named None (Some row) = Group row
+named None None = Other
 
 unfoldable pub feature_of : List ℕ → Feature
 feature_of abbr = named (alias_ring_size abbr) (substituent_of abbr)
@@ -61,17 +55,17 @@ placed (Ring b) pos c = ring_at pos b c
 placed (Group row) pos c = Located (record { pos = pos; row = row })
 placed Other pos c = Unreadable
 
-abbrev pub placed_by : Feature → Number → ℕ → Segment
-placed_by f (Number-as-Value pos) c = placed f pos c
-placed_by f Number-as-Unreadable c = Unreadable
+abbrev pub placed_by : Feature → Option ℕ → ℕ → Segment
+placed_by f (Some pos) c = placed f pos c
+placed_by f None c = Unreadable
 
 -- 01: "`abbr(list)`: groups or alias rings there". One position of the list, trimmed and without a letter.
 unfoldable pub listed_as : Feature → List ℕ → ℕ → Segment
 listed_as f s c = placed_by f (trimmed_number s) c
 
-abbrev pub oxygens_by : Number → Segment
-oxygens_by (Number-as-Value n) = Oxygens n
-oxygens_by Number-as-Unreadable = Unreadable
+abbrev pub oxygens_by : Option ℕ → Segment
+oxygens_by (Some n) = Oxygens n
+oxygens_by None = Unreadable
 
 -- 01: "`O` with an optional number (1 without), an oxygen count that draws nothing"
 unfoldable pub oxygen_count : List ℕ → Segment
@@ -92,9 +86,9 @@ feature_or Other other pos c = other
 unfoldable pub item_at : List ℕ → ℕ → ℕ → Segment
 item_at abbr pos c = feature_or (feature_of abbr) (oxygens_in abbr) pos c
 
-abbrev pub item_by : List ℕ → Number → ℕ → Segment
-item_by abbr (Number-as-Value pos) c = item_at abbr pos c
-item_by abbr Number-as-Unreadable c = Unreadable
+abbrev pub item_by : List ℕ → Option ℕ → ℕ → Segment
+item_by abbr (Some pos) c = item_at abbr pos c
+item_by abbr None c = Unreadable
 
 -- 01: "split at commas: digits then abbr, no digits meaning 0, a part all digits unreadable". A part without any byte has no abbr either.
 unfoldable pub part_of : List ℕ → ℕ → Segment
@@ -102,10 +96,10 @@ part_of s c =
     let n = digit_run s in
     cond (eqb n (length s)) Unreadable (item_by (drop n s) (leading_position (take n s)) c)
 
-abbrev pub times_by : Found → Number → Segment
-times_by (Found-as-At row) (Number-as-Value n) = Repeated row n
-times_by (Found-as-At row) Number-as-Unreadable = Unreadable
-times_by Found-as-Nothing n = Unreadable
+abbrev pub times_by : Option ℕ → Option ℕ → Segment
+times_by (Some row) (Some n) = Repeated row n
+times_by (Some row) None = Unreadable
+times_by None n = Unreadable
 
 -- 01: "`(abbr)n`: n unlocated groups, 1 if nothing follows". The text after the `(`, up to the first `)` and after it.
 unfoldable pub repeated_of : List ℕ → Segment

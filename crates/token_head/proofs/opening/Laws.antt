@@ -10,8 +10,7 @@ use lib.Dec.{eqb, ltb}
 use borrow.Author.Tests.{lt-ltb, le-ltb, ne_eqb, not-true, not-false, ltb-false}
 use Rattle.scanner.specs.scan.Part.{starts_with}
 use Rattle.scanner.specs.scan.Number.{is_digit, number_up_to, number_limit}
-use Rattle.scanner.specs.declared.scan.Number.{Number}
-use Rattle.scanner.specs.declared.scan.Number.TheVariants.{Value, Unreadable}
+use Rattle.std.specs.Prelude.{Option, Some, None}
 use Rattle.scanner.proofs.scan.Laws.{to_end, starts-length}
 use Rattle.group_table.specs.groups.Groups.{methyl}
 use Rattle.chain_record.specs.declared.plain.ChainPrefix.{ChainPrefix}
@@ -195,16 +194,16 @@ module _ (p : ChainPrefix) (b : Branch) (w : ℕ) (gs : List ℕ) where
   pub start-anteiso : (o : ℕ) (r : Started) → b ≡ Anteiso → o ≡ branch_offset b → Starts r gs (branched p o w) → Starts r gs (start_chain p b w)
   start-anteiso o r e f s = let g : o ≡ 2 = f ∙ ap branch_offset e in rw e (rw g at s)
 
-module _ (p : ChainPrefix) (b : Branch) (t : List ℕ) (v : Number) (e : v ≡ number_up_to 4294967295 t) (gs : List ℕ) where
-  pub carbons-unreadable : v ≡ Unreadable → Starts (Started-as-Refused 11) gs (carbons_of p b t)
+module _ (p : ChainPrefix) (b : Branch) (t : List ℕ) (v : Option ℕ) (e : v ≡ number_up_to 4294967295 t) (gs : List ℕ) where
+  pub carbons-unreadable : v ≡ None → Starts (Started-as-Refused 11) gs (carbons_of p b t)
   unfolding carbons_of
   carbons-unreadable f = record { stands = λ bs rs. rw (sym e ∙ f) refl }
 
-  pub carbons-over : (n : ℕ) → v ≡ Value n → 255 < n → Starts (Started-as-Refused 31) gs (carbons_of p b t)
+  pub carbons-over : (n : ℕ) → v ≡ Some n → 255 < n → Starts (Started-as-Refused 31) gs (carbons_of p b t)
   unfolding carbons_of
   carbons-over n f h = record { stands = λ bs rs. rw (sym e ∙ f, lt-ltb max_carbons n h) refl }
 
-  pub carbons-read : (n : ℕ) (r : Started) → v ≡ Value n → n ≤ 255 → Starts r gs (start_chain p b n) → Starts r gs (carbons_of p b t)
+  pub carbons-read : (n : ℕ) (r : Started) → v ≡ Some n → n ≤ 255 → Starts r gs (start_chain p b n) → Starts r gs (carbons_of p b t)
   unfolding carbons_of
   carbons-read n r f h s = record { stands = λ bs rs. rw (sym e ∙ f, le-ltb max_carbons n h) (s.stands bs rs) }
 
@@ -234,9 +233,9 @@ carbons-few p b t d h = value (number_up_to number_limit t) h
     test true n e h = let z : ◌≡◌ {A = ℕ} 0 1 = cc in absurd (omega arith)
     test false n e h = start b n (ltb-false max_carbons n e) h
 
-    value : (v : Number) → carbons_by p b v ≡ Read d → d.carbon ≤ max_carbons
-    value (Value n) h = test (ltb max_carbons n) n refl h
-    value Unreadable h = let z : ◌≡◌ {A = ℕ} 0 1 = cc in absurd (omega arith)
+    value : (v : Option ℕ) → carbons_by p b v ≡ Read d → d.carbon ≤ max_carbons
+    value (Some n) h = test (ltb max_carbons n) n refl h
+    value None h = let z : ◌≡◌ {A = ℕ} 0 1 = cc in absurd (omega arith)
 
 -- its carbons are within the limit
 pub start-few : (p : ChainPrefix) (b : Branch) (t gs : List ℕ) (r : Started) (s : Start) → Starts r gs (carbons_of p b t) → r ≡ Started-as-Read s → s.carbon ≤ max_carbons

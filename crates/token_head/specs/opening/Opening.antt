@@ -1,10 +1,8 @@
 -- 01, Token reader: what stands before the bond count. "Otherwise `iso-` or `anteiso-`, then `O-`, `P-`, or d/D/t/T before a digit, then the
 -- branch word if not yet seen. Carbon text to the first colon". Assumes nothing.
-use Rattle.std.specs.Prelude.{ℕ, ◌+◌, ◌-◌, ◌≤◌, ◌≡◌, List, [], ◌∷◌, true, false, cond, length, drop, eqb, ltb}
+use Rattle.std.specs.Prelude.{ℕ, ◌+◌, ◌-◌, ◌≤◌, ◌≡◌, List, [], ◌∷◌, true, false, cond, length, drop, eqb, ltb, Option, Some, None}
 use Rattle.scanner.specs.scan.Part.{starts_with}
 use Rattle.scanner.specs.scan.Number.{is_digit, number_up_to, number_limit}
-use Rattle.scanner.specs.declared.scan.Number.{Number}
-use Rattle.scanner.specs.declared.scan.Number.TheVariants.{Value, Unreadable}
 use Rattle.group_table.specs.groups.Groups.{methyl}
 use Rattle.chain_record.specs.declared.plain.ChainPrefix.{ChainPrefix}
 use Rattle.chain_record.specs.declared.plain.ChainPrefix.TheVariants.{Acyl, EtherAlkyl, EtherAlkenyl, SphingoidD, SphingoidT}
@@ -97,9 +95,9 @@ start_chain p Iso w = branched p (branch_offset Iso) w
 start_chain p Anteiso w = branched p (branch_offset Anteiso) w
 
 -- 11 where the carbon text is no number; 31: "written carbons over 255 (.. carbons with their text ..)"
-abbrev pub carbons_by : ChainPrefix → Branch → Number → Outcome
-carbons_by p b (Value n) = cond (ltb max_carbons n) (Refused over_limit) (start_chain p b n)
-carbons_by p b Unreadable = Refused unreadable
+abbrev pub carbons_by : ChainPrefix → Branch → Option ℕ → Outcome
+carbons_by p b (Some n) = cond (ltb max_carbons n) (Refused over_limit) (start_chain p b n)
+carbons_by p b None = Refused unreadable
 
 unfoldable pub carbons_of : ChainPrefix → Branch → List ℕ → Outcome
 carbons_of p b text = carbons_by p b (number_up_to number_limit text)

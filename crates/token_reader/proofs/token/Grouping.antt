@@ -26,10 +26,7 @@ use Rattle.chain_record.specs.plain.Chain.{Chain, Outcome, Read, Refused, and_th
 use Rattle.chain_record.specs.codes.Codes.{group_in, group_code}
 use Rattle.chain_record.proofs.codes.Laws.{group-back}
 use Rattle.group_table.specs.groups.Groups.{substituent_of, alias_ring_size}
-use Rattle.group_table.specs.declared.groups.Found.{Found}
-use Rattle.group_table.specs.declared.groups.Found.TheVariants.{At as Found-as-At, Nothing as Found-as-Nothing}
-use Rattle.group_table.specs.declared.groups.RingSize.{RingSize}
-use Rattle.group_table.specs.declared.groups.RingSize.TheVariants.{Carbons, Nothing as RingSize-as-Nothing}
+use Rattle.std.specs.Prelude.{Option, Some, None}
 use Rattle.group_table.proofs.groups.Laws.{substituent-row}
 use Rattle.token_syntax.specs.form.Parts.{parts_at}
 use Rattle.token_syntax.specs.form.Form.{segment_text, after_opening, before_closing, cy_text, form_of}
@@ -193,10 +190,10 @@ group-row : (abbr : List ℕ) (row : ℕ) → feature_of abbr ≡ Feature-as-Gro
 unfolding feature_of
 group-row abbr row e = go (alias_ring_size abbr) (substituent_of abbr) refl e
   where
-    go : (r : RingSize) (f : Found) → substituent_of abbr ≡ f → named r f ≡ Feature-as-Group row → row < 17
-    go (Carbons n) f h e = let z : ◌≡◌ {A = ℕ} 0 1 = cc in absurd (omega arith)
-    go RingSize-as-Nothing (Found-as-At i) h e = let z : i ≡ row = cc in rw (← z) (substituent-row abbr i h)
-    go RingSize-as-Nothing Found-as-Nothing h e = let z : ◌≡◌ {A = ℕ} 0 1 = cc in absurd (omega arith)
+    go : (r : Option ℕ) (f : Option ℕ) → substituent_of abbr ≡ f → named r f ≡ Feature-as-Group row → row < 17
+    go (Some n) f h e = let z : ◌≡◌ {A = ℕ} 0 1 = cc in absurd (omega arith)
+    go None (Some i) h e = let z : i ≡ row = cc in rw (← z) (substituent-row abbr i h)
+    go None None h e = let z : ◌≡◌ {A = ℕ} 0 1 = cc in absurd (omega arith)
 
 item-group : (abbr : List ℕ) (row pos c : ℕ) → feature_of abbr ≡ Feature-as-Group row → item_at abbr pos c ≡ Located (record { pos = pos; row = row })
 unfolding item_at

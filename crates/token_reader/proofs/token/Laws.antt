@@ -14,8 +14,7 @@ use lib.Dec.{eqb, leb}
 use borrow.Author.Tests.{lt-ltb, le-ltb, eq-eqb, ne_eqb, not-true, not-false}
 use Rattle.scanner.specs.scan.Part.{trimmed, index_of, starts_with, same_bytes, Place}
 use Rattle.scanner.specs.scan.Number.{digit_run, digits_up_to}
-use Rattle.scanner.specs.declared.scan.Number.{Number}
-use Rattle.scanner.specs.declared.scan.Number.TheVariants.{Value, Unreadable}
+use Rattle.std.specs.Prelude.{Option, Some, None}
 use Rattle.scanner.proofs.scan.Laws.{to_end, starts-length}
 use Rattle.chain_record.specs.declared.plain.ChainPrefix.{ChainPrefix}
 use Rattle.chain_record.specs.declared.plain.ChainPrefix.TheVariants.{Acyl}
@@ -284,15 +283,15 @@ module _ (declared : ℕ) (s : List ℕ) (carbon : ℕ) (k : Counts) (bs gs rs :
         let q : m ≡ missing_of d.carbon d.bonds declared = v ∙ rw (bonds-kept bs k.bonds d.bonds u.bonds l, u.carbon) in
         sym (rw (sym e ∙ t, ← q)))
 
-module _ (s : List ℕ) (carbon : ℕ) (k : Counts) (bs gs rs : List ℕ) (n : ℕ) (f : Place s (digit_run s) n) (v : Number) (e : v ≡ digits_up_to 4294967295 (take (n - 0) s)) where
+module _ (s : List ℕ) (carbon : ℕ) (k : Counts) (bs gs rs : List ℕ) (n : ℕ) (f : Place s (digit_run s) n) (v : Option ℕ) (e : v ≡ digits_up_to 4294967295 (take (n - 0) s)) where
   run : v ≡ digits_up_to 4294967295 (take (digit_run s) s)
   run = rw (sub-zero n, f.is) at e
 
-  pub no-count : v ≡ Unreadable → Ends carbon k bs gs rs (Ended-as-Refused 11) bs gs rs (bonds_of s)
+  pub no-count : v ≡ None → Ends carbon k bs gs rs (Ended-as-Refused 11) bs gs rs (bonds_of s)
   unfolding bonds_of
   no-count g = fills-refused 11 (tell 0 k bs gs rs) (bonds_of s) (λ x d u. rw (sym run ∙ g))
 
-  pub count-read : (m : ℕ) (r : Ended) (ys hs zs : List ℕ) → v ≡ Value m → Ends carbon k bs gs rs r ys hs zs (after_count m (take (length s - n) (drop n s))) → Ends carbon k bs gs rs r ys hs zs (bonds_of s)
+  pub count-read : (m : ℕ) (r : Ended) (ys hs zs : List ℕ) → v ≡ Some m → Ends carbon k bs gs rs r ys hs zs (after_count m (take (length s - n) (drop n s))) → Ends carbon k bs gs rs r ys hs zs (bonds_of s)
   unfolding bonds_of
   count-read m r ys hs zs g w = fills_same w (λ x d u. sym (rw (sym run ∙ g, ← f.is, to_end n s)))
 

@@ -14,7 +14,7 @@ use lib.Dec.{eqb, ltb, leb, eqb-suc-suc}
 use borrow.Author.Tests.{le-ltb, le-leb, leb-true, eq-eqb, ne_eqb, eqb-true, not-false}
 use Rattle.scanner.specs.scan.Part.{first_byte, index_of, ending_after, ending, trimmed, starts_with, same_bytes, Place}
 use Rattle.scanner.specs.scan.Number.{is_digit, digit_run, all_digits, value_from, checked, digits_up_to, after_plus, number_up_to, number_limit}
-use Rattle.scanner.specs.declared.scan.Number.TheVariants.{Value}
+use Rattle.std.specs.Prelude.{Some}
 use Rattle.scanner.proofs.scan.Laws.{to_end, digit-from}
 use Rattle.scanner.proofs.part.Laws.{first-within}
 use Rattle.scanner.proofs.spaces.Laws.{trim-whole, end-here}
@@ -31,7 +31,6 @@ use Rattle.chain_record.specs.codes.Codes.{bond_code, bond_in, group_in, ring_in
 use Rattle.chain_record.proofs.codes.Laws.{bond-back}
 use Rattle.token_syntax.specs.form.Parts.{onto, parts_at, list_parts}
 use Rattle.token_head.specs.positions.Each.{each}
-use Rattle.token_head.specs.declared.positions.Position.TheVariants.{At}
 use Rattle.token_head.specs.positions.Positions.{geometry_of, numbered, lettered, position_of, bond_at, bond_list}
 use Rattle.token_head.specs.declared.opening.Branch.TheVariants.{Straight}
 use Rattle.token_head.specs.declared.opening.Opening.{Opening}
@@ -80,13 +79,13 @@ digit-is b d e n = sym e ∙ not-false d n
 pub figure-most : (b : ℕ) → is_digit b ≡ true → b - 48 ≤ 9
 figure-most b e = omega (arith, digit-most b e)
 
-pub one-digit : (x : ℕ) → is_digit x ≡ true → digits_up_to number_limit (x ∷ []) ≡ Value (x - 48)
+pub one-digit : (x : ℕ) → is_digit x ≡ true → digits_up_to number_limit (x ∷ []) ≡ Some (x - 48)
 unfolding digits_up_to checked all_digits value_from
 one-digit x e =
     let z : 0 * 10 + (x - 48) ≡ x - 48 = omega arith in
     rw (e, z, le-ltb number_limit (x - 48) (omega (arith, digit-most x e)))
 
-pub two_digits : (x y : ℕ) → is_digit x ≡ true → is_digit y ≡ true → digits_up_to number_limit (x ∷ y ∷ []) ≡ Value ((x - 48) * 10 + (y - 48))
+pub two_digits : (x y : ℕ) → is_digit x ≡ true → is_digit y ≡ true → digits_up_to number_limit (x ∷ y ∷ []) ≡ Some ((x - 48) * 10 + (y - 48))
 unfolding digits_up_to checked all_digits value_from
 two_digits x y e f =
     let z : (0 * 10 + (x - 48)) * 10 + (y - 48) ≡ (x - 48) * 10 + (y - 48) = omega arith in
@@ -227,7 +226,7 @@ unfolding geometry_of
 letter-trans pos b next code e f = rw (e, f) (record { is = refl; low = omega arith; high = omega arith; stated = λ h. let z : ◌≡◌ {A = ℕ} 0 1 = cc in absurd (omega arith) })
 
 -- the number before a letter
-number_at : (g : Geometry) (s : List ℕ) (n : ℕ) → number_up_to number_limit s ≡ Value n → numbered g s ≡ At (record { pos = n; geom = g })
+number_at : (g : Geometry) (s : List ℕ) (n : ℕ) → number_up_to number_limit s ≡ Some n → numbered g s ≡ Some (record { pos = n; geom = g })
 unfolding numbered
 number_at g s n e = rw e
 
@@ -237,7 +236,7 @@ module _ (x y : ℕ) (e : is_digit x ≡ true) (l : 69 ≤ y) (h : y ≤ 90) (n 
   before-one Cis n = refl
   before-one Trans n = refl
 
-  position-one : position_of (x ∷ y ∷ []) ≡ At (record { pos = x - 48; geom = geometry_of y })
+  position-one : position_of (x ∷ y ∷ []) ≡ Some (record { pos = x - 48; geom = geometry_of y })
   unfolding position_of
   position-one =
       let w : x ∷ y ∷ [] ≡ trimmed (x ∷ y ∷ []) = trim-whole (x ∷ y ∷ []) (λ z. omega arith) (λ z. omega (arith, digit-from x e)) (λ z. omega arith) in
@@ -249,7 +248,7 @@ module _ (x v y : ℕ) (e : is_digit x ≡ true) (f : is_digit v ≡ true) (l : 
   before-two Cis n = refl
   before-two Trans n = refl
 
-  position-two : position_of (x ∷ v ∷ y ∷ []) ≡ At (record { pos = (x - 48) * 10 + (v - 48); geom = geometry_of y })
+  position-two : position_of (x ∷ v ∷ y ∷ []) ≡ Some (record { pos = (x - 48) * 10 + (v - 48); geom = geometry_of y })
   unfolding position_of
   position-two =
       let w : x ∷ v ∷ y ∷ [] ≡ trimmed (x ∷ v ∷ y ∷ []) = trim-whole (x ∷ v ∷ y ∷ []) (λ z. omega arith) (λ z. omega (arith, digit-from x e)) (λ z. omega arith) in
@@ -291,11 +290,11 @@ left-at : (declared n : ℕ) (t : List ℕ) (d : Chain) → index_of 41 t ≡ n 
 unfolding list_left
 left-at declared n t d e = rw e
 
-first_part : (s : List ℕ) (ss : List (List ℕ)) (b : DbPos) (d : Chain) → position_of s ≡ At b → each bond_at (s ∷ ss) d ≡ each bond_at ss (with_bond b d)
+first_part : (s : List ℕ) (ss : List (List ℕ)) (b : DbPos) (d : Chain) → position_of s ≡ Some b → each bond_at (s ∷ ss) d ≡ each bond_at ss (with_bond b d)
 unfolding each bond_at
 first_part s ss b d e = rw e
 
-only_part : (s : List ℕ) (b : DbPos) (d : Chain) → position_of s ≡ At b → each bond_at (s ∷ []) d ≡ Read (with_bond b d)
+only_part : (s : List ℕ) (b : DbPos) (d : Chain) → position_of s ≡ Some b → each bond_at (s ∷ []) d ≡ Read (with_bond b d)
 unfolding each bond_at
 only_part s b d e = rw e
 

@@ -11,13 +11,8 @@ use lib.Dec.{eqb, ltb}
 use borrow.Author.Tests.{ltb-false}
 use Rattle.scanner.specs.scan.Part.{part, trimmed, index_of, starts_with, same_bytes}
 use Rattle.scanner.specs.scan.Number.{digit_run, digits_up_to, number_up_to, number_limit}
-use Rattle.scanner.specs.declared.scan.Number.{Number}
-use Rattle.scanner.specs.declared.scan.Number.TheVariants.{Value, Unreadable}
+use Rattle.std.specs.Prelude.{Option, Some, None}
 use Rattle.group_table.specs.groups.Groups.{methyl, substituent_of, alias_ring_size}
-use Rattle.group_table.specs.declared.groups.Found.{Found}
-use Rattle.group_table.specs.declared.groups.Found.TheVariants.{At as Found-as-At, Nothing as Found-as-Nothing}
-use Rattle.group_table.specs.declared.groups.RingSize.{RingSize}
-use Rattle.group_table.specs.declared.groups.RingSize.TheVariants.{Carbons, Nothing as RingSize-as-Nothing}
 use Rattle.group_table.proofs.groups.Laws.{substituent-row}
 use Rattle.chain_record.specs.declared.plain.Bridge.{Bridge}
 use Rattle.chain_record.specs.declared.plain.Bridge.TheVariants.{Epoxide, Carbocycle}
@@ -34,8 +29,6 @@ use Rattle.token_syntax.specs.form.Numbers.{trimmed_number, leading_position, nu
 use Rattle.token_syntax.specs.declared.form.Form.{Form}
 use Rattle.token_syntax.specs.declared.form.Form.TheVariants.{Ring as Form-as-Ring, Repeated as Form-as-Repeated, Listed as Form-as-Listed, Parts as Form-as-Parts}
 use Rattle.token_head.specs.positions.Each.{each}
-use Rattle.token_head.specs.declared.positions.Position.{Position}
-use Rattle.token_head.specs.declared.positions.Position.TheVariants.{At as Position-as-At, Unreadable as Position-as-Unreadable}
 use Rattle.token_head.specs.positions.Positions.{position_of, with_position, bond_at, bond_list, inside, ring_bond_at, ring_bond_list}
 use Rattle.token_features.specs.declared.features.Segment.{Segment}
 use Rattle.token_features.specs.declared.features.Segment.TheVariants.{Cycle, Located, Repeated, Oxygens, Unreadable as Segment-as-Unreadable}
@@ -71,9 +64,9 @@ unfolding each
 ok-each P f g [] d k = k
 ok-each P f g (s ∷ ss) d k = ok-then P (f s d) (each f ss) (g s d k) (λ e h. ok-each P f g ss e h)
 
-ok-value : (P : Chain → Type 0) (v : Number) (f : ℕ → Outcome) → ((n : ℕ) → Ok P (f n)) → Ok P (value_or11 v f)
-ok-value P (Value n) f g = g n
-ok-value P Unreadable f g = tt
+ok-value : (P : Chain → Type 0) (v : Option ℕ) (f : ℕ → Outcome) → ((n : ℕ) → Ok P (f n)) → Ok P (value_or11 v f)
+ok-value P (Some n) f g = g n
+ok-value P None f g = tt
 
 ok_read : (P : Chain → Type 0) (o : Outcome) (d : Chain) → Ok P o → o ≡ Read d → P d
 ok_read P (Read e) d k h = let z : e ≡ d = cc in rw z at k
@@ -174,29 +167,29 @@ feature-named : (abbr : List ℕ) → Named (feature_of abbr)
 unfolding feature_of
 feature-named abbr = go (alias_ring_size abbr) (substituent_of abbr) refl
   where
-    go : (r : RingSize) (f : Found) → substituent_of abbr ≡ f → Named (named r f)
-    go (Carbons n) f e = tt
-    go RingSize-as-Nothing (Found-as-At row) e = substituent-row abbr row e
-    go RingSize-as-Nothing Found-as-Nothing e = tt
+    go : (r : Option ℕ) (f : Option ℕ) → substituent_of abbr ≡ f → Named (named r f)
+    go (Some n) f e = tt
+    go None (Some row) e = substituent-row abbr row e
+    go None None e = tt
 
 listed-fit : (f : Feature) (s : List ℕ) (c : ℕ) → Named f → Fit c (listed_as f s c)
 unfolding listed_as
 listed-fit f s c h = go f (trimmed_number s) h
   where
-    go : (f : Feature) (v : Number) → Named f → Fit c (placed_by f v c)
-    go (Feature-as-Ring b) (Value n) h = ring-at-fit n b c
-    go (Feature-as-Group row) (Value n) h = h
-    go Feature-as-Other (Value n) h = tt
-    go f Unreadable h = tt
+    go : (f : Feature) (v : Option ℕ) → Named f → Fit c (placed_by f v c)
+    go (Feature-as-Ring b) (Some n) h = ring-at-fit n b c
+    go (Feature-as-Group row) (Some n) h = h
+    go Feature-as-Other (Some n) h = tt
+    go f None h = tt
 
 oxygens-fit : (s : List ℕ) (c : ℕ) → Fit c (oxygens_in s)
 unfolding oxygens_in oxygen_count
 oxygens-fit [] c = tt
 oxygens-fit (x ∷ s) c = fit-either c (eqb x 79) _ _ (go (number_or_one s)) tt
   where
-    go : (v : Number) → Fit c (oxygens_by v)
-    go (Value n) = tt
-    go Unreadable = tt
+    go : (v : Option ℕ) → Fit c (oxygens_by v)
+    go (Some n) = tt
+    go None = tt
 
 part-fit : (s : List ℕ) (c : ℕ) → Fit c (part_of s c)
 unfolding part_of item_at
@@ -210,18 +203,18 @@ part-fit s c = fit-either c (eqb (digit_run s) (length s)) _ _ tt (go (leading_p
     item (Feature-as-Group row) n h = h
     item Feature-as-Other n h = oxygens-fit abbr c
 
-    go : (v : Number) → Fit c (item_by abbr v c)
-    go (Value n) = item (feature_of abbr) n (feature-named abbr)
-    go Unreadable = tt
+    go : (v : Option ℕ) → Fit c (item_by abbr v c)
+    go (Some n) = item (feature_of abbr) n (feature-named abbr)
+    go None = tt
 
 repeated-fit : (s : List ℕ) (c : ℕ) → Fit c (repeated_of s)
 unfolding repeated_of
 repeated-fit s c = fit-either c (eqb (index_of 41 s) (length s)) _ _ tt (go (substituent_of (take (index_of 41 s) s)) (number_or_one (after_place (index_of 41 s) s)) refl)
   where
-    go : (f : Found) (v : Number) → substituent_of (take (index_of 41 s) s) ≡ f → Fit c (times_by f v)
-    go (Found-as-At row) (Value n) e = substituent-row (take (index_of 41 s) s) row e
-    go (Found-as-At row) Unreadable e = tt
-    go Found-as-Nothing v e = tt
+    go : (f : Option ℕ) (v : Option ℕ) → substituent_of (take (index_of 41 s) s) ≡ f → Fit c (times_by f v)
+    go (Some row) (Some n) e = substituent-row (take (index_of 41 s) s) row e
+    go (Some row) None e = tt
+    go None v e = tt
 
 -- ---- the lists of double bonds
 
@@ -229,17 +222,17 @@ bonds-apt : (c : ℕ) (s : List ℕ) (d : Chain) → Apt c d → Ok (Apt c) (bon
 unfolding bond_list bond_at
 bonds-apt c s d k = ok-each (Apt c) bond_at (λ t e h. go (position_of t) e h) (list_parts s) d k
   where
-    go : (p : Position) (e : Chain) → Apt c e → Ok (Apt c) (with_position p e)
-    go (Position-as-At b) e h = apt-bond c e h b
-    go Position-as-Unreadable e h = tt
+    go : (p : Option DbPos) (e : Chain) → Apt c e → Ok (Apt c) (with_position p e)
+    go (Some b) e h = apt-bond c e h b
+    go None e h = tt
 
 ring-bonds-apt : (c start end : ℕ) (s : List ℕ) (d : Chain) → Apt c d → Ok (Apt c) (ring_bond_list start end s d)
 unfolding ring_bond_list ring_bond_at
 ring-bonds-apt c start end s d k = ok-each (Apt c) (ring_bond_at start end) (λ t e h. go (position_of t) e h) (list_parts s) d k
   where
-    go : (p : Position) (e : Chain) → Apt c e → Ok (Apt c) (inside start end p e)
-    go (Position-as-At b) e h = ok-either (Apt c) (ltb b.pos start) _ _ tt (ok-either (Apt c) (ltb b.pos end) _ _ (apt-bond c e h b) tt)
-    go Position-as-Unreadable e h = tt
+    go : (p : Option DbPos) (e : Chain) → Apt c e → Ok (Apt c) (inside start end p e)
+    go (Some b) e h = ok-either (Apt c) (ltb b.pos start) _ _ tt (ok-either (Apt c) (ltb b.pos end) _ _ (apt-bond c e h b) tt)
+    go None e h = tt
 
 -- ---- a segment
 
@@ -346,9 +339,9 @@ bonds-whole c s d k = go (digits_up_to number_limit (take (digit_run s) s))
     list : Ok (Whole c) (counted_list (take (index_of 41 t) t) d)
     list = ok-then (Whole c) (bond_list (take (index_of 41 t) t) d) counts_of (bonds-apt c (take (index_of 41 t) t) d k.apt) (λ e h. counts_whole c e h)
 
-    go : (v : Number) → Ok (Whole c) (count_by v u d)
-    go Unreadable = tt
-    go (Value n) =
+    go : (v : Option ℕ) → Ok (Whole c) (count_by v u d)
+    go None = tt
+    go (Some n) =
         ok-either (Whole c) (starts_with (40 ∷ []) u) _ _
         (ok-either (Whole c) (eqb (index_of 41 t) (length t)) _ _ tt
         (ok-then (Whole c) (counted_list (take (index_of 41 t) t) d) _ list (λ e h. rest-whole c (missing_of d.carbon e.bonds n) (drop (index_of 41 t + 1) t) e h)))
@@ -395,9 +388,9 @@ carbons-complete p b t = go (number_up_to number_limit t)
     test true n e = tt
     test false n e = start-complete p b n (ltb-false max_carbons n e)
 
-    go : (v : Number) → Ok Complete (carbons_by p b v)
-    go (Value n) = test (ltb max_carbons n) n refl
-    go Unreadable = tt
+    go : (v : Option ℕ) → Ok Complete (carbons_by p b v)
+    go (Some n) = test (ltb max_carbons n) n refl
+    go None = tt
 
 sound-of : (c : ℕ) (d : Chain) → Whole c d → Sound d
 sound-of c d k =

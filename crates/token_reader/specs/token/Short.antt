@@ -1,9 +1,8 @@
 -- What the short way reads of a token that starts as nearly all do, `18:1(9Z)`: what the contracts of its functions cite. Each says what is left
 -- of the definitions of specs/token/Token.antt once so many bytes are read. Assumes nothing.
-use Rattle.std.specs.Prelude.{ℕ, ◌+◌, ◌*◌, ◌-◌, ◌≤◌, ◌<◌, ◌≡◌, List, [], ◌∷◌, ◌++◌, map, Bool, true, false, cond, length, take, drop, get_or, eqb, ltb}
+use Rattle.std.specs.Prelude.{ℕ, ◌+◌, ◌*◌, ◌-◌, ◌≤◌, ◌<◌, ◌≡◌, List, [], ◌∷◌, ◌++◌, map, Bool, true, false, cond, length, take, drop, get_or, eqb, ltb, Some}
 use Rattle.scanner.specs.scan.Part.{index_of, ending}
 use Rattle.scanner.specs.scan.Number.{is_digit, digit_run}
-use Rattle.scanner.specs.declared.scan.Number.TheVariants.{Value}
 use Rattle.chain_record.specs.declared.plain.ChainPrefix.{ChainPrefix}
 use Rattle.chain_record.specs.declared.plain.Geometry.TheVariants.{Unstated}
 use Rattle.chain_record.specs.declared.plain.DbPos.{DbPos}
@@ -132,7 +131,7 @@ Digits (x ∷ s) = (is_digit x ≡ true) × Digits s
 pub record Numeral (s : List ℕ) (n : ℕ) : Type 0 where
   pub digits : Digits s
   pub some : 0 < length s
-  pub number : trimmed_number s ≡ Value n
+  pub number : trimmed_number s ≡ Some n
 
 -- the position that t starts with, of at most two digits
 pub record Leads (t : List ℕ) (r : Lead) : Type 0 where

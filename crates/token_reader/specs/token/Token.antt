@@ -1,9 +1,7 @@
 -- 01, Token reader: what a token says, from its untrimmed bytes to a chain, 31 or 11. Bytes: `(` 40, `)` 41, `:` 58. Assumes nothing.
-use Rattle.std.specs.Prelude.{ℕ, ◌+◌, ◌-◌, List, [], ◌∷◌, Bool, true, false, cond, length, take, drop, eqb, ltb, leb}
+use Rattle.std.specs.Prelude.{ℕ, ◌+◌, ◌-◌, List, [], ◌∷◌, Bool, true, false, cond, length, take, drop, eqb, ltb, leb, Option, Some, None}
 use Rattle.scanner.specs.scan.Part.{trimmed, index_of, starts_with, same_bytes}
 use Rattle.scanner.specs.scan.Number.{digit_run, digits_up_to, number_limit}
-use Rattle.scanner.specs.declared.scan.Number.{Number}
-use Rattle.scanner.specs.declared.scan.Number.TheVariants.{Value, Unreadable}
 use Rattle.chain_record.specs.declared.plain.ChainPrefix.{ChainPrefix}
 use Rattle.chain_record.specs.declared.plain.ChainPrefix.TheVariants.{Acyl}
 use Rattle.chain_record.specs.declared.plain.DbPos.{DbPos}
@@ -57,9 +55,9 @@ after_count declared s d =
     cond (starts_with (40 ∷ []) s) (listed_of declared (drop 1 s) d)
     (rest_of (missing_of d.carbon d.bonds declared) s d)
 
-abbrev pub count_by : Number → List ℕ → Chain → Outcome
-count_by (Value n) s d = after_count n s d
-count_by Unreadable s d = Refused unreadable
+abbrev pub count_by : Option ℕ → List ℕ → Chain → Outcome
+count_by (Some n) s d = after_count n s d
+count_by None s d = Refused unreadable
 
 -- "digits of the bond count"; "the bond count and a group's leading position are digits only"
 unfoldable pub bonds_of : List ℕ → Chain → Outcome

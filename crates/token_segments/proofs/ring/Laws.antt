@@ -9,8 +9,7 @@ use mathlib.Core.List.{List, []}
 use lib.ListN.{length, take, drop}
 use borrow.Author.Tests.{lt-ltb, le-ltb, eq-eqb, ne_eqb, not-true, not-false}
 use Rattle.scanner.specs.scan.Part.{Place, index_of}
-use Rattle.scanner.specs.declared.scan.Number.{Number}
-use Rattle.scanner.specs.declared.scan.Number.TheVariants.{Value as Number-as-Value, Unreadable as Number-as-Unreadable}
+use Rattle.std.specs.Prelude.{Option, Some, None}
 use Rattle.scanner.proofs.scan.Laws.{to_end}
 use Rattle.token_syntax.specs.form.Parts.{list_parts}
 use Rattle.token_syntax.specs.form.Form.{ends_in_parenthesis, after_place}
@@ -70,15 +69,15 @@ module _ (g : Ring) (n : ℕ) (s : List ℕ) (c : Gathered) (b : Bool) (e : b �
   unfolding ring_listed
   ring-closed r h w = closed-by (ring_list g n) s c b e r h w
 
-module _ (g : Ring) (s : List ℕ) (q : ℕ) (p : Place s (index_of 40 s) q) (a : Number) (e : a ≡ ring_count (take (q - 0) s)) where
+module _ (g : Ring) (s : List ℕ) (q : ℕ) (p : Place s (index_of 40 s) q) (a : Option ℕ) (e : a ≡ ring_count (take (q - 0) s)) where
   count_at : ring_count (take (index_of 40 s) s) ≡ a
   count_at = rw (sub-zero q, p.is) at (sym e)
 
-  pub bonds-unreadable : (c : Gathered) → a ≡ Number-as-Unreadable → Fills ungrouped_as c (Refuses 11) (ring_bonds g s)
+  pub bonds-unreadable : (c : Gathered) → a ≡ None → Fills ungrouped_as c (Refuses 11) (ring_bonds g s)
   unfolding ring_bonds
   bonds-unreadable c h = fills-refused 11 c (ring_bonds g s) (λ x d u. rw (count_at ∙ h))
 
-  module _ (n : ℕ) (h : a ≡ Number-as-Value n) where
+  module _ (n : ℕ) (h : a ≡ Some n) where
     pub bonds-unlisted : (k : Counts) (bs rs zs : List ℕ) (i : ℕ) → q ≡ length s → Grows rings_as (first k.rings rs) (first i zs) (with_ring g)
         → Fills ungrouped_as (gather k bs [] rs) (Has (gather (record { bonds = k.bonds; groups = k.groups; rings = i; oxygens = k.oxygens }) bs [] zs)) (ring_bonds g s)
     unfolding ring_bonds
@@ -96,15 +95,15 @@ no-ring (Repeated row m) f n = refl
 no-ring (Oxygens m) f n = refl
 no-ring Unreadable f n = refl
 
-module _ (start end : ℕ) (s : List ℕ) (carbon : ℕ) (c : Gathered) (m : ℕ) (p : Place s (index_of 58 s) m) (a : Number) (e : a ≡ trimmed_number (take (m - 0) s)) where
+module _ (start end : ℕ) (s : List ℕ) (carbon : ℕ) (c : Gathered) (m : ℕ) (p : Place s (index_of 58 s) m) (a : Option ℕ) (e : a ≡ trimmed_number (take (m - 0) s)) where
   size-at : trimmed_number (take (index_of 58 s) s) ≡ a
   size-at = rw (sub-zero m, p.is) at (sym e)
 
-  pub size-unreadable : a ≡ Number-as-Unreadable → Fills (on carbon ungrouped_as) c (Refuses 11) (ring_sized start end s)
+  pub size-unreadable : a ≡ None → Fills (on carbon ungrouped_as) c (Refuses 11) (ring_sized start end s)
   unfolding ring_sized
   size-unreadable h = fills-refused 11 c (ring_sized start end s) (λ x d u. rw (size-at ∙ h))
 
-  module _ (size : ℕ) (h : a ≡ Number-as-Value size) (g : Segment) (f : g ≡ ring_of start end size carbon) where
+  module _ (size : ℕ) (h : a ≡ Some size) (g : Segment) (f : g ≡ ring_of start end size carbon) where
     pub size-wrong : ((r : Ring) → g ≡ Cycle r → ⊥) → Fills (on carbon ungrouped_as) c (Refuses 11) (ring_sized start end s)
     unfolding ring_sized
     size-wrong n =
@@ -115,19 +114,19 @@ module _ (start end : ℕ) (s : List ℕ) (carbon : ℕ) (c : Gathered) (m : ℕ
     unfolding ring_sized
     size-sized t ring r k l w = fills_same (fills-on carbon w) (λ x d u. sym (rw (size-at ∙ h, ← u.carbon, sym f ∙ k, ← p.is, ← l)))
 
-module _ (s : List ℕ) (dash cy carbon : ℕ) (c : Gathered) (a : Number) (e : a ≡ trimmed_number (take (dash - 0) s)) where
+module _ (s : List ℕ) (dash cy carbon : ℕ) (c : Gathered) (a : Option ℕ) (e : a ≡ trimmed_number (take (dash - 0) s)) where
   start-at : trimmed_number (take dash s) ≡ a
   start-at = rw (sub-zero dash) at (sym e)
 
-  pub start-unreadable : a ≡ Number-as-Unreadable → Fills (on carbon ungrouped_as) c (Refuses 11) (ring_segment s dash cy)
+  pub start-unreadable : a ≡ None → Fills (on carbon ungrouped_as) c (Refuses 11) (ring_segment s dash cy)
   unfolding ring_segment
   start-unreadable h = fills-refused 11 c (ring_segment s dash cy) (λ x d u. rw (start-at ∙ h))
 
-  module _ (start : ℕ) (h : a ≡ Number-as-Value start) (b : Number) (f : b ≡ trimmed_number (take (cy - (dash + 1)) (drop (dash + 1) s))) where
-    pub end-unreadable : b ≡ Number-as-Unreadable → Fills (on carbon ungrouped_as) c (Refuses 11) (ring_segment s dash cy)
+  module _ (start : ℕ) (h : a ≡ Some start) (b : Option ℕ) (f : b ≡ trimmed_number (take (cy - (dash + 1)) (drop (dash + 1) s))) where
+    pub end-unreadable : b ≡ None → Fills (on carbon ungrouped_as) c (Refuses 11) (ring_segment s dash cy)
     unfolding ring_segment
     end-unreadable i = fills-refused 11 c (ring_segment s dash cy) (λ x d u. rw (start-at ∙ h, sym f ∙ i))
 
-    pub ring-segment-is : (end : ℕ) (r : Answer Gathered) → b ≡ Number-as-Value end → Fills (on carbon ungrouped_as) c r (ring_sized start end (take (length s - (cy + 2)) (drop (cy + 2) s))) → Fills (on carbon ungrouped_as) c r (ring_segment s dash cy)
+    pub ring-segment-is : (end : ℕ) (r : Answer Gathered) → b ≡ Some end → Fills (on carbon ungrouped_as) c r (ring_sized start end (take (length s - (cy + 2)) (drop (cy + 2) s))) → Fills (on carbon ungrouped_as) c r (ring_segment s dash cy)
     unfolding ring_segment
     ring-segment-is end r i w = fills_same w (λ x d u. rw (to_end (cy + 2) s) (sym (rw (start-at ∙ h, sym f ∙ i))))

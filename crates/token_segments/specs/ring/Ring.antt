@@ -1,10 +1,8 @@
 -- A ring segment, read into a chain. 01, Token reader: "text before the first `cy` containing `-`: ring start-end`cy`size, each trimmed,
 -- then optionally `:n` and after it `(list)`, blank n being 0. 11 if end < start, end > c, size wrong, more positions than n, or a position
 -- outside start..end−1. Its bonds join after the chain's count; unpositioned ones are dropped." Bytes: `(` 40, `:` 58. Assumes nothing.
-use Rattle.std.specs.Prelude.{ℕ, ◌+◌, ◌-◌, List, Bool, true, false, cond, length, take, drop, eqb, ltb}
+use Rattle.std.specs.Prelude.{ℕ, ◌+◌, ◌-◌, List, Bool, true, false, cond, length, take, drop, eqb, ltb, Option, Some, None}
 use Rattle.scanner.specs.scan.Part.{part, index_of}
-use Rattle.scanner.specs.declared.scan.Number.{Number}
-use Rattle.scanner.specs.declared.scan.Number.TheVariants.{Value as Number-as-Value, Unreadable as Number-as-Unreadable}
 use Rattle.token_syntax.specs.form.Parts.{list_parts}
 use Rattle.token_syntax.specs.form.Form.{ends_in_parenthesis, after_place}
 use Rattle.token_syntax.specs.form.Numbers.{trimmed_number, ring_count}
@@ -16,9 +14,9 @@ use Rattle.token_features.specs.declared.features.Segment.{Segment}
 use Rattle.token_features.specs.declared.features.Segment.TheVariants.{Cycle, Located, Repeated, Oxygens, Unreadable}
 
 -- a number, or 11
-abbrev pub value_or11 : Number → (ℕ → Outcome) → Outcome
-value_or11 (Number-as-Value n) f = f n
-value_or11 Number-as-Unreadable f = Refused unreadable
+abbrev pub value_or11 : Option ℕ → (ℕ → Outcome) → Outcome
+value_or11 (Some n) f = f n
+value_or11 None f = Refused unreadable
 
 -- a ring, or 11
 abbrev pub ring_or11 : Segment → (Ring → Outcome) → Outcome

@@ -14,8 +14,7 @@ use Rattle.scanner.proofs.scan.Laws.{number_bound, digit-from}
 use Rattle.scanner.proofs.spaces.Laws.{trim-whole}
 use Rattle.scanner.specs.scan.Part.{trimmed}
 use Rattle.scanner.specs.scan.Number.{is_digit, all_digits, value_from, checked, digits_up_to, after_plus, number_up_to, number_limit}
-use Rattle.scanner.specs.declared.scan.Number.{Number}
-use Rattle.scanner.specs.declared.scan.Number.TheVariants.{Value, Unreadable}
+use Rattle.std.specs.Prelude.{Option, Some, None}
 use Rattle.token_syntax.specs.padded.Padded.{trimmed_number, Shortly}
 
 -- ---- one or two digits
@@ -34,7 +33,7 @@ digit-is b d e n = sym e ∙ not-false d n
 pub figure-most : (b : ℕ) → is_digit b ≡ true → b - 48 ≤ 9
 figure-most b e = omega (arith, digit-most b e)
 
-number-one : (s : List ℕ) (d : Bool) (x : ℕ) → length s ≡ 1 → d ≡ is_digit (get_or s 0 0) → not d ≡ false → x ≡ get_or s 0 0 - 48 → Value x ≡ trimmed_number s
+number-one : (s : List ℕ) (d : Bool) (x : ℕ) → length s ≡ 1 → d ≡ is_digit (get_or s 0 0) → not d ≡ false → x ≡ get_or s 0 0 - 48 → Some x ≡ trimmed_number s
 unfolding trimmed_number number_up_to after_plus digits_up_to checked all_digits value_from
 number-one [] d x l e n f = absurd (omega arith)
 number-one (y ∷ z ∷ s) d x l e n f = absurd (omega arith)
@@ -46,7 +45,7 @@ number-one (y ∷ []) d x l e n f =
     rw (f, ← t, ne_eqb y 43 (λ z. omega arith), i, v, le-ltb number_limit (y - 48) (omega (arith, digit-most y i)))
 
 number-two : (s : List ℕ) (d k : Bool) (x y : ℕ) → length s ≡ 2 → d ≡ is_digit (get_or s 0 0) → not d ≡ false → k ≡ is_digit (get_or s 1 0) → not k ≡ false → x ≡ get_or s 0 0 - 48 → y ≡ get_or s 1 0 - 48
-    → Value (x * 10 + y) ≡ trimmed_number s
+    → Some (x * 10 + y) ≡ trimmed_number s
 unfolding trimmed_number number_up_to after_plus digits_up_to checked all_digits value_from
 number-two [] d k x y l e n f m g h = absurd (omega arith)
 number-two (a ∷ []) d k x y l e n f m g h = absurd (omega arith)
@@ -60,26 +59,23 @@ number-two (a ∷ b ∷ []) d k x y l e n f m g h =
     let v : (0 * 10 + (a - 48)) * 10 + (b - 48) ≡ (a - 48) * 10 + (b - 48) = omega arith in
     rw (g, h, ← t, ne_eqb a 43 (λ z. omega arith), i, j, v, le-ltb number_limit ((a - 48) * 10 + (b - 48)) (omega (arith, digit-most a i, digit-most b j)))
 
-pub short_none : (s : List ℕ) → Shortly s Unreadable
+pub short_none : (s : List ℕ) → Shortly s None
 short_none s = record { is = λ n e. let z : ◌≡◌ {A = ℕ} 0 1 = cc in absurd (omega arith) }
 
-pub short-one : (s : List ℕ) (d : Bool) (x : ℕ) → length s ≡ 1 → d ≡ is_digit (get_or s 0 0) → not d ≡ false → x ≡ get_or s 0 0 - 48 → Shortly s (Value x)
+pub short-one : (s : List ℕ) (d : Bool) (x : ℕ) → length s ≡ 1 → d ≡ is_digit (get_or s 0 0) → not d ≡ false → x ≡ get_or s 0 0 - 48 → Shortly s (Some x)
 short-one s d x l e n f = record { is = λ m h. number-one s d x l e n f }
 
 pub short-two : (s : List ℕ) (d k : Bool) (x y : ℕ) → length s ≡ 2 → d ≡ is_digit (get_or s 0 0) → not d ≡ false → k ≡ is_digit (get_or s 1 0) → not k ≡ false → x ≡ get_or s 0 0 - 48 → y ≡ get_or s 1 0 - 48
-    → Shortly s (Value (x * 10 + y))
+    → Shortly s (Some (x * 10 + y))
 short-two s d k x y l e n f m g h = record { is = λ i j. number-two s d k x y l e n f m g h }
-
-pub short-value : (s : List ℕ) (r : Number) (n : ℕ) → Shortly s r → r ≡ Value n → r ≡ trimmed_number s
-short-value s r n w e = w.is n e
 
 -- ---- the number
 
-pub trimmed-number-is : (s t : List ℕ) (r : Number) → t ≡ trimmed s → r ≡ number_up_to number_limit t → r ≡ trimmed_number s
+pub trimmed-number-is : (s t : List ℕ) (r : Option ℕ) → t ≡ trimmed s → r ≡ number_up_to number_limit t → r ≡ trimmed_number s
 unfolding trimmed_number
 trimmed-number-is s t r e f = f ∙ rw e
 
 -- a number that was read fits 32 bits
-pub trimmed-fits : (s : List ℕ) (r : Number) (n : ℕ) → r ≡ trimmed_number s → r ≡ Value n → Fits w32 n
+pub trimmed-fits : (s : List ℕ) (r : Option ℕ) (n : ℕ) → r ≡ trimmed_number s → r ≡ Some n → Fits w32 n
 unfolding trimmed_number
 trimmed-fits s r n e f = record { fits = omega (arith, number_bound number_limit (trimmed s) r n e f) }

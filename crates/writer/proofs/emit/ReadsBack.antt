@@ -11,7 +11,7 @@ use lib.Dec.{ltb}
 use borrow.Author.Tests.{lt-ltb, le-ltb, le-leb, ne_eqb}
 use Rattle.writer.specs.store.Text.{digits, decimal, pick_list}
 use Rattle.scanner.specs.scan.Number.{after_plus, is_digit, all_digits, value_from, checked, digits_up_to, number_up_to}
-use Rattle.scanner.specs.declared.scan.Number.TheVariants.{Value}
+use Rattle.std.specs.Prelude.{Some}
 
 value-snoc : (v : ℕ) (a : List ℕ) (d : ℕ) → value_from v (a ++ (d ∷ [])) ≡ value_from v a * 10 + (d - 48)
 unfolding value_from
@@ -62,7 +62,7 @@ some-digits m k n = go (ltb n 10) (digits k (n / 10))
     go false (x ∷ a) = refl
 
 -- the decimal digits of n read as the number n, by any limit that n keeps
-pub decimal-reads-back : (m n : ℕ) → n ≤ m → number_up_to m (decimal n) ≡ Value n
+pub decimal-reads-back : (m n : ℕ) → n ≤ m → number_up_to m (decimal n) ≡ Some n
 unfolding decimal number_up_to checked
 decimal-reads-back m n h =
     let e = says (suc n) n (omega arith) in

@@ -2,8 +2,8 @@ use Rattle.token_features.proofs.naming.Laws.{feature-group}
 use Rattle.token_features.proofs.features.Laws.{names-ring, names-nothing}
 use Rattle.token_features.proofs.naming.feature_of.Goals as goal
 
-pub returns-in-At : goal.returns-in-At
-returns-in-At c = search feature-group
+pub returns-in-Some : goal.returns-in-Some
+returns-in-Some c = search feature-group
 
 pub returns-in_default-alias_ring_size : goal.returns-in_default-alias_ring_size
 returns-in_default-alias_ring_size c = search names-nothing
