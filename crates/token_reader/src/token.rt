@@ -49,27 +49,20 @@ fn all_printable(s: &[u8]) -> bool
     all
 }
 
-// The double bonds that a token declares without a position, where each finds a seat.
-#[derive(Clone, Copy)]
-pub enum Missing {
-    Seated(u16),
-    Unseated,
-}
-
-// The bonds missing beside the first n, which are those of the `(..)` list.
-fn missing_bonds(carbon: u16, bonds: &[u64], n: usize, declared: u64) -> Missing
+// The bonds missing beside the first n, which are those of the `(..)` list: how many are declared without a position, where each finds a seat.
+fn missing_bonds(carbon: u16, bonds: &[u64], n: usize, declared: u64) -> Option<u16>
     requires carbon_le_max_carbons { carbon ≤ max_carbons }
     requires n_in_bounds { n ≤ length bonds.now }
     ensures { result ≡ missing_of carbon (bonds_in n bonds.now) declared }
 {
     let given = n as u64;
     if declared < given {
-        return Missing::Unseated;
+        return None;
     }
-    if !seats::placeholder_positions(carbon, bonds, n, declared - given) {
-        return Missing::Unseated;
+    if !seats::placeholder_positions(carbon, &bonds[..n], declared - given) {
+        return None;
     }
-    Missing::Seated((declared - given) as u16)
+    Some((declared - given) as u16)
 }
 
 // Whether an oxygen count stands alone: it says how many there are and not on what.
@@ -100,10 +93,10 @@ pub enum Ended {
 }
 
 // What is judged after the segments.
-fn finish(missing: Missing, counts: Counts) -> Ended
+fn finish(missing: Option<u16>, counts: Counts) -> Ended
     ensures { Finishes counts result (finished missing) }
 {
-    let Missing::Seated(n) = missing else {
+    let Some(n) = missing else {
         return Ended::Refused(chain_record::UNREADABLE);
     };
     if bare_oxygens(counts) {
@@ -117,7 +110,7 @@ fn finish(missing: Missing, counts: Counts) -> Ended
 
 // The segments, if there are any, and what is judged after them.
 fn parse_rest(
-    missing: Missing,
+    missing: Option<u16>,
     s: &[u8],
     carbon: u16,
     bonds: &mut [u64],
@@ -917,10 +910,10 @@ fn read_usual(s: &[u8], bonds: &mut [u64], groups: &mut [u64], rings: &mut [u64]
 }
 
 // A chain of which all is read.
-fn plain_chain(usual: Usual, missing: Missing) -> ReadToken
+fn plain_chain(usual: Usual, missing: Option<u16>) -> ReadToken
     ensures { Plain usual.prefix usual.carbon missing usual.count usual.groups usual.rings result }
 {
-    let Missing::Seated(n) = missing else {
+    let Some(n) = missing else {
         return ReadToken::Refused(chain_record::UNREADABLE);
     };
     let prefix = usual.prefix;
@@ -946,7 +939,7 @@ fn end_plain(usual: Usual, bonds: &[u64]) -> ReadToken
     ensures { PlainIn usual.prefix usual.carbon usual.declared usual.count usual.groups usual.rings bonds.now result }
 {
     if usual.declared == usual.count as u64 {
-        return plain_chain(usual, Missing::Seated(0));
+        return plain_chain(usual, Some(0));
     }
     let missing = missing_bonds(usual.carbon, bonds, usual.count, usual.declared);
     plain_chain(usual, missing)

@@ -14,11 +14,11 @@ use lib.ListN.{length, get_or, set, take, length-set, replicate}
 use lib.Seq.{get_or-set_same, get_or-set_other, set_out, take-suc, take_all}
 use lib.Dec.{eqb, ltb}
 use borrow.Author.Tests.{lt-ltb, le-ltb, eq-eqb, ne_eqb, ltb-true, ltb-false}
+use Rattle.std.specs.Prelude.{Option, Some, None}
+use Rattle.std.specs.Option.{option_or}
 use Rattle.chain_record.specs.declared.plain.DbPos.{DbPos}
 use Rattle.chain_record.specs.codes.Codes.{bond_in}
-use Rattle.token_reader.specs.declared.seats.Seat.{Seat}
-use Rattle.token_reader.specs.declared.seats.Seat.TheVariants.{At, Nothing}
-use Rattle.token_reader.specs.seats.Seats.{among, also, free, Found, SeatIs, first_free, or_else, seat_from, on_seat, seats_from, first_start, seated, used_in, positions, NoMarks, Marks, MarksAll, Seated}
+use Rattle.token_reader.specs.seats.Seats.{among, also, free, Found, SeatIs, first_free, seat_from, on_seat, seats_from, first_start, seated, used_in, positions, NoMarks, Marks, MarksAll, Seated}
 
 -- ---- a free seat
 
@@ -35,103 +35,103 @@ module _ (xs : List Bool) (p : ℕ) where
   unfolding free
   used-above e f = rw (e, f)
 
-first_range : (u : ℕ → Bool) (n a p : ℕ) → first_free u n a ≡ At p → (a ≤ p) × (p < a + n)
+first_range : (u : ℕ → Bool) (n a p : ℕ) → first_free u n a ≡ Some p → (a ≤ p) × (p < a + n)
 unfolding first_free
 first_range u zero a p e = let z : ◌≡◌ {A = ℕ} 0 1 = cc in absurd (omega arith)
 first_range u (suc n) a p e = go (free u a) e (first_range u n (suc a) p)
   where
-    go : (b : Bool) → cond b (At a) (first_free u n (suc a)) ≡ At p → (first_free u n (suc a) ≡ At p → (suc a ≤ p) × (p < suc a + n)) → (a ≤ p) × (p < a + suc n)
+    go : (b : Bool) → cond b (Some a) (first_free u n (suc a)) ≡ Some p → (first_free u n (suc a) ≡ Some p → (suc a ≤ p) × (p < suc a + n)) → (a ≤ p) × (p < a + suc n)
     go true e f = let z : a ≡ p = cc in (omega arith, omega arith)
     go false e f = let w = f e in (omega (arith, w.0, w.1), omega (arith, w.0, w.1))
 
-first-is-free : (u : ℕ → Bool) (n a p : ℕ) → first_free u n a ≡ At p → free u p ≡ true
+first-is-free : (u : ℕ → Bool) (n a p : ℕ) → first_free u n a ≡ Some p → free u p ≡ true
 unfolding first_free
 first-is-free u zero a p e = let z : ◌≡◌ {A = ℕ} 0 1 = cc in absurd (omega arith)
 first-is-free u (suc n) a p e = go (free u a) refl e (first-is-free u n (suc a) p)
   where
-    go : (b : Bool) → free u a ≡ b → cond b (At a) (first_free u n (suc a)) ≡ At p → (first_free u n (suc a) ≡ At p → free u p ≡ true) → free u p ≡ true
+    go : (b : Bool) → free u a ≡ b → cond b (Some a) (first_free u n (suc a)) ≡ Some p → (first_free u n (suc a) ≡ Some p → free u p ≡ true) → free u p ≡ true
     go true g e f = let z : a ≡ p = cc in ap (free u) (sym z) ∙ g
     go false g e f = f e
 
-none_free : (u : ℕ → Bool) (n a : ℕ) → first_free u n a ≡ Nothing → (p : ℕ) → a ≤ p → p < a + n → free u p ≡ false
+none_free : (u : ℕ → Bool) (n a : ℕ) → first_free u n a ≡ None → (p : ℕ) → a ≤ p → p < a + n → free u p ≡ false
 unfolding first_free
 none_free u zero a e p h k = absurd (omega arith)
 none_free u (suc n) a e p h k = go (free u a) refl e (none_free u n (suc a)) (ℕ_discrete a p)
   where
-    go : (b : Bool) → free u a ≡ b → cond b (At a) (first_free u n (suc a)) ≡ Nothing
-        → (first_free u n (suc a) ≡ Nothing → (q : ℕ) → suc a ≤ q → q < suc a + n → free u q ≡ false) → Dec (a ≡ p) → free u p ≡ false
+    go : (b : Bool) → free u a ≡ b → cond b (Some a) (first_free u n (suc a)) ≡ None
+        → (first_free u n (suc a) ≡ None → (q : ℕ) → suc a ≤ q → q < suc a + n → free u q ≡ false) → Dec (a ≡ p) → free u p ≡ false
     go true g e f d = let z : ◌≡◌ {A = ℕ} 0 1 = cc in absurd (omega arith)
     go false g e f (yes q) = ap (free u) (sym q) ∙ g
     go false g e f (no q) = f e p (omega (arith, q)) (omega arith)
 
-first_found : (u : ℕ → Bool) (from to : ℕ) (r : Seat) → r ≡ first_free u (to - from) from → Found u from to r
-first_found u from to (At p) e =
+first_found : (u : ℕ → Bool) (from to : ℕ) (r : Option ℕ) → r ≡ first_free u (to - from) from → Found u from to r
+first_found u from to (Some p) e =
     let w = first_range u (to - from) from p (sym e) in
     (w.0, omega (arith, w.0, w.1), first-is-free u (to - from) from p (sym e))
-first_found u from to Nothing e = λ p h k. none_free u (to - from) from (sym e) p h (omega arith)
+first_found u from to None e = λ p h k. none_free u (to - from) from (sym e) p h (omega arith)
 
 module _ (u : ℕ → Bool) (from to p : ℕ) (v : first_free u (to - from) from ≡ first_free u (to - p) p) where
-  seat-first : p < to → first_free u (to - from) from ≡ cond (free u p) (At p) (first_free u (to - (p + 1)) (suc p))
+  seat-first : p < to → first_free u (to - from) from ≡ cond (free u p) (Some p) (first_free u (to - (p + 1)) (suc p))
   unfolding first_free
   seat-first h =
       let e : to - p ≡ suc (to - (p + 1)) = omega arith in
       v ∙ rw e
 
-  seat-is : (r : Seat) → r ≡ first_free u (to - from) from → SeatIs u from to (first_free u (to - from) from) r
+  seat-is : (r : Option ℕ) → r ≡ first_free u (to - from) from → SeatIs u from to (first_free u (to - from) from) r
   seat-is r e = record { is = e; found = first_found u from to r e }
 
-  pub seat-here : (b : Bool) → p < to → b ≡ free u p → b ≡ true → SeatIs u from to (first_free u (to - from) from) (At p)
-  seat-here b h e f = seat-is (At p) (sym (seat-first h ∙ rw (sym e ∙ f)))
+  pub seat-here : (b : Bool) → p < to → b ≡ free u p → b ≡ true → SeatIs u from to (first_free u (to - from) from) (Some p)
+  seat-here b h e f = seat-is (Some p) (sym (seat-first h ∙ rw (sym e ∙ f)))
 
   pub seat-next : (b : Bool) → p < to → b ≡ free u p → b ≡ false → first_free u (to - from) from ≡ first_free u (to - (p + 1)) (p + 1)
   seat-next b h e f = rw (add-one p) (seat-first h ∙ rw (sym e ∙ f, add-one p))
 
-  pub seat-none : to ≤ p → SeatIs u from to (first_free u (to - from) from) Nothing
+  pub seat-none : to ≤ p → SeatIs u from to (first_free u (to - from) from) None
   unfolding first_free
   seat-none h =
       let e : to - p ≡ 0 = omega arith in
-      seat-is Nothing (sym (v ∙ rw e))
+      seat-is None (sym (v ∙ rw e))
 
 -- ---- upward from a start, and from 2 on again
 
 module _ (c : ℕ) (u : ℕ → Bool) (s : ℕ) (l : 2 ≤ s) where
-  pub start-past : (r : Seat) → c ≤ s → SeatIs u 2 c (first_free u (c - 2) 2) r → SeatIs u 2 c (seat_from c u s) r
+  pub start-past : (r : Option ℕ) → c ≤ s → SeatIs u 2 c (first_free u (c - 2) 2) r → SeatIs u 2 c (seat_from c u s) r
   unfolding seat_from
   start-past r h w = record { is = rw (le-ltb s c h) w.is; found = w.found }
 
-  pub found-above : (r : Seat) (p : ℕ) → s < c → SeatIs u s c (first_free u (c - s) s) r → r ≡ At p → SeatIs u 2 c (seat_from c u s) r
+  pub found-above : (p : ℕ) → s < c → SeatIs u s c (first_free u (c - s) s) (Some p) → SeatIs u 2 c (seat_from c u s) (Some p)
   unfolding seat_from
-  found-above r p h w f =
-      let g : Found u s c (At p) = rw f at w.found in
-      record { is = rw (lt-ltb s c h, sym w.is ∙ f) f; found = rw f (omega (arith, g.0), g.1, g.2) }
+  found-above p h w =
+      let g : Found u s c (Some p) = w.found in
+      record { is = rw (lt-ltb s c h, sym w.is); found = (omega (arith, g.0), g.1, g.2) }
 
-  pub found_below : (r q : Seat) → s < c → SeatIs u s c (first_free u (c - s) s) r → r ≡ Nothing → SeatIs u 2 s (first_free u (s - 2) 2) q → SeatIs u 2 c (seat_from c u s) q
+  pub found_below : (q : Option ℕ) → s < c → SeatIs u s c (first_free u (c - s) s) None → SeatIs u 2 s (first_free u (s - 2) 2) q → SeatIs u 2 c (seat_from c u s) q
   unfolding seat_from
-  found_below r q h w f v = record { is = rw (lt-ltb s c h, sym w.is ∙ f) v.is; found = go q v.found (rw f at w.found) }
+  found_below q h w v = record { is = rw (lt-ltb s c h, sym w.is) v.is; found = go q v.found w.found }
     where
       side : (p : ℕ) (b : Bool) → ltb p s ≡ b → (p < s → free u p ≡ false) → (s ≤ p → free u p ≡ false) → free u p ≡ false
       side p true t g n = g (ltb-true p s t)
       side p false t g n = n (ltb-false p s t)
 
-      go : (q : Seat) → Found u 2 s q → Found u s c Nothing → Found u 2 c q
-      go (At p) g n = (g.0, omega (arith, g.1), g.2)
-      go Nothing g n = λ p a b. side p (ltb p s) refl (g p a) (λ k. n p k b)
+      go : (q : Option ℕ) → Found u 2 s q → Found u s c None → Found u 2 c q
+      go (Some p) g n = (g.0, omega (arith, g.1), g.2)
+      go None g n = λ p a b. side p (ltb p s) refl (g p a) (λ k. n p k b)
 
 -- ---- where a seat is
 
 -- a seat is one of 2..c−1
-seat-range : (c : ℕ) (u : ℕ → Bool) (s p : ℕ) → 2 ≤ s → 2 ≤ c → seat_from c u s ≡ At p → (2 ≤ p) × (p < c)
+seat-range : (c : ℕ) (u : ℕ → Bool) (s p : ℕ) → 2 ≤ s → 2 ≤ c → seat_from c u s ≡ Some p → (2 ≤ p) × (p < c)
 unfolding seat_from
 seat-range c u s p h k e = go (ltb s c) refl e
   where
-    low : first_free u (c - 2) 2 ≡ At p → (2 ≤ p) × (p < c)
+    low : first_free u (c - 2) 2 ≡ Some p → (2 ≤ p) × (p < c)
     low e = let w = first_range u (c - 2) 2 p e in (w.0, omega (arith, w.1))
 
-    two : (r : Seat) → first_free u (c - s) s ≡ r → s < c → or_else r (first_free u (s - 2) 2) ≡ At p → (2 ≤ p) × (p < c)
-    two (At q) f l e = let z : q ≡ p = cc in let w = first_range u (c - s) s q f in (omega (arith, w.0), omega (arith, w.1))
-    two Nothing f l e = let w = first_range u (s - 2) 2 p e in (w.0, omega (arith, w.1))
+    two : (r : Option ℕ) → first_free u (c - s) s ≡ r → s < c → option_or r (first_free u (s - 2) 2) ≡ Some p → (2 ≤ p) × (p < c)
+    two (Some q) f l e = let z : q ≡ p = cc in let w = first_range u (c - s) s q f in (omega (arith, w.0), omega (arith, w.1))
+    two None f l e = let w = first_range u (s - 2) 2 p e in (w.0, omega (arith, w.1))
 
-    go : (b : Bool) → ltb s c ≡ b → cond b (or_else (first_free u (c - s) s) (first_free u (s - 2) 2)) (first_free u (c - 2) 2) ≡ At p → (2 ≤ p) × (p < c)
+    go : (b : Bool) → ltb s c ≡ b → cond b (option_or (first_free u (c - s) s) (first_free u (s - 2) 2)) (first_free u (c - 2) 2) ≡ Some p → (2 ≤ p) × (p < c)
     go true t e = two (first_free u (c - s) s) refl (omega (arith, ltb-true s c t)) e
     go false t e = low e
 
@@ -192,11 +192,9 @@ marks-one xs ys zs bs i b h f m n = record { same_length = ap length n.marked �
         go true b = refl
         go false b = refl
 
-pub marks-all : (xs ys : List Bool) (bs : List ℕ) (i n : ℕ) → i ≤ n → n ≤ i → MarksAll xs (positions (map bond_in (take i bs))) ys → MarksAll xs (positions (map bond_in (take n bs))) ys
-marks-all xs ys bs i n h k m = let e : i ≡ n = omega arith in rw e at m
-
-pub marks-whole : (xs ys : List Bool) (bs : List ℕ) (i n : ℕ) → length bs ≤ i → i < n → MarksAll xs (positions (map bond_in (take i bs))) ys → MarksAll xs (positions (map bond_in (take n bs))) ys
-marks-whole xs ys bs i n k h m = rw (take_all i bs (omega arith), ← take_all n bs (omega arith)) at m
+-- all of them
+pub marks-whole : (xs ys : List Bool) (bs : List ℕ) (i : ℕ) → length bs ≤ i → MarksAll xs (positions (map bond_in (take i bs))) ys → MarksAll xs (positions (map bond_in bs)) ys
+marks-whole xs ys bs i h m = rw (take_all i bs h) at m
 
 -- two ways to say what is used, up to the carbon c
 abbrev pub Agree : ℕ → (ℕ → Bool) → (ℕ → Bool) → Type 0
@@ -217,7 +215,7 @@ module _ (c : ℕ) (u v : ℕ → Bool) (g : Agree c u v) where
   seat-agree s k = go (ltb s c) refl
     where
       go : (b : Bool) → ltb s c ≡ b
-          → cond b (or_else (first_free u (c - s) s) (first_free u (s - 2) 2)) (first_free u (c - 2) 2) ≡ cond b (or_else (first_free v (c - s) s) (first_free v (s - 2) 2)) (first_free v (c - 2) 2)
+          → cond b (option_or (first_free u (c - s) s) (first_free u (s - 2) 2)) (first_free u (c - 2) 2) ≡ cond b (option_or (first_free v (c - s) s) (first_free v (s - 2) 2)) (first_free v (c - 2) 2)
       go true t = let l = ltb-true s c t in rw (first-agree (c - s) s (omega arith), first-agree (s - 2) 2 (omega arith))
       go false t = first-agree (c - 2) 2 (omega arith)
 
@@ -230,37 +228,39 @@ unfolding seats_from
 seats-agree c u v s zero k g = refl
 seats-agree c u v s (suc n) k g = rw (seat-agree c u v g s k) (go (seat_from c v s) (λ p. seats-agree c (also p u) (also p v) (p + 3) n k (also-agree c p u v g)))
   where
-    go : (r : Seat) → ((p : ℕ) → seats_from c (also p u) (p + 3) n ≡ seats_from c (also p v) (p + 3) n)
+    go : (r : Option ℕ) → ((p : ℕ) → seats_from c (also p u) (p + 3) n ≡ seats_from c (also p v) (p + 3) n)
         → on_seat r (λ p. seats_from c (also p u) (p + 3) n) ≡ on_seat r (λ p. seats_from c (also p v) (p + 3) n)
-    go (At p) f = f p
-    go Nothing f = refl
+    go (Some p) f = f p
+    go None f = refl
 
 -- ---- one seat after the other
 
-module _ (A : Bool) (xs : List Bool) (c s n : ℕ) (v : A ≡ seats_from c (used_in xs) s n) where
-  pub no-seat : (r : Seat) → 0 < n → SeatIs (used_in xs) 2 c (seat_from c (used_in xs) s) r → r ≡ Nothing → false ≡ A
+-- where i of n bonds are seated, and the next starts from s
+module _ (A : Bool) (xs : List Bool) (c s n i : ℕ) (v : A ≡ seats_from c (used_in xs) s (n - i)) where
+  pub no-seat : (r : Option ℕ) → i < n → SeatIs (used_in xs) 2 c (seat_from c (used_in xs) s) r → r ≡ None → false ≡ A
   unfolding seats_from
   no-seat r h w f =
-      let m : n ≡ suc (n - 1) = omega arith in
+      let m : n - i ≡ suc (n - (i + 1)) = omega arith in
       sym (v ∙ rw (m, sym w.is ∙ f))
 
-  pub next-seat : (r : Seat) (p : ℕ) (ys : List Bool) → 0 < n → 4 ≤ c → (m : ℕ) → c < m → length xs ≡ m → SeatIs (used_in xs) 2 c (seat_from c (used_in xs) s) r → r ≡ At p → Marks xs p ys
-      → A ≡ seats_from c (used_in ys) (p + 3) (n - 1)
+  pub next-seat : (r : Option ℕ) (p : ℕ) (ys : List Bool) → i < n → 4 ≤ c → (m : ℕ) → c < m → length xs ≡ m → SeatIs (used_in xs) 2 c (seat_from c (used_in xs) s) r → r ≡ Some p → Marks xs p ys
+      → A ≡ seats_from c (used_in ys) (p + 3) (n - (i + 1))
   unfolding seats_from
   next-seat r p ys h g q l₀ l e f m =
-      let t : n ≡ suc (n - 1) = omega arith in
-      let w : seats_from c (used_in xs) s (suc (n - 1)) ≡ seats_from c (also p (used_in xs)) (p + 3) (n - 1) = rw (sym e.is ∙ f) in
-      rw m.marked (v ∙ ap (seats_from c (used_in xs) s) t ∙ w ∙ seats-agree c (also p (used_in xs)) (used_in (set xs p true)) (p + 3) (n - 1) (omega arith) (λ k h. also-set xs p k (omega arith)))
+      let k = n - (i + 1) in
+      let t : n - i ≡ suc k = omega arith in
+      let w : seats_from c (used_in xs) s (suc k) ≡ seats_from c (also p (used_in xs)) (p + 3) k = rw (sym e.is ∙ f) in
+      rw m.marked (v ∙ ap (seats_from c (used_in xs) s) t ∙ w ∙ seats-agree c (also p (used_in xs)) (used_in (set xs p true)) (p + 3) k (omega arith) (λ k h. also-set xs p k (omega arith)))
 
-  pub all-seated : n ≤ 0 → true ≡ A
+  pub all-seated : n ≤ i → true ≡ A
   unfolding seats_from
   all-seated h =
-      let m : n ≡ 0 = omega arith in
+      let m : n - i ≡ 0 = omega arith in
       sym (v ∙ rw m)
 
 -- the next start fits
-pub seat-next-fits : (c : ℕ) (u : ℕ → Bool) (s r : Seat) (p : ℕ) → c ≤ 255 → SeatIs u 2 c s r → r ≡ At p → Fits w16 (p + 3)
-seat-next-fits c u s r p l w f = let g : Found u 2 c (At p) = rw f at w.found in record { fits = omega (arith, g.1) }
+pub seat-next-fits : (c : ℕ) (u : ℕ → Bool) (s r : Option ℕ) (p : ℕ) → c ≤ 255 → SeatIs u 2 c s r → r ≡ Some p → Fits w16 (p + 3)
+seat-next-fits c u s r p l w f = let g : Found u 2 c (Some p) = rw f at w.found in record { fits = omega (arith, g.1) }
 
 -- ---- the whole
 
@@ -290,7 +290,7 @@ row-free : (u : ℕ → Bool) (s : ℕ) → Clear u s → free u s ≡ true
 unfolding free
 row-free u s g = rw (g s (omega arith), g (s - 1) (omega arith), g (s + 1) (omega arith))
 
-row-seat : (c : ℕ) (u : ℕ → Bool) (s : ℕ) → s < c → Clear u s → seat_from c u s ≡ At s
+row-seat : (c : ℕ) (u : ℕ → Bool) (s : ℕ) → s < c → Clear u s → seat_from c u s ≡ Some s
 unfolding seat_from first_free
 row-seat c u s h g =
     let e : c - s ≡ suc (c - s - 1) = omega arith in
@@ -305,17 +305,16 @@ unfolding seats_from
 row-all c u s zero h g = refl
 row-all c u s (suc n) h g = rw (row-seat c u s (omega arith) g) (row-all c (also s u) (s + 3) n (omega arith) (row_next u s g))
 
-pub seats-row : (c : ℕ) (bs : List ℕ) (l n : ℕ) (r : Bool) → (n ≡ 0 → ⊥) → c ≤ 255 → (r ≡ true → (l ≡ 0) × (6 + 3 * n < c)) → r ≡ true
-    → Seated c (positions (map bond_in (take l bs))) n true
+pub seats-row : (c : ℕ) (bs : List ℕ) (n : ℕ) (r : Bool) → (n ≡ 0 → ⊥) → c ≤ 255 → (r ≡ true → (length bs ≡ 0) × (6 + 3 * n < c)) → r ≡ true → Seated c (positions (map bond_in bs)) n true
 unfolding seated positions among
-seats-row c bs l n r z h f e =
+seats-row c [] n r z h f e =
     let w = f e in
     let k : 4 ≤ c = omega (arith, w.1) in
-    rw w.0
-    (record {
+    record {
       is = rw (ne_eqb n 0 z, le-ltb c 4 k, ← first-nine c (omega (arith, w.1))) (sym (row-all c (among []) 9 n (omega (arith, w.1)) (λ k h. refl)));
       few = λ d. omega (arith, w.1);
-    })
+    }
+seats-row c (x ∷ bs) n r z h f e = absurd (omega (arith, (f e).0))
 
 -- ---- no more seats than carbons
 
@@ -353,25 +352,25 @@ used-few u (suc c) = go (u c) (used-few u c)
     go false h = omega arith
 
 -- a seat that is found was not used
-first-unused : (u : ℕ → Bool) (n a p : ℕ) → first_free u n a ≡ At p → u p ≡ false
+first-unused : (u : ℕ → Bool) (n a p : ℕ) → first_free u n a ≡ Some p → u p ≡ false
 unfolding first_free free
 first-unused u zero a p e = let z : ◌≡◌ {A = ℕ} 0 1 = cc in absurd (omega arith)
 first-unused u (suc n) a p e = go (u a) (cond (u (a - 1)) false (not (u (a + 1)))) refl e (first-unused u n (suc a) p)
   where
-    go : (x y : Bool) → u a ≡ x → cond (cond x false y) (At a) (first_free u n (suc a)) ≡ At p → (first_free u n (suc a) ≡ At p → u p ≡ false) → u p ≡ false
+    go : (x y : Bool) → u a ≡ x → cond (cond x false y) (Some a) (first_free u n (suc a)) ≡ Some p → (first_free u n (suc a) ≡ Some p → u p ≡ false) → u p ≡ false
     go true y g e f = f e
     go false true g e f = let z : a ≡ p = cc in ap u (sym z) ∙ g
     go false false g e f = f e
 
-seat-unused : (c : ℕ) (u : ℕ → Bool) (s p : ℕ) → seat_from c u s ≡ At p → u p ≡ false
+seat-unused : (c : ℕ) (u : ℕ → Bool) (s p : ℕ) → seat_from c u s ≡ Some p → u p ≡ false
 unfolding seat_from
 seat-unused c u s p e = go (ltb s c) e
   where
-    two : (r : Seat) → first_free u (c - s) s ≡ r → or_else r (first_free u (s - 2) 2) ≡ At p → u p ≡ false
-    two (At q) f e = let z : At q ≡ At p = e in first-unused u (c - s) s p (f ∙ z)
-    two Nothing f e = first-unused u (s - 2) 2 p e
+    two : (r : Option ℕ) → first_free u (c - s) s ≡ r → option_or r (first_free u (s - 2) 2) ≡ Some p → u p ≡ false
+    two (Some q) f e = let z : Some q ≡ Some p = e in first-unused u (c - s) s p (f ∙ z)
+    two None f e = first-unused u (s - 2) 2 p e
 
-    go : (b : Bool) → cond b (or_else (first_free u (c - s) s) (first_free u (s - 2) 2)) (first_free u (c - 2) 2) ≡ At p → u p ≡ false
+    go : (b : Bool) → cond b (option_or (first_free u (c - s) s) (first_free u (s - 2) 2)) (first_free u (c - 2) 2) ≡ Some p → u p ≡ false
     go true e = two (first_free u (c - s) s) refl e
     go false e = first-unused u (c - 2) 2 p e
 
@@ -380,10 +379,10 @@ unfolding seats_from
 seats-room c u s zero h k e = omega (arith, used-few u c)
 seats-room c u s (suc n) h k e = go (seat_from c u s) refl e (λ p. seats-room c (also p u) (p + 3) n (omega arith) k)
   where
-    go : (r : Seat) → seat_from c u s ≡ r → on_seat r (λ p. seats_from c (also p u) (p + 3) n) ≡ true
+    go : (r : Option ℕ) → seat_from c u s ≡ r → on_seat r (λ p. seats_from c (also p u) (p + 3) n) ≡ true
         → ((p : ℕ) → seats_from c (also p u) (p + 3) n ≡ true → n + used_below (also p u) c ≤ c) → suc n + used_below u c ≤ c
-    go (At p) f e g = omega (arith, g p e, used-one-more u p c (seat-range c u s p h k f).1 (seat-unused c u s p f))
-    go Nothing f e g = absurd (true≢false (sym e))
+    go (Some p) f e g = omega (arith, g p e, used-one-more u p c (seat-range c u s p h k f).1 (seat-unused c u s p f))
+    go None f e g = absurd (true≢false (sym e))
 
 -- ---- the whole answer
 

@@ -38,8 +38,7 @@ use Rattle.token_head.specs.declared.opening.Started.TheVariants.{Read as Starte
 use Rattle.token_head.specs.opening.Opening.{carbons_of, Opened, start_as, Starts}
 use Rattle.token_segments.specs.segment.Segment.{segments}
 use Rattle.token_segments.proofs.segment.Laws.{segments-none}
-use Rattle.token_reader.specs.declared.token.Missing.{Missing}
-use Rattle.token_reader.specs.declared.token.Missing.TheVariants.{Seated as Missing-as-Seated, Unseated}
+use Rattle.std.specs.Prelude.{Option, Some, None}
 use Rattle.token_reader.specs.token.Token.{missing_of, bare_oxygens, finished, rest_of, counted_list, listed_of, after_count, bonds_of, named_chain, empty_text, trimmed_of, printable, all_printable, token_of}
 use Rattle.token_reader.specs.declared.token.Ending.{Ending}
 use Rattle.token_reader.specs.declared.token.Ended.{Ended}
@@ -80,19 +79,19 @@ pub bonds-long : (n : ℕ) (bs : List ℕ) → n ≤ length bs → length (bonds
 bonds-long n bs l = omega (arith, length-map (take n bs) bond_in, length-take n bs)
 
 module _ (carbon : ℕ) (bs : List ℕ) (n declared : ℕ) (l : n ≤ length bs) where
-  pub given-many : declared < n → Unseated ≡ missing_of carbon (bonds_in n bs) declared
+  pub given-many : declared < n → None ≡ missing_of carbon (bonds_in n bs) declared
   unfolding missing_of
   given-many h = rw (bonds-long n bs l, lt-ltb declared n h)
 
   module _ (s : Bool) (g : n ≤ declared) (w : Seated carbon (positions (map bond_in (take n bs))) (declared - n) s) where
-    same : missing_of carbon (bonds_in n bs) declared ≡ cond s (Missing-as-Seated (declared - n)) Unseated
+    same : missing_of carbon (bonds_in n bs) declared ≡ cond s (Some (declared - n)) None
     unfolding missing_of
     same = rw (bonds-long n bs l, le-ltb declared n g, ← w.is)
 
-    pub not-seated : not s ≡ true → Unseated ≡ missing_of carbon (bonds_in n bs) declared
+    pub not-seated : not s ≡ true → None ≡ missing_of carbon (bonds_in n bs) declared
     not-seated z = sym (same ∙ rw (not-true s z))
 
-    pub all-seated : not s ≡ false → Missing-as-Seated (declared - n) ≡ missing_of carbon (bonds_in n bs) declared
+    pub all-seated : not s ≡ false → Some (declared - n) ≡ missing_of carbon (bonds_in n bs) declared
     all-seated z = sym (same ∙ rw (not-false s z))
 
     pub seated-fits : not s ≡ false → Fits w16 (declared - n)
@@ -133,15 +132,15 @@ module _ (c : Counts) where
 
 -- ---- after the segments
 
-pub rest-empty : (m : Missing) (d : Chain) → rest_of m [] d ≡ finished m d
+pub rest-empty : (m : Option ℕ) (d : Chain) → rest_of m [] d ≡ finished m d
 unfolding rest_of
 rest-empty m d = rw (segments-none d)
 
-module _ (m : Missing) (c : Counts) where
-  pub finish-unseated : m ≡ Unseated → Finishes c (Ended-as-Refused 11) (finished m)
+module _ (m : Option ℕ) (c : Counts) where
+  pub finish-unseated : m ≡ None → Finishes c (Ended-as-Refused 11) (finished m)
   finish-unseated e = fills-refused 11 (record { unlocated = 0; counts = c }) (finished m) (λ x d k. rw e)
 
-  module _ (n : ℕ) (e : m ≡ Missing-as-Seated n) (b : Bool) (w : Bare c b) where
+  module _ (n : ℕ) (e : m ≡ Some n) (b : Bool) (w : Bare c b) where
     pub finish-bare : b ≡ true → Finishes c (Ended-as-Refused 11) (finished m)
     finish-bare t =
         fills-refused {put = ending_as} 11 (record { unlocated = 0; counts = c }) (finished m)
@@ -160,7 +159,7 @@ module _ (m : Missing) (c : Counts) where
               };
         })
 
-module _ (m : Missing) (s : List ℕ) (carbon : ℕ) (k : Counts) (bs gs rs : List ℕ) where
+module _ (m : Option ℕ) (s : List ℕ) (carbon : ℕ) (k : Counts) (bs gs rs : List ℕ) where
   last : (q : Counts) (ys hs zs : List ℕ) (r : Ended) → Finishes q r (finished m) → Ends carbon q ys hs zs r ys hs zs (finished m)
   last q ys hs zs (Ended-as-Read e) w = record { gives = λ x. w.gives (telling_as (carbon_as x carbon) (tell 0 q ys hs zs)) }
   last q ys hs zs (Ended-as-Refused n) w = record { gives = λ x. w.gives (telling_as (carbon_as x carbon) (tell 0 q ys hs zs)) }
@@ -248,7 +247,7 @@ module _ (declared : ℕ) (s : List ℕ) (carbon : ℕ) (k : Counts) (bs gs rs :
       pub listed-few-bonds : q.bonds ≤ max_bonds
       listed-few-bonds = let v : ListIs (take (n - 0) s) k bs (Counted-as-Read q) ys = rw e at w in v.few
 
-      pub listed-read : (m : Missing) (r : Ended) (xs hs zs : List ℕ) → m ≡ missing_of carbon (bonds_in q.bonds ys) declared
+      pub listed-read : (m : Option ℕ) (r : Ended) (xs hs zs : List ℕ) → m ≡ missing_of carbon (bonds_in q.bonds ys) declared
           → Ends carbon q ys gs rs r xs hs zs (rest_of m (take (length s - (n + 1)) (drop (n + 1) s))) → Ends carbon k bs gs rs r xs hs zs (listed_of declared s)
       listed-read m r xs hs zs g t =
           record {
@@ -275,7 +274,7 @@ module _ (declared : ℕ) (s : List ℕ) (carbon : ℕ) (k : Counts) (bs gs rs :
     unfolding after_count
     with-list t w = fills_same w (λ x d u. sym (rw (sym e ∙ t, to_end 1 s)))
 
-    pub without-list : (m : Missing) → b ≡ false → k.bonds ≤ 32 → m ≡ missing_of carbon (bonds_in k.bonds bs) declared → Ends carbon k bs gs rs r ys hs zs (rest_of m s) → Ends carbon k bs gs rs r ys hs zs (after_count declared s)
+    pub without-list : (m : Option ℕ) → b ≡ false → k.bonds ≤ 32 → m ≡ missing_of carbon (bonds_in k.bonds bs) declared → Ends carbon k bs gs rs r ys hs zs (rest_of m s) → Ends carbon k bs gs rs r ys hs zs (after_count declared s)
     unfolding after_count
     without-list m t l v w =
         fills_same w

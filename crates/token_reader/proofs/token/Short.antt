@@ -41,8 +41,7 @@ use Rattle.token_reader.specs.token.Token.{missing_of, bare_oxygens, finished, r
 use Rattle.token_reader.specs.declared.token.Spot.{Spot}
 use Rattle.token_reader.specs.declared.token.Listed.{Listed}
 use Rattle.token_reader.specs.declared.token.Usual.{Usual}
-use Rattle.token_reader.specs.declared.token.Missing.{Missing}
-use Rattle.token_reader.specs.declared.token.Missing.TheVariants.{Seated as Missing-as-Seated, Unseated}
+use Rattle.std.specs.Prelude.{Option, Some, None}
 use Rattle.token_reader.specs.declared.token.Ended.{Ended}
 use Rattle.token_reader.specs.declared.token.ReadToken.{ReadToken}
 use Rattle.token_reader.specs.declared.token.ReadToken.TheVariants.{Read as ReadToken-as-Read, Refused as ReadToken-as-Refused}
@@ -671,11 +670,11 @@ keeps-rings n rs h l =
     let k : length (rings_in n rs) ≤ n = omega (arith, length-map (take n rs) ring_in, length-take n rs) in
     record { counted = omega (arith, length-map (take n rs) ring_in, length-take n rs); kept = rw a (sym (take_all 8 (rings_in n rs) (omega arith))) }
 
-module _ (p : ChainPrefix) (w : ℕ) (m : Missing) (n g c : ℕ) where
-  pub plain-unseated : m ≡ Unseated → Plain p w m n g c (ReadToken-as-Refused 11)
+module _ (p : ChainPrefix) (w : ℕ) (m : Option ℕ) (n g c : ℕ) where
+  pub plain-unseated : m ≡ None → Plain p w m n g c (ReadToken-as-Refused 11)
   plain-unseated e = rw e (record { tells = λ bs gs rs h l i j x y. record { stands = refl } })
 
-  pub plain-seated : (k : ℕ) → m ≡ Missing-as-Seated k → Plain p w m n g c (ReadToken-as-Read (record { prefix = p; written = w; carbon = w; branched = false; unlocated = k; counts = record { bonds = n; groups = g; rings = c; oxygens = 0 } }))
+  pub plain-seated : (k : ℕ) → m ≡ Some k → Plain p w m n g c (ReadToken-as-Read (record { prefix = p; written = w; carbon = w; branched = false; unlocated = k; counts = record { bonds = n; groups = g; rings = c; oxygens = 0 } }))
   unfolding bare_oxygens with_unlocated
   plain-seated k e =
       rw e
@@ -686,7 +685,7 @@ module _ (p : ChainPrefix) (w : ℕ) (m : Missing) (n g c : ℕ) where
             };
       })
 
-all-given : (w n : ℕ) (bs : List ℕ) → n ≤ length bs → missing_of w (bonds_in n bs) n ≡ Missing-as-Seated 0
+all-given : (w n : ℕ) (bs : List ℕ) → n ≤ length bs → missing_of w (bonds_in n bs) n ≡ Some 0
 unfolding missing_of seated
 all-given w n bs l =
     let k : length (bonds_in n bs) ≡ n = omega (arith, length-map (take n bs) bond_in, length-take n bs) in
@@ -694,13 +693,13 @@ all-given w n bs l =
     rw (k, le-ltb n n (le_refl n), z)
 
 module _ (p : ChainPrefix) (w declared n g c : ℕ) (bs : List ℕ) (r : ReadToken) where
-  pub plain-all : declared ≡ n → Plain p w (Missing-as-Seated 0) n g c r → PlainIn p w declared n g c bs r
+  pub plain-all : declared ≡ n → Plain p w (Some 0) n g c r → PlainIn p w declared n g c bs r
   plain-all e k = rw e (record { tells = λ gs rs h l i j x y. rw (all-given w n bs l) (k.tells bs gs rs h l i j x y) })
 
-  pub plain_in : (m : Missing) → m ≡ missing_of w (bonds_in n bs) declared → Plain p w m n g c r → PlainIn p w declared n g c bs r
+  pub plain_in : (m : Option ℕ) → m ≡ missing_of w (bonds_in n bs) declared → Plain p w m n g c r → PlainIn p w declared n g c bs r
   plain_in m v k = record { tells = λ gs rs h l i j x y. rw (← v) (k.tells bs gs rs h l i j x y) }
 
-pub segments-end : (u : Usual) (s bs gs rs : List ℕ) (m : Missing) (e : Ended) (r : ReadToken) (ys hs zs : List ℕ) → u.count ≤ 32 → u.groups ≤ 16 → u.rings ≤ 8 → 32 ≤ length bs → 16 ≤ length gs → 8 ≤ length rs
+pub segments-end : (u : Usual) (s bs gs rs : List ℕ) (m : Option ℕ) (e : Ended) (r : ReadToken) (ys hs zs : List ℕ) → u.count ≤ 32 → u.groups ≤ 16 → u.rings ≤ 8 → 32 ≤ length bs → 16 ≤ length gs → 8 ≤ length rs
     → m ≡ missing_of u.carbon (bonds_in u.count bs) u.declared → Ends u.carbon (record { bonds = u.count; groups = u.groups; rings = u.rings; oxygens = 0 }) bs gs rs e ys hs zs (rest_of m s)
     → r ≡ ended_as (record { prefix = u.prefix; written = u.carbon; carbon = u.carbon; branched = false; groups = u.groups }) e
     → Tells r ys hs zs (rest_of (missing_of u.carbon (bonds_in u.count bs) u.declared) s (laden u.prefix u.carbon (bonds_in u.count bs) (groups_in u.groups gs) (rings_in u.rings rs)))

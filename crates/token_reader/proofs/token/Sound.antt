@@ -40,8 +40,7 @@ use Rattle.token_segments.specs.segment.Segment.{copies, unless_over, many_times
 use Rattle.token_head.specs.declared.opening.Branch.{Branch}
 use Rattle.token_head.specs.declared.opening.Branch.TheVariants.{Straight, Iso, Anteiso}
 use Rattle.token_head.specs.opening.Opening.{branched, start_chain, carbons_by, carbons_of}
-use Rattle.token_reader.specs.declared.token.Missing.{Missing}
-use Rattle.token_reader.specs.declared.token.Missing.TheVariants.{Seated, Unseated}
+use Rattle.std.specs.Prelude.{Option, Some, None}
 use Rattle.token_reader.specs.token.Token.{missing_of, bare_oxygens, finished, rest_of, counted_list, listed_of, after_count, count_by, bonds_of, named_chain, empty_text, trimmed_of, all_printable, token_of}
 
 -- ---- answers
@@ -316,13 +315,13 @@ segments-whole c s d k =
     (λ t e h. ok-either (Whole c) (eqb (length (segment_text t)) 0) _ _ h (ok-then (Whole c) (modification (segment_text t) e) counts_of (modification-apt c e h.apt (segment_text t)) (λ q g. counts_whole c q g)))
     (parts_at 59 s) d k
 
-rest-whole : (c : ℕ) (m : Missing) (s : List ℕ) (d : Chain) → Whole c d → Ok (Whole c) (rest_of m s d)
+rest-whole : (c : ℕ) (m : Option ℕ) (s : List ℕ) (d : Chain) → Whole c d → Ok (Whole c) (rest_of m s d)
 unfolding rest_of with_unlocated
 rest-whole c m s d k = ok-then (Whole c) (segments s d) (finished m) (segments-whole c s d k) (λ e h. go m e h)
   where
-    go : (m : Missing) (e : Chain) → Whole c e → Ok (Whole c) (finished m e)
-    go Unseated e h = tt
-    go (Seated n) e h =
+    go : (m : Option ℕ) (e : Chain) → Whole c e → Ok (Whole c) (finished m e)
+    go None e h = tt
+    go (Some n) e h =
         ok-either (Whole c) (bare_oxygens e) _ _ tt
         (record { apt = record { carbon = h.apt.carbon; few = h.apt.few; rows = h.apt.rows; rings = h.apt.rings; reduced = h.apt.reduced }; within = record { carbons = h.within.carbons; bonds = h.within.bonds; groups = h.within.groups; rings = h.within.rings } })
 

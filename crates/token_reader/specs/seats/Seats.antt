@@ -1,11 +1,10 @@
 -- 01, Token reader, Seats: "missing bonds need c ≥ 4 and each a free seat in 2..c−1, neither it nor a neighbour used by a position of the
 -- `(..)` list or a seat. Look upward from max(2, min(9, c−1)), past c−1 back to 2; after p start from p + 3. Only their number n survives."
 -- Assumes nothing.
-use Rattle.std.specs.Prelude.{ℕ, zero, suc, ◌+◌, ◌-◌, ◌≤◌, ◌<◌, min, max, ◌≡◌, List, [], ◌∷◌, Bool, true, false, not, cond, get_or, length, set, eqb, ltb}
+use Rattle.std.specs.Prelude.{ℕ, zero, suc, ◌+◌, ◌-◌, ◌≤◌, ◌<◌, min, max, ◌≡◌, List, [], ◌∷◌, Bool, true, false, not, cond, get_or, length, set, eqb, ltb, Option, Some, None}
+use Rattle.std.specs.Option.{option_or}
 use Rattle.chain_record.specs.plain.Chain.{max_carbons}
 use Rattle.chain_record.specs.declared.plain.DbPos.{DbPos}
-use Rattle.token_reader.specs.declared.seats.Seat.{Seat}
-use Rattle.token_reader.specs.declared.seats.Seat.TheVariants.{At, Nothing}
 
 -- whether p is among some positions
 unfoldable pub among : List ℕ → ℕ → Bool
@@ -27,33 +26,29 @@ free used p = cond (used p) false (cond (used (p - 1)) false (not (used (p + 1))
 
 -- what each answer says of the seats from..to−1, beside what is used: that p is one of them and free; that none of them is free. Where those
 -- are all the seats of a chain, "seats fail" then, which is 11 (`finished` of the token reader)
-abbrev pub Found : (ℕ → Bool) → ℕ → ℕ → Seat → Type 0
-Found used from to (At p) = (from ≤ p) × (p < to) × (free used p ≡ true)
-Found used from to Nothing = (p : ℕ) → from ≤ p → p < to → free used p ≡ false
+abbrev pub Found : (ℕ → Bool) → ℕ → ℕ → Option ℕ → Type 0
+Found used from to (Some p) = (from ≤ p) × (p < to) × (free used p ≡ true)
+Found used from to None = (p : ℕ) → from ≤ p → p < to → free used p ≡ false
 
 -- r is the seat s of a search, and a seat or none of those from..to−1
-pub record SeatIs (used : ℕ → Bool) (from to : ℕ) (s r : Seat) : Type 0 where
+pub record SeatIs (used : ℕ → Bool) (from to : ℕ) (s r : Option ℕ) : Type 0 where
   pub is : r ≡ s
   pub found : Found used from to r
 
 -- the first free of n seats, upward from p
-unfoldable pub first_free : (ℕ → Bool) → ℕ → ℕ → Seat
-first_free used zero p = Nothing
-first_free used (suc n) p = let r = first_free used n (suc p) in cond (free used p) (At p) r
-
-abbrev pub or_else : Seat → Seat → Seat
-or_else (At p) s = At p
-or_else Nothing s = s
+unfoldable pub first_free : (ℕ → Bool) → ℕ → ℕ → Option ℕ
+first_free used zero p = None
+first_free used (suc n) p = let r = first_free used n (suc p) in cond (free used p) (Some p) r
 
 -- upward from s, past c − 1 back to 2: the seats s..c−1, then 2..s−1; a start past c − 1 is 2
-unfoldable pub seat_from : ℕ → (ℕ → Bool) → ℕ → Seat
+unfoldable pub seat_from : ℕ → (ℕ → Bool) → ℕ → Option ℕ
 seat_from c used s =
-    cond (ltb s c) (or_else (first_free used (c - s) s) (first_free used (s - 2) 2)) (first_free used (c - 2) 2)
+    cond (ltb s c) (option_or (first_free used (c - s) s) (first_free used (s - 2) 2)) (first_free used (c - 2) 2)
 
 -- a seat, and then what follows; none, and the seats fail
-abbrev pub on_seat : Seat → (ℕ → Bool) → Bool
-on_seat (At p) f = f p
-on_seat Nothing f = false
+abbrev pub on_seat : Option ℕ → (ℕ → Bool) → Bool
+on_seat (Some p) f = f p
+on_seat None f = false
 
 -- whether n bonds find a seat, from the start s on; after p from p + 3
 unfoldable pub seats_from : ℕ → (ℕ → Bool) → ℕ → ℕ → Bool

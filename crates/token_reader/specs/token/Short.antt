@@ -1,6 +1,6 @@
 -- What the short way reads of a token that starts as nearly all do, `18:1(9Z)`: what the contracts of its functions cite. Each says what is left
 -- of the definitions of specs/token/Token.antt once so many bytes are read. Assumes nothing.
-use Rattle.std.specs.Prelude.{ℕ, ◌+◌, ◌*◌, ◌-◌, ◌≤◌, ◌<◌, ◌≡◌, List, [], ◌∷◌, ◌++◌, map, Bool, true, false, cond, length, take, drop, get_or, eqb, ltb, Some}
+use Rattle.std.specs.Prelude.{ℕ, ◌+◌, ◌*◌, ◌-◌, ◌≤◌, ◌<◌, ◌≡◌, List, [], ◌∷◌, ◌++◌, map, Bool, true, false, cond, length, take, drop, get_or, eqb, ltb, Some, Option}
 use Rattle.scanner.specs.scan.Part.{index_of, ending}
 use Rattle.scanner.specs.scan.Number.{is_digit, digit_run}
 use Rattle.chain_record.specs.declared.plain.ChainPrefix.{ChainPrefix}
@@ -14,7 +14,6 @@ use Rattle.token_syntax.specs.form.Parts.{parts_at}
 use Rattle.token_syntax.specs.form.Numbers.{trimmed_number}
 use Rattle.token_head.specs.positions.Each.{each}
 use Rattle.token_head.specs.positions.Positions.{geometry_of, bond_at}
-use Rattle.token_reader.specs.declared.token.Missing.{Missing}
 use Rattle.token_reader.specs.declared.token.Head.{Head}
 use Rattle.token_reader.specs.declared.token.Spot.{Spot}
 use Rattle.token_reader.specs.declared.token.Listed.{Listed}
@@ -242,7 +241,7 @@ pub record Starts (s ys hs zs : List ℕ) (r : Usual) : Type 0 where
 -- ---- the token
 
 -- r is what is judged of a chain of which all is read
-pub record Plain (p : ChainPrefix) (w : ℕ) (m : Missing) (n k j : ℕ) (r : ReadToken) : Type 0 where
+pub record Plain (p : ChainPrefix) (w : ℕ) (m : Option ℕ) (n k j : ℕ) (r : ReadToken) : Type 0 where
   pub tells : (bs gs rs : List ℕ) → n ≤ max_bonds → n ≤ length bs → k ≤ max_groups → k ≤ length gs → j ≤ max_rings → j ≤ length rs
       → Tells r bs gs rs (finished m (laden p w (bonds_in n bs) (groups_in k gs) (rings_in j rs)))
 

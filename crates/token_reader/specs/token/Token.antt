@@ -11,16 +11,14 @@ use Rattle.token_head.specs.positions.Positions.{bond_list}
 use Rattle.token_head.specs.declared.opening.Branch.{Branch}
 use Rattle.token_head.specs.opening.Opening.{opening_of, carbons_of}
 use Rattle.token_segments.specs.segment.Segment.{segments}
-use Rattle.token_reader.specs.declared.token.Missing.{Missing}
-use Rattle.token_reader.specs.declared.token.Missing.TheVariants.{Seated, Unseated}
 
 -- ---- after the segments
 
 -- "more bonds are given than declared, seats fail": those that are declared and not given, on c carbons, where each finds a seat
-unfoldable pub missing_of : ℕ → List DbPos → ℕ → Missing
+unfoldable pub missing_of : ℕ → List DbPos → ℕ → Option ℕ
 missing_of c given declared =
     let n = declared - length given in
-    cond (ltb declared (length given)) Unseated (cond (seated c (positions given) n) (Seated n) Unseated)
+    cond (ltb declared (length given)) None (cond (seated c (positions given) n) (Some n) None)
 
 -- "the last oxygen count is above 0 with no group and no ring"
 unfoldable pub bare_oxygens : Chain → Bool
@@ -28,12 +26,12 @@ bare_oxygens d = cond (eqb d.oxygens 0) false (cond (eqb (length d.groups) 0) (e
 
 -- "After the segments: 11 if more bonds are given than declared, seats fail, or the last oxygen count is above 0 with no group and no ring."
 -- "Only their number n survives."
-abbrev pub finished : Missing → Chain → Outcome
-finished Unseated d = Refused unreadable
-finished (Seated n) d = cond (bare_oxygens d) (Refused unreadable) (Read (with_unlocated n d))
+abbrev pub finished : Option ℕ → Chain → Outcome
+finished None d = Refused unreadable
+finished (Some n) d = cond (bare_oxygens d) (Refused unreadable) (Read (with_unlocated n d))
 
 -- "then segments split at `;`"
-unfoldable pub rest_of : Missing → List ℕ → Chain → Outcome
+unfoldable pub rest_of : Option ℕ → List ℕ → Chain → Outcome
 rest_of m s d = and_then (segments s d) (finished m)
 
 -- ---- from the bond count on

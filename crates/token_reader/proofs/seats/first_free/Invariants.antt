@@ -1,10 +1,7 @@
-use Prim.Native.Nat.{◌≤◌, ◌-◌}
+use Prim.Native.Nat.{◌-◌}
 use mathlib.Core.Path.{◌≡◌}
 use Rattle.token_reader.specs.seats.Seats.{first_free, used_in}
 use Rattle.token_reader.proofs.seats.first_free.Given as goal
 
 abbrev pub invariant-loop-p : goal.invariant-loop-p
-invariant-loop-p l = (first_free (used_in l.used) (l.to - l.from) l.from ≡ first_free (used_in l.used) (l.to - l.p) l.p) × (2 ≤ l.p)
-
-abbrev pub decreases-loop-p : goal.decreases-loop-p
-decreases-loop-p l = l.to - l.p
+invariant-loop-p l = first_free (used_in l.used) (l.to - l.from) l.from ≡ first_free (used_in l.used) (l.to - l.p) l.p
