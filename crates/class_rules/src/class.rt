@@ -1,50 +1,36 @@
 // The eight class codes. Every byte string has an answer. What each class is, is said by the templates: crates/template_rules/specs/Template.antt.
 ghost use Rattle.std.specs.Prelude.{◌≡◌};
-ghost use Rattle.class_rules.specs.class.Class.{later_class, class_of};
+ghost use Rattle.class_rules.specs.class.Class.{class_of};
 
 use template_rules::Class;
 
-// What a class code says: one of the eight classes, or none of them.
-#[derive(Clone, Copy)]
-pub enum Code {
-    Known(Class),
-    Unknown,
-}
-
-// The class with a code.
-pub fn class_of(s: &[u8]) -> Code
+// The class with a code; none of the eight has any other text.
+pub fn class_of(s: &[u8]) -> Option<Class>
     ensures { result ≡ class_of s.now }
 {
     if scanner::same(s, b"FA") {
-        return Code::Known(Class::Fa);
+        return Some(Class::Fa);
     }
     if scanner::same(s, b"GL1") {
-        return Code::Known(Class::Gl1);
+        return Some(Class::Gl1);
     }
     if scanner::same(s, b"GL2") {
-        return Code::Known(Class::Gl2);
+        return Some(Class::Gl2);
     }
     if scanner::same(s, b"GL3") {
-        return Code::Known(Class::Gl3);
+        return Some(Class::Gl3);
     }
-    later_class(s)
-}
-
-// The class with a code of a phospholipid or a sphingolipid.
-fn later_class(s: &[u8]) -> Code
-    ensures { result ≡ later_class s.now }
-{
     if scanner::same(s, b"GP") {
-        return Code::Known(Class::Gp);
+        return Some(Class::Gp);
     }
     if scanner::same(s, b"CL") {
-        return Code::Known(Class::Cl);
+        return Some(Class::Cl);
     }
     if scanner::same(s, b"SB") {
-        return Code::Known(Class::Sb);
+        return Some(Class::Sb);
     }
     if scanner::same(s, b"SA") {
-        return Code::Known(Class::Sa);
+        return Some(Class::Sa);
     }
-    Code::Unknown
+    None
 }

@@ -6,6 +6,6 @@ pub mod class;
 mod role;
 mod row;
 
-pub use class::{Code, class_of};
+pub use class::class_of;
 pub use role::role_of;
 pub use row::{fewest, has_tail, most};

@@ -13,11 +13,7 @@ pub fn role_of(class: Class, sn: usize) -> Role
 {
     match class {
         Class::Fa => Role::Acyl,
-        Class::Gl1 => Role::Slot,
-        Class::Gl2 => Role::Slot,
-        Class::Gl3 => Role::Slot,
-        Class::Gp => Role::Slot,
-        Class::Cl => Role::Slot,
+        Class::Gl1 | Class::Gl2 | Class::Gl3 | Class::Gp | Class::Cl => Role::Slot,
         Class::Sb => Role::Base,
         Class::Sa => second_acyl(sn),
     }

@@ -10,14 +10,9 @@ pub fn fewest(class: Class) -> usize
     ensures { result ≡ fewest_of class }
 {
     match class {
-        Class::Fa => 1,
-        Class::Gl1 => 1,
-        Class::Gl2 => 1,
-        Class::Gl3 => 1,
-        Class::Gp => 1,
-        Class::Cl => 4,
-        Class::Sb => 1,
+        Class::Fa | Class::Gl1 | Class::Gl2 | Class::Gl3 | Class::Gp | Class::Sb => 1,
         Class::Sa => 2,
+        Class::Cl => 4,
     }
 }
 
@@ -26,14 +21,10 @@ pub fn most(class: Class) -> usize
     ensures { result ≡ most_of class }
 {
     match class {
-        Class::Fa => 1,
-        Class::Gl1 => 1,
-        Class::Gl2 => 2,
+        Class::Fa | Class::Gl1 | Class::Sb => 1,
+        Class::Gl2 | Class::Gp | Class::Sa => 2,
         Class::Gl3 => 3,
-        Class::Gp => 2,
         Class::Cl => 4,
-        Class::Sb => 1,
-        Class::Sa => 2,
     }
 }
 
@@ -41,14 +32,5 @@ pub fn most(class: Class) -> usize
 pub fn has_tail(class: Class) -> bool
     ensures { result ≡ has_tail class }
 {
-    match class {
-        Class::Fa => false,
-        Class::Gl1 => false,
-        Class::Gl2 => false,
-        Class::Gl3 => false,
-        Class::Gp => true,
-        Class::Cl => false,
-        Class::Sb => true,
-        Class::Sa => true,
-    }
+    matches!(class, Class::Gp | Class::Sb | Class::Sa)
 }

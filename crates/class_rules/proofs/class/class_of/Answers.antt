@@ -1,17 +1,40 @@
-use Rattle.class_rules.proofs.class.Laws.{is-fa, is-gl1, is-gl2, is-gl3, is_later}
+use mathlib.Core.Path.{◌∙◌, sym}
+use Rattle.reading_rules.specs.reading.Ascii.{ascii}
+use Rattle.class_rules.specs.class.Class.{class_of}
 use Rattle.class_rules.proofs.class.class_of.Goals as goal
 
 pub returns-then-same : goal.returns-then-same
-returns-then-same c = search is-fa
+unfolding class_of ascii
+returns-then-same c = rw (sym c.same.ensures ∙ c.if-same.true)
 
 pub returns-then-same-2 : goal.returns-then-same-2
-returns-then-same-2 c = search is-gl1
+unfolding class_of ascii
+returns-then-same-2 c = rw (sym c.same.ensures ∙ c.if-same.false, sym c.same-2.ensures ∙ c.if-same-2.true)
 
 pub returns-then-same-3 : goal.returns-then-same-3
-returns-then-same-3 c = search is-gl2
+unfolding class_of ascii
+returns-then-same-3 c = rw (sym c.same.ensures ∙ c.if-same.false, sym c.same-2.ensures ∙ c.if-same-2.false, sym c.same-3.ensures ∙ c.if-same-3.true)
 
 pub returns-then-same-4 : goal.returns-then-same-4
-returns-then-same-4 c = search is-gl3
+unfolding class_of ascii
+returns-then-same-4 c = rw (sym c.same.ensures ∙ c.if-same.false, sym c.same-2.ensures ∙ c.if-same-2.false, sym c.same-3.ensures ∙ c.if-same-3.false, sym c.same-4.ensures ∙ c.if-same-4.true)
+
+pub returns-then-same-5 : goal.returns-then-same-5
+unfolding class_of ascii
+returns-then-same-5 c = rw (sym c.same.ensures ∙ c.if-same.false, sym c.same-2.ensures ∙ c.if-same-2.false, sym c.same-3.ensures ∙ c.if-same-3.false, sym c.same-4.ensures ∙ c.if-same-4.false, sym c.same-5.ensures ∙ c.if-same-5.true)
+
+pub returns-then-same-6 : goal.returns-then-same-6
+unfolding class_of ascii
+returns-then-same-6 c = rw (sym c.same.ensures ∙ c.if-same.false, sym c.same-2.ensures ∙ c.if-same-2.false, sym c.same-3.ensures ∙ c.if-same-3.false, sym c.same-4.ensures ∙ c.if-same-4.false, sym c.same-5.ensures ∙ c.if-same-5.false, sym c.same-6.ensures ∙ c.if-same-6.true)
+
+pub returns-then-same-7 : goal.returns-then-same-7
+unfolding class_of ascii
+returns-then-same-7 c = rw (sym c.same.ensures ∙ c.if-same.false, sym c.same-2.ensures ∙ c.if-same-2.false, sym c.same-3.ensures ∙ c.if-same-3.false, sym c.same-4.ensures ∙ c.if-same-4.false, sym c.same-5.ensures ∙ c.if-same-5.false, sym c.same-6.ensures ∙ c.if-same-6.false, sym c.same-7.ensures ∙ c.if-same-7.true)
+
+pub returns-then-same-8 : goal.returns-then-same-8
+unfolding class_of ascii
+returns-then-same-8 c = rw (sym c.same.ensures ∙ c.if-same.false, sym c.same-2.ensures ∙ c.if-same-2.false, sym c.same-3.ensures ∙ c.if-same-3.false, sym c.same-4.ensures ∙ c.if-same-4.false, sym c.same-5.ensures ∙ c.if-same-5.false, sym c.same-6.ensures ∙ c.if-same-6.false, sym c.same-7.ensures ∙ c.if-same-7.false, sym c.same-8.ensures ∙ c.if-same-8.true)
 
 pub returns : goal.returns
-returns c = search is_later
+unfolding class_of ascii
+returns c = rw (sym c.same.ensures ∙ c.if-same.false, sym c.same-2.ensures ∙ c.if-same-2.false, sym c.same-3.ensures ∙ c.if-same-3.false, sym c.same-4.ensures ∙ c.if-same-4.false, sym c.same-5.ensures ∙ c.if-same-5.false, sym c.same-6.ensures ∙ c.if-same-6.false, sym c.same-7.ensures ∙ c.if-same-7.false, sym c.same-8.ensures ∙ c.if-same-8.false)
