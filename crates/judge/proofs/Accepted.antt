@@ -26,8 +26,7 @@ use Rattle.template_rules.proofs.Tail.{TailReads}
 use Rattle.template_rules.proofs.Theorem.{Accepted}
 use Rattle.drawn_chain.specs.declared.drawable.Shape.{Shape}
 use Rattle.request_chains.specs.chain_shapes.Shapes.{chains_kept}
-use Rattle.class_rules.specs.declared.class.Code.{Code}
-use Rattle.class_rules.specs.declared.class.Code.TheVariants.{Known, Unknown}
+use Rattle.std.specs.Prelude.{Option, None, Some}
 use Rattle.class_rules.specs.class.Class.{class_of}
 use Rattle.judge.specs.declared.Fault.{Fault}
 use Rattle.judge.specs.declared.Fault.TheVariants.{Nothing, Due as Fault-as-Due}
@@ -124,7 +123,7 @@ accepts-from c p (d ∷ ds) s k l m =
 
 -- every test was passed
 pub record Fits (class t : List ℕ) (count : ℕ) (ss : List (List ℕ)) (c : Class) (ds : List Chain) : Type 0 where
-  pub known : class_of class ≡ Known c
+  pub known : class_of class ≡ Some c
   pub counted : wrong_count c count ≡ false
   pub read : token.tokens_of ss ≡ token.All ds
   pub kinds : first_of kind_refusal c 1 ds ≡ Nothing
@@ -137,7 +136,7 @@ module _ (class t : List ℕ) (count : ℕ) (ss : List (List ℕ)) where
   Says (Refused n p) = (is_refusal n ≡ true) × (p ≤ length ss)
   Says (Drawable c ds) = Fits class t count ss c ds
 
-  module _ (c : Class) (known : class_of class ≡ Known c) (counted : wrong_count c count ≡ false) where
+  module _ (c : Class) (known : class_of class ≡ Some c) (counted : wrong_count c count ≡ false) where
     module _ (ds : List Chain) (read : token.tokens_of ss ≡ token.All ds) where
       or-says : (f : Fault) (v : Verdict) → Numbered 1 ds f → (f ≡ Nothing → Says v) → Says (or_else f v)
       or-says Nothing v n h = h refl
@@ -163,7 +162,7 @@ module _ (class t : List ℕ) (count : ℕ) (ss : List (List ℕ)) where
     read-says (token.First n p) e = tokens-refused ss n p e
     read-says (token.All ds) e = chains-say ds e
 
-  tokens-say : (c : Class) → class_of class ≡ Known c → Says (judge_tokens c t count ss)
+  tokens-say : (c : Class) → class_of class ≡ Some c → Says (judge_tokens c t count ss)
   unfolding judge_tokens is_refusal
   tokens-say c k = go (wrong_count c count) refl
     where
@@ -171,10 +170,10 @@ module _ (class t : List ℕ) (count : ℕ) (ss : List (List ℕ)) where
       go true e = (refl, omega arith)
       go false e = read-says c k e (token.tokens_of ss) refl
 
-  class-says : (o : Code) → class_of class ≡ o → Says (judge_class o t count ss)
+  class-says : (o : Option Class) → class_of class ≡ o → Says (judge_class o t count ss)
   unfolding is_refusal
-  class-says Unknown e = (refl, omega arith)
-  class-says (Known c) e = tokens-say c e
+  class-says None e = (refl, omega arith)
+  class-says (Some c) e = tokens-say c e
 
   verdict-says : Says (verdict class t count ss)
   unfolding verdict
@@ -184,7 +183,7 @@ module _ (class t : List ℕ) (count : ℕ) (ss : List (List ℕ)) where
   judged-fits c ds e = subst Says e verdict-says
 
   -- the class is the one with the code
-  pub judged-drawable : (c : Class) (ds : List Chain) → verdict class t count ss ≡ Drawable c ds → class_of class ≡ Known c
+  pub judged-drawable : (c : Class) (ds : List Chain) → verdict class t count ss ≡ Drawable c ds → class_of class ≡ Some c
   judged-drawable c ds e = (judged-fits c ds e).known
 
   -- and the chains are those of the tokens

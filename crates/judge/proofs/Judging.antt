@@ -16,8 +16,7 @@ use Rattle.chain_rules.specs.chain.Refusals.{place_refusal, draw_refusal}
 use Rattle.template_rules.specs.declared.Class.{Class}
 use Rattle.template_rules.specs.declared.Class.TheVariants.{Fa, Gl1, Gl2, Gl3, Gp, Cl, Sb, Sa}
 use Rattle.template_rules.specs.Template.{fewest, most, role_of, has_tail}
-use Rattle.class_rules.specs.declared.class.Code.{Code}
-use Rattle.class_rules.specs.declared.class.Code.TheVariants.{Known, Unknown}
+use Rattle.std.specs.Prelude.{Option, None, Some}
 use Rattle.class_rules.specs.class.Class.{class_of}
 use Rattle.judge.specs.declared.Fault.{Fault}
 use Rattle.judge.specs.declared.Fault.TheVariants.{Nothing, Due}
@@ -143,12 +142,12 @@ token-refused sn1 sn2 sn3 sn4 c t x f ns ms l p k i n m z b h j w y e = rw (met-
 
 -- ---- the class, then the number of tokens, then the tokens
 
-module _ (s t : List ℕ) (count : ℕ) (ss : List (List ℕ)) (r : Code) (e : r ≡ class_of s) (ns : List Shape) (l : List ℕ) where
-  pub class-unknown : r ≡ Unknown → JudgedIs (Judged-as-Refused 20 0) count ns l t (verdict s t count ss)
+module _ (s t : List ℕ) (count : ℕ) (ss : List (List ℕ)) (r : Option Class) (e : r ≡ class_of s) (ns : List Shape) (l : List ℕ) where
+  pub class-unknown : r ≡ None → JudgedIs (Judged-as-Refused 20 0) count ns l t (verdict s t count ss)
   unfolding verdict
   class-unknown h = rw (sym e ∙ h) (refl, refl)
 
-  module _ (c : Class) (b : Bool) (h : r ≡ Known c) (k : b ≡ wrong_count c count) where
+  module _ (c : Class) (b : Bool) (h : r ≡ Some c) (k : b ≡ wrong_count c count) where
     pub class-count : b ≡ true → JudgedIs (Judged-as-Refused 21 0) count ns l t (verdict s t count ss)
     unfolding verdict judge_tokens
     class-count g = rw (sym e ∙ h, sym k ∙ g) (refl, refl)

@@ -9,8 +9,7 @@ use Rattle.chain_rules.specs.chain.Lists.{any_of}
 use Rattle.chain_rules.specs.chain.Refusals.{wrong_kind, place_refusal, draw_refusal}
 use Rattle.template_rules.specs.declared.Class.{Class}
 use Rattle.template_rules.specs.Template.{fewest, most, role_of, has_tail}
-use Rattle.class_rules.specs.declared.class.Code.{Code}
-use Rattle.class_rules.specs.declared.class.Code.TheVariants.{Known, Unknown}
+use Rattle.std.specs.Prelude.{Option, None, Some}
 use Rattle.class_rules.specs.class.Class.{class_of}
 use Rattle.judge.specs.declared.Fault.{Fault}
 use Rattle.judge.specs.declared.Fault.TheVariants.{Nothing, Due}
@@ -73,9 +72,9 @@ unfoldable pub judge_tokens : Class → List ℕ → ℕ → List (List ℕ) →
 judge_tokens c t count ss = cond (wrong_count c count) (Refused 21 0) (judge_read c t (token.tokens_of ss))
 
 -- 01's number and the value of each case of a class code: 20, "class unknown"; or the class, and what is asked of its request
-abbrev pub judge_class : Code → List ℕ → ℕ → List (List ℕ) → Verdict
-judge_class Unknown t count ss = Refused 20 0
-judge_class (Known c) t count ss = judge_tokens c t count ss
+abbrev pub judge_class : Option Class → List ℕ → ℕ → List (List ℕ) → Verdict
+judge_class None t count ss = Refused 20 0
+judge_class (Some c) t count ss = judge_tokens c t count ss
 
 -- a class code, a tail, a number of tokens, and that many of the tokens
 unfoldable pub verdict : List ℕ → List ℕ → ℕ → List (List ℕ) → Verdict

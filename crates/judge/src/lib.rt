@@ -13,7 +13,6 @@ ghost use Rattle.judge.specs.Judged.{JudgedIs, KindIs, SeenIs, no_faults, nothin
 
 use chain_record::{ChainPrefix, GROUP_ROOM, MAX_BONDS};
 use chain_rules::Role;
-use class_rules::Code;
 use drawn_chain::{CHAIN_ROOM, MAX_CHAINS, Shape};
 use template_rules::Class;
 use token_reader::ReadToken;
@@ -335,7 +334,7 @@ pub fn judge<'a>(
     requires { 77 * min count 4 ≤ length lists.old }
     ensures { JudgedIs result count shapes.new lists.new tail.now (verdict class.now tail.now count (tokens count sn1.now sn2.now sn3.now sn4.now)) }
 {
-    let Code::Known(known) = class_rules::class_of(class) else {
+    let Some(known) = class_rules::class_of(class) else {
         return Judged::Refused {
             number: UNKNOWN_CLASS,
             place: 0,
