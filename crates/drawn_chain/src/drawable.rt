@@ -3,8 +3,9 @@
 // length, and past the last element nothing stands. Which lists a drawn chain holds is said by specs/drawable/Drawn.antt, from the definitions
 // of `chain_rules::chain`.
 ghost use Rattle.std.specs.Prelude.{◌≡◌, length, take, get_or};
-ghost use Rattle.drawn_chain.specs.drawable.Drawn.{bonds_in, groups_in, rings_in, no_bond, no_group, no_ring, Length};
+ghost use Rattle.drawn_chain.specs.drawable.Drawn.{bonds_in, groups_in, rings_in, no_bond, no_group, no_ring, Length, drawn_of, bonds_drawn, groups_drawn, floats_drawn, rings_drawn};
 
+use super::rooms::Lists;
 use chain_record::{Bridge, DbPos, Geometry, Mod, Ring};
 
 // Room for the double bonds read and for the one that `P-` adds.
@@ -41,6 +42,44 @@ pub struct Shape {
     pub group_count: usize,
     pub float_count: usize,
     pub ring_count: usize,
+}
+
+// The elements of a slice that a count counts.
+fn counted<T>(xs: &[T], count: usize) -> &[T]
+    ensures { result.now ≡ take count xs.now }
+{
+    let n = xs.len().min(count);
+    &xs[..n]
+}
+
+impl Shape {
+    // Its double bonds with a position.
+    pub fn bonds<'a>(self, part: &'a Lists) -> &'a [DbPos]
+        ensures { result.now ≡ bonds_drawn (drawn_of self part.now) }
+    {
+        counted(&part.bonds, self.bond_count)
+    }
+
+    // Its groups with a position.
+    pub fn groups<'a>(self, part: &'a Lists) -> &'a [Mod]
+        ensures { result.now ≡ groups_drawn (drawn_of self part.now) }
+    {
+        counted(&part.groups, self.group_count)
+    }
+
+    // Its groups without one.
+    pub fn floats<'a>(self, part: &'a Lists) -> &'a [Mod]
+        ensures { result.now ≡ floats_drawn (drawn_of self part.now) }
+    {
+        counted(&part.floats, self.float_count)
+    }
+
+    // Its rings.
+    pub fn rings<'a>(self, part: &'a Lists) -> &'a [Ring]
+        ensures { result.now ≡ rings_drawn (drawn_of self part.now) }
+    {
+        counted(&part.rings, self.ring_count)
+    }
 }
 
 // How many elements of a slice a count counts.
