@@ -3,23 +3,13 @@
 use Prim.Native.Nat.{ℕ, suc, ◌<◌, min}
 use native.Mathlib.Omega.{arith}
 use mathlib.Core.Path.{◌≡◌, refl, sym}
-use mathlib.Core.List.{List, [], ◌∷◌}
+use mathlib.Core.List.{List, []}
 use lib.ListN.{replicate, length-replicate}
-use Rattle.drawn_chain.specs.drawable.Drawn.{Drawn, bonds_in, groups_in, bonds_drawn, groups_drawn, rings_drawn}
+use Rattle.drawn_chain.specs.drawable.Drawn.{Drawn, bonds_drawn, groups_drawn, rings_drawn}
 use Rattle.carbons.specs.ByCarbon.{double_at, bridge_at, rises_from, Noughts, PlainBonds, BondsBy}
 use Rattle.carbons.specs.Tokens.{Grouped}
 use Rattle.carbons.proofs.BondLaws.{where-none, marks-before}
 use Rattle.carbons.proofs.TokenLaws.{noughts, bonds-plain, bonds-marked}
-
-none-bonds : (l : List ℕ) → bonds_in 0 l ≡ []
-unfolding bonds_in
-none-bonds [] = refl
-none-bonds (n ∷ l) = refl
-
-pub none-groups : (l : List ℕ) → groups_in 0 l ≡ []
-unfolding groups_in
-none-groups [] = refl
-none-groups (n ∷ l) = refl
 
 -- noughts are the bonds of a chain that has neither double bonds nor rings
 noughts-by : (c m : ℕ) → 255 < m → BondsBy [] [] c (replicate m 0)
@@ -40,8 +30,8 @@ bare x e h =
     record {
       table = replicate 256 0;
       empty = noughts 256 refl;
-      by = rw (h, none-bonds x.bonds, e.rings) (noughts-by x.carbon 256 (omega arith));
+      by = rw (h, e.rings) (noughts-by x.carbon 256 (omega arith));
     }
 
 pub bare-groups : (x : Drawn) → x.group_count ≡ 0 → groups_drawn x ≡ []
-bare-groups x h = rw (h, none-groups x.groups)
+bare-groups x h = rw h

@@ -136,9 +136,8 @@ added-room {gs = gs} {ks} {js} i p a row t h s w r = go (leb (suc p) (length ks)
 
 -- ---- what all of it comes to
 
-pub groups-held : (n : ℕ) (l : List ℕ) → length l ≤ 18 → length (groups_in n l) ≤ 18
-unfolding groups_in
-groups-held n l h = omega (arith, length-map (take n l) group_in, length-take n l)
+pub groups-held : (n : ℕ) (l : List Mod) → length l ≤ 18 → length (groups_in n l) ≤ 18
+groups-held n l h = omega (arith, length-take n l)
 
 -- a carbon with a ring's end, then with the O of a carbonyl, then with its groups
 pub load_is : (acyl : Bool) (gs : List Mod) (rs : List Ring) (k : ℕ)

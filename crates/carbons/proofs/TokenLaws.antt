@@ -13,13 +13,14 @@ use borrow.Author.Tests.{ltb-true, leb-true, leb-false}
 use Rattle.chain_record.specs.declared.plain.Geometry.{Geometry}
 use Rattle.chain_record.specs.declared.plain.Geometry.TheVariants.{Unstated, Cis, Trans}
 use Rattle.chain_record.specs.declared.plain.DbPos.{DbPos}
+use Rattle.chain_record.specs.declared.plain.Mod.{Mod}
 use Rattle.chain_record.specs.declared.plain.Ring.{Ring}
 use Rattle.chain_rules.specs.chain.Lists.{any_of, values_from}
 use Rattle.chain_rules.specs.chain.Features.{literal_end}
 use Rattle.chain_rules.specs.chain.Bonds.{open_mark, opens_down, close_mark, close_byte, mark_bond, mark_from, geometry_at, plain_bond, plain_bonds}
 use Rattle.drawn_chain.specs.declared.drawable.Shape.{Shape}
-use Rattle.drawn_chain.specs.drawable.Drawn.{Drawn, bonds_in, groups_in, rings_in, bonds_part, groups_part, rings_part, drawn_of, bonds_drawn, groups_drawn, rings_drawn, SaysUpTo}
-use Rattle.drawn_chain.proofs.drawable.Parts.{groups-few}
+use Rattle.drawn_chain.specs.declared.rooms.Lists.{Lists}
+use Rattle.drawn_chain.specs.drawable.Drawn.{Drawn, groups_in, drawn_of, bonds_drawn, groups_drawn, rings_drawn, SaysUpTo}
 use Rattle.drawn_chain.proofs.reach.Ends.{literal-whole}
 use Rattle.carbons.specs.Tokens.{tokens, TokensOf, Grouped}
 use Rattle.carbons.specs.ByCarbon.{double_at, bridge_at, ring_on, carbonyl_on, load_at, Noughts, SetWhere, Added, DoublesPut, PlainBonds, BondsBy, Busy}
@@ -166,7 +167,7 @@ ends-small acyl rs {zs} {ks} {js} e u v k = go (leb (suc k) (length js)) refl
         rw (ends_at acyl rs e u v k h) (own (carbonyl_on acyl k) (ring_on rs k))
     go false f = rw (past 0 js k (omega (arith, leb-false (suc k) (length js) f))) (omega arith)
 
-pub busy-all : {acyl : Bool} {rs : List Ring} {zs ks js is : List ℕ} (n : ℕ) (l : List ℕ) → Noughts zs → length l ≤ 18 → SetWhere (ring_on rs) 1 zs ks
+pub busy-all : {acyl : Bool} {rs : List Ring} {zs ks js is : List ℕ} (n : ℕ) (l : List Mod) → Noughts zs → length l ≤ 18 → SetWhere (ring_on rs) 1 zs ks
     → SetWhere (carbonyl_on acyl) 2 ks js → Added (groups_in n l) js is → Busy acyl (groups_in n l) rs is
 busy-all {acyl} {rs} {zs} {ks} {js} {is} n l e f u v w =
     record {
@@ -181,7 +182,7 @@ busy-all {acyl} {rs} {zs} {ks} {js} {is} n l e f u v w =
 
 -- ---- all of it
 
-tokens-say : {x : Drawn} {bs us : List ℕ} {f e l : ℕ} → min x.carbon 255 < length us → BondsBy (bonds_drawn x) (rings_drawn x) x.carbon bs
+pub tokens-say : {x : Drawn} {bs us : List ℕ} {f e l : ℕ} → min x.carbon 255 < length us → BondsBy (bonds_drawn x) (rings_drawn x) x.carbon bs
     → Busy x.acyl (groups_drawn x) (rings_drawn x) us → f ≡ max x.first 1 → SaysUpTo x e literal_end → l ≡ min e 255
     → TokensOf x (tokens f l bs us)
 tokens-say {x} {e = e} {l} h b u f s m =
@@ -194,17 +195,6 @@ tokens-say {x} {e = e} {l} h b u f s m =
       bonds = b;
       busy = u;
     }
-
--- groups that stand in the part of a chain
-pub groups-short : {gs : List ℕ} (l : List ℕ) → gs ≡ groups_part l → length gs ≤ 18
-groups-short l e = rw e (groups-few l)
-
--- where the lists stand in the part of a chain
-pub tokens-are : {x : Shape} (l : List ℕ) {ds gs rs bs us : List ℕ} {f e m : ℕ} → min x.carbon 255 < length us → rs ≡ rings_part l → ds ≡ bonds_part l
-    → BondsBy (bonds_in x.bond_count ds) (rings_in x.ring_count rs) x.carbon bs → gs ≡ groups_part l
-    → Busy x.acyl (groups_in x.group_count gs) (rings_in x.ring_count rs) us → f ≡ max x.first 1 → SaysUpTo (drawn_of x l) e literal_end
-    → m ≡ min e 255 → TokensOf (drawn_of x l) (tokens f m bs us)
-tokens-are l h a b v c w f s m = tokens-say h (rw (a, b) at v) (rw (a, c) at w) f s m
 
 -- ---- a chain without rings
 
@@ -247,13 +237,13 @@ ringless-plain {zs = zs} e w = bonds-plain e (where-none 79 zs (λ k. refl)) w
 pub ringless-size : {zs ks : List ℕ} {test : ℕ → Bool} {v : ℕ} (c : ℕ) → c < length zs → SetWhere test v zs ks → c < length ks
 ringless-size c h w = omega (arith, w.size)
 
-pub ringless-marked : (x : Shape) (l : List ℕ) {ds zs ks js : List ℕ} → ds ≡ bonds_part l → Noughts zs → x.carbon < length zs → x.carbon ≤ 255 → rings_drawn (drawn_of x l) ≡ [] → SetWhere (double_at (bonds_in x.bond_count ds)) 61 zs ks
-    → js ≡ mark_from x.carbon (bonds_in x.bond_count ds) 1 x.carbon ks → BondsBy (bonds_drawn (drawn_of x l)) (rings_drawn (drawn_of x l)) x.carbon js
-ringless-marked x l a z h room e w v =
-    rw e (bonds-marked x.carbon x.carbon (ringless-plain z (rw a at w)) (omega arith) (ringless-size x.carbon h w) (rw a at v))
+pub ringless-marked : (x : Shape) (l : Lists) {zs ks js : List ℕ} → Noughts zs → x.carbon < length zs → x.carbon ≤ 255 → rings_drawn (drawn_of x l) ≡ [] → SetWhere (double_at (bonds_drawn (drawn_of x l))) 61 zs ks
+    → js ≡ mark_from x.carbon (bonds_drawn (drawn_of x l)) 1 x.carbon ks → BondsBy (bonds_drawn (drawn_of x l)) (rings_drawn (drawn_of x l)) x.carbon js
+ringless-marked x l z h room e w v =
+    rw e (bonds-marked x.carbon x.carbon (ringless-plain z w) (omega arith) (ringless-size x.carbon h w) v)
 
-pub ringless-put : (x : Shape) (l : List ℕ) {ds zs js : List ℕ} (t : Bool) → ds ≡ bonds_part l → Noughts zs → x.carbon < length zs → x.carbon ≤ 255 → rings_drawn (drawn_of x l) ≡ []
-    → (t ≡ true → DoublesPut x.carbon (bonds_in x.bond_count ds) zs js) → t ≡ true → BondsBy (bonds_drawn (drawn_of x l)) (rings_drawn (drawn_of x l)) x.carbon js
-ringless-put x l t a z h room e p f =
+pub ringless-put : (x : Shape) (l : Lists) {zs js : List ℕ} (t : Bool) → Noughts zs → x.carbon < length zs → x.carbon ≤ 255 → rings_drawn (drawn_of x l) ≡ []
+    → (t ≡ true → DoublesPut x.carbon (bonds_drawn (drawn_of x l)) zs js) → t ≡ true → BondsBy (bonds_drawn (drawn_of x l)) (rings_drawn (drawn_of x l)) x.carbon js
+ringless-put x l t z h room e p f =
     let w = p f in
-    ringless-marked x l a z h room e w.set w.marked
+    ringless-marked x l z h room e w.set w.marked

@@ -9,8 +9,8 @@ ghost use Rattle.drawn_chain.specs.drawable.Drawn.{bonds_in, groups_in, rings_in
 ghost use Rattle.carbons.specs.ByCarbon.{geometry_byte, geometry_of, double_at, bridge_at, ring_on, carbonyl_on, rises_from, RowAtoms, SetWhere, Added, Geometries, Marks, Noughts, DoublesPut, PlainBonds, BondsBy, Busy};
 ghost use Rattle.carbons.specs.Tokens.{tokens, TokensOf};
 
-use chain_record::{Bridge, Geometry};
-use drawn_chain::Shape;
+use chain_record::{Bridge, DbPos, Geometry, Mod, Ring};
+use drawn_chain::{Lists, Shape};
 
 // Carbons 0 to 255.
 pub const CARBON_ROOM: usize = 256;
@@ -25,7 +25,7 @@ fn set_at(xs: &mut [u8], p: usize, v: u8)
 }
 
 // The bridges: where an epoxide starts.
-fn set_bridges(bonds: &mut [u8], rings: &[u64], count: usize)
+fn set_bridges(bonds: &mut [u8], rings: &[Ring], count: usize)
     ensures { SetWhere (bridge_at (rings_in count rings.now)) bridged bonds.old bonds.new }
 {
     let mut i = drawn_chain::rings_len(rings, count);
@@ -46,7 +46,7 @@ fn set_bridges(bonds: &mut [u8], rings: &[u64], count: usize)
 }
 
 // The double bonds.
-fn set_doubles(bonds: &mut [u8], doubles: &[u64], count: usize)
+fn set_doubles(bonds: &mut [u8], doubles: &[DbPos], count: usize)
     ensures { SetWhere (double_at (bonds_in count doubles.now)) double bonds.old bonds.new }
 {
     let mut i = drawn_chain::bonds_len(doubles, count);
@@ -70,7 +70,7 @@ fn geometry_byte(g: Geometry) -> u8
 
 // The geometry stated at each carbon, in an array of noughts. The list is gone through from its end, so that the first of two that share a
 // carbon stands.
-fn set_geometries(geoms: &mut [u8], doubles: &[u64], count: usize)
+fn set_geometries(geoms: &mut [u8], doubles: &[DbPos], count: usize)
     requires { geoms.old ≡ replicate 256 0 }
     ensures { Geometries (bonds_in count doubles.now) geoms.new }
 {
@@ -176,7 +176,7 @@ fn mark_bonds(bonds: &mut [u8], geoms: &[u8], carbon: usize)
 }
 
 // The marks of double bonds in any order: a table of the geometry stated at each carbon puts them in order.
-fn mark_any(bonds: &mut [u8], doubles: &[u64], count: usize, carbon: usize)
+fn mark_any(bonds: &mut [u8], doubles: &[DbPos], count: usize, carbon: usize)
     requires { (carbon ≤ 255) × (carbon < length bonds.old) }
     ensures { bonds.new ≡ mark_from carbon (bonds_in count doubles.now) 1 carbon bonds.old }
 {
@@ -186,7 +186,7 @@ fn mark_any(bonds: &mut [u8], doubles: &[u64], count: usize, carbon: usize)
 }
 
 // Whether each double bond is further on than the one before it, as in nearly every name.
-fn rises(doubles: &[u64], count: usize) -> bool
+fn rises(doubles: &[DbPos], count: usize) -> bool
     ensures { result ≡ rises_from 0 (bonds_in count doubles.now) }
 {
     let n = drawn_chain::bonds_len(doubles, count);
@@ -204,7 +204,7 @@ fn rises(doubles: &[u64], count: usize) -> bool
 }
 
 // The marks of double bonds whose positions rise: no other carbon need be looked at, and past the last one of the chain none.
-fn mark_rising(bonds: &mut [u8], doubles: &[u64], count: usize, carbon: usize)
+fn mark_rising(bonds: &mut [u8], doubles: &[DbPos], count: usize, carbon: usize)
     requires doubles_value { rises_from 0 (bonds_in count doubles.now) ≡ true }
     requires carbon_in_bounds { carbon < length bonds.old }
     ensures { bonds.new ≡ mark_from carbon (bonds_in count doubles.now) 1 carbon bonds.old }
@@ -259,7 +259,7 @@ fn add_at(xs: &mut [u8], p: usize, n: u8)
 }
 
 // The carbons that have a group, and its atoms.
-fn add_groups(busy: &mut [u8], groups: &[u64], count: usize)
+fn add_groups(busy: &mut [u8], groups: &[Mod], count: usize)
     requires { ((k : ℕ) → get_or busy.old k 0 ≤ 2) × (length groups.now ≤ 18) }
     ensures { Added (groups_in count groups.now) busy.old busy.new }
 {
@@ -272,7 +272,7 @@ fn add_groups(busy: &mut [u8], groups: &[u64], count: usize)
 }
 
 // The carbons that have a ring's end.
-fn set_rings(busy: &mut [u8], rings: &[u64], count: usize)
+fn set_rings(busy: &mut [u8], rings: &[Ring], count: usize)
     ensures { SetWhere (ring_on (rings_in count rings.now)) 1 busy.old busy.new }
 {
     let mut i = drawn_chain::rings_len(rings, count);
@@ -297,9 +297,9 @@ fn set_carbonyl(busy: &mut [u8], acyl: bool)
 // The bonds before any mark, in an array of noughts: a double bond stands before a bridge.
 fn plain_bonds<'a>(
     bonds: &mut [u8],
-    doubles: &'a [u64],
+    doubles: &'a [DbPos],
     bond_count: usize,
-    rings: &'a [u64],
+    rings: &'a [Ring],
     ring_count: usize,
 )
     requires { Noughts bonds.old }
@@ -332,9 +332,9 @@ fn from_one(first: u16) -> u16
 // The bonds with their marks, in an array of noughts that goes to the last carbon.
 fn marked_bonds<'a>(
     bonds: &mut [u8],
-    doubles: &'a [u64],
+    doubles: &'a [DbPos],
     bond_count: usize,
-    rings: &'a [u64],
+    rings: &'a [Ring],
     ring_count: usize,
     carbon: u16,
 )
@@ -354,9 +354,9 @@ fn marked_bonds<'a>(
 fn busy_carbons<'a>(
     busy: &mut [u8],
     acyl: bool,
-    groups: &'a [u64],
+    groups: &'a [Mod],
     group_count: usize,
-    rings: &'a [u64],
+    rings: &'a [Ring],
     ring_count: usize,
 )
     requires noughts { Noughts busy.old }
@@ -371,7 +371,7 @@ fn busy_carbons<'a>(
 // The double bonds and their marks in one pass, as long as each bond is further on than the one before it, as in nearly every name, and on the
 // chain; whether all of them are. A double bond further on may be set after the marks: one that comes next stands over a mark that was made
 // there.
-fn put_rising(bonds: &mut [u8], doubles: &[u64], count: usize, carbon: usize) -> bool
+fn put_rising(bonds: &mut [u8], doubles: &[DbPos], count: usize, carbon: usize) -> bool
     requires { carbon < length bonds.old }
     ensures { result ≡ true → DoublesPut carbon (bonds_in count doubles.now) bonds.old bonds.new }
 {
@@ -409,12 +409,12 @@ fn clear(bonds: &mut [u8])
 }
 
 // The bonds of a chain without rings with their marks, in an array of noughts that goes to its last carbon: there is no bridge among them.
-pub fn ringless_bonds(x: Shape, part: &[u64], bonds: &mut [u8])
+pub fn ringless_bonds(x: Shape, part: &Lists, bonds: &mut [u8])
     requires noughts { Noughts bonds.old × (x.carbon < length bonds.old) × (x.carbon ≤ 255) }
     requires part_value { rings_drawn (drawn_of x part.now) ≡ [] }
     ensures { BondsBy (bonds_drawn (drawn_of x part.now)) (rings_drawn (drawn_of x part.now)) x.carbon bonds.new }
 {
-    let doubles = drawn_chain::bonds_part(part);
+    let doubles = &part.bonds;
     let last = x.carbon as usize;
     if put_rising(bonds, doubles, x.bond_count, last) {
         return;
@@ -432,17 +432,17 @@ pub struct Span {
 }
 
 // What is known of each carbon, into two arrays of noughts that go to the last one: the bond after it, and its atoms if it carries anything.
-pub fn chain_tokens(x: Shape, part: &[u64], bonds: &mut [u8], busy: &mut [u8]) -> Span
+pub fn chain_tokens(x: Shape, part: &Lists, bonds: &mut [u8], busy: &mut [u8]) -> Span
     requires draws_some { DrawsSome (drawn_of x part.now) }
     requires carbon_bound { x.carbon ≤ 255 }
     requires noughts { Noughts bonds.old × (min x.carbon 255 < length bonds.old) }
     requires noughts_2 { Noughts busy.old × (min x.carbon 255 < length busy.old) }
     ensures { TokensOf (drawn_of x part.now) (tokens result.first result.last bonds.new busy.new) }
 {
-    let rings = drawn_chain::rings_part(part);
+    let rings = &part.rings;
     marked_bonds(
         bonds,
-        drawn_chain::bonds_part(part),
+        &part.bonds,
         x.bond_count,
         rings,
         x.ring_count,
@@ -451,7 +451,7 @@ pub fn chain_tokens(x: Shape, part: &[u64], bonds: &mut [u8], busy: &mut [u8]) -
     busy_carbons(
         busy,
         x.acyl,
-        drawn_chain::groups_part(part),
+        &part.groups,
         x.group_count,
         rings,
         x.ring_count,

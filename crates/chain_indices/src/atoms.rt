@@ -4,7 +4,7 @@ ghost use Rattle.std.specs.Prelude.{◌≡◌, true, ◌+◌, ◌*◌, ◌≤◌
 ghost use Rattle.writer.specs.emit.Text.{Written};
 ghost use Rattle.reading_rules.specs.reading.Chain.{bridge_end, float_end};
 ghost use Rattle.chain_rules.specs.chain.Drawing.{branches};
-ghost use Rattle.drawn_chain.specs.drawable.Drawn.{groups_in, floats_part, drawn_of, groups_drawn};
+ghost use Rattle.drawn_chain.specs.drawable.Drawn.{groups_in, drawn_of, groups_drawn};
 ghost use Rattle.carbons.specs.Tokens.{tokens, TokensOf};
 ghost use Rattle.writer.specs.index_runs.Index.{ups};
 ghost use Rattle.chain_indices.specs.carried_atoms.Counts.{Counts};
@@ -12,8 +12,8 @@ ghost use Rattle.chain_indices.specs.atoms.Atoms.{carbon_size, bare_size, bridge
 
 use super::carried_atoms;
 use carbons::CARBON_ROOM;
-use chain_record::MAX_CARBONS;
-use drawn_chain::Shape;
+use chain_record::{MAX_CARBONS, Mod};
+use drawn_chain::{Lists, Shape};
 
 // The O of a bridge.
 fn bridge_atoms(bond: u8) -> u16
@@ -33,7 +33,7 @@ fn bare_atoms(bond: u8) -> u16
 }
 
 // A carbon with what it carries, which is counted, and its bridge.
-fn busy_atoms(x: Shape, part: &[u64], k: u16, load: u8, bond: u8) -> u16
+fn busy_atoms(x: Shape, part: &Lists, k: u16, load: u8, bond: u8) -> u16
     requires { Loaded (drawn_of x part.now) k load }
     ensures { Counts 93 (carbon_size x.acyl (groups_drawn (drawn_of x part.now)) bond k) result }
 {
@@ -105,7 +105,7 @@ fn number_within<'a>(
     at: usize,
     first: u16,
     x: Shape,
-    part: &'a [u64],
+    part: &'a Lists,
     from: u16,
     last: u16,
     bonds: &'a [u8],
@@ -149,7 +149,7 @@ fn number_each<'a>(
     at: usize,
     first: u32,
     x: Shape,
-    part: &'a [u64],
+    part: &'a Lists,
     from: u16,
     last: u16,
     bonds: &'a [u8],
@@ -184,7 +184,7 @@ fn number_range<'a>(
     at: usize,
     first: u32,
     x: Shape,
-    part: &'a [u64],
+    part: &'a Lists,
     from: u16,
     last: u16,
     bonds: &'a [u8],
@@ -233,7 +233,7 @@ fn number_tail(index: &mut [u16], first: u32, numbers: Numbers, n: u16) -> Numbe
 }
 
 // The atom after the floating groups, the first of which is the atom given.
-fn float_end(floats: &[u64], count: usize, first: u16) -> u16
+fn float_end(floats: &[Mod], count: usize, first: u16) -> u16
     requires { (first ≤ 23971) × (length floats.now ≤ 18) }
     ensures { Counts (first + 108) (float_end first (branches (groups_in count floats.now))) result }
 {
@@ -246,17 +246,6 @@ fn float_end(floats: &[u64], count: usize, first: u16) -> u16
         i += 1;
     }
     end
-}
-
-// The same of the floating groups of a chain. Most have none: then their room is not looked for.
-fn loose_end(part: &[u64], count: usize, first: u16) -> u16
-    requires { first ≤ 23971 }
-    ensures { Counts (first + 108) (float_end first (branches (groups_in count (floats_part part.now)))) result }
-{
-    if count == 0 {
-        return first;
-    }
-    float_end(drawn_chain::floats_part(part), count, first)
 }
 
 // A chain that is numbered: the place after its indices and their number; and, counted from its first atom, the atom of the first flexible
@@ -277,7 +266,7 @@ pub fn number_chain<'a>(
     at: usize,
     first: u32,
     x: Shape,
-    part: &'a [u64],
+    part: &'a Lists,
     from: u16,
     last: u16,
     bonds: &'a [u8],
@@ -290,7 +279,7 @@ pub fn number_chain<'a>(
     let literal = number_range(index, at, first, x, part, from, last, bonds, busy);
     let all = number_tail(index, first, literal, x.unlocated);
     let next = all.next;
-    let end = loose_end(part, x.float_count, next);
+    let end = float_end(&part.floats, x.float_count, next);
     ChainAtoms {
         at: all.at,
         count: all.count as u16,

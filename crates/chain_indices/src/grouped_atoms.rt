@@ -10,7 +10,8 @@ ghost use Rattle.chain_indices.specs.grouped_atoms.Groups.{Fits, GroupsNumbered}
 
 use super::atoms::ChainAtoms;
 use super::carried_atoms;
-use drawn_chain::Shape;
+use chain_record::Mod;
+use drawn_chain::{Lists, Shape};
 
 // The carbons so far: the place after their indices, the next atom, and the first carbon that is not numbered.
 #[derive(Clone, Copy)]
@@ -35,7 +36,7 @@ fn number_groups(
     at: usize,
     next: u16,
     k: usize,
-    groups: &[u64],
+    groups: &[Mod],
     count: usize,
 ) -> Reached
     requires { Fits (length index.old) at next k (groups_in count groups.now) }
@@ -67,7 +68,7 @@ pub fn number_grouped<'a>(
     at: usize,
     first: u32,
     x: Shape,
-    part: &'a [u64],
+    part: &'a Lists,
     bonds: &'a [u8],
 ) -> ChainAtoms
     requires draws_few { DrawsFew (drawn_of x part.now) }
@@ -84,7 +85,7 @@ pub fn number_grouped<'a>(
         p,
         low + 1 + lead,
         x.first as usize + 1,
-        drawn_chain::groups_part(part),
+        &part.groups,
         x.group_count,
     );
     let rest = x.carbon as usize + 1 - r.carbon;
@@ -100,7 +101,7 @@ pub fn number_grouped<'a>(
 }
 
 // The indices of the drawn carbons of such a chain that carries nothing.
-pub fn number_bare(index: &mut [u16], at: usize, first: u32, x: Shape, part: &[u64]) -> ChainAtoms
+pub fn number_bare(index: &mut [u16], at: usize, first: u32, x: Shape, part: &Lists) -> ChainAtoms
     requires draws_few { DrawsFew (drawn_of x part.now) }
     requires grouped { Grouped (drawn_of x part.now) }
     requires bond_count_value { (x.bond_count ≡ 0) × (x.group_count ≡ 0) }

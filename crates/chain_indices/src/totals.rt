@@ -1,10 +1,9 @@
 // What is kept of a chain beside its atoms.
-ghost use Rattle.std.specs.Prelude.{◌≡◌, length};
-ghost use Rattle.drawn_chain.specs.drawable.Drawn.{groups_in, rings_in, floats_part, rings_part, drawn_of, Says, DrawsSome};
+ghost use Rattle.drawn_chain.specs.drawable.Drawn.{drawn_of, Says, DrawsSome};
 ghost use Rattle.chain_indices.specs.totals.Sum.{sum_of};
 ghost use Rattle.chain_indices.specs.totals.Totals.{FiguresOf};
 
-use drawn_chain::Shape;
+use drawn_chain::{Lists, Shape};
 
 // What is kept of a chain beside its atoms: whether it is acyl, its double bonds without a position, what its variables add up to, and how many
 // floating groups and rings it has.
@@ -18,7 +17,7 @@ pub struct Figures {
 }
 
 // What the variables of a chain add up to. Most chains have none: then what remains of them is not looked for.
-fn sum(x: Shape, part: &[u64]) -> u16
+fn sum(x: Shape, part: &Lists) -> u16
     requires { DrawsSome (drawn_of x part.now) }
     ensures { Says (drawn_of x part.now) result sum_of }
 {
@@ -33,33 +32,13 @@ fn sum(x: Shape, part: &[u64]) -> u16
     remaining - n - 1
 }
 
-// How many groups without a position a chain has. Most have none: then their room is not looked for.
-fn float_len(part: &[u64], count: usize) -> u16
-    ensures { result ≡ length (groups_in count (floats_part part.now)) }
-{
-    if count == 0 {
-        return 0;
-    }
-    drawn_chain::groups_len(drawn_chain::floats_part(part), count) as u16
-}
-
-// How many rings it has.
-fn ring_len(part: &[u64], count: usize) -> u16
-    ensures { result ≡ length (rings_in count (rings_part part.now)) }
-{
-    if count == 0 {
-        return 0;
-    }
-    drawn_chain::rings_len(drawn_chain::rings_part(part), count) as u16
-}
-
-pub fn figures_of(x: Shape, part: &[u64]) -> Figures
+pub fn figures_of(x: Shape, part: &Lists) -> Figures
     requires { DrawsSome (drawn_of x part.now) }
     ensures { FiguresOf (drawn_of x part.now) result }
 {
     let total = sum(x, part);
-    let float_count = float_len(part, x.float_count);
-    let rings = ring_len(part, x.ring_count);
+    let float_count = drawn_chain::groups_len(&part.floats, x.float_count) as u16;
+    let rings = drawn_chain::rings_len(&part.rings, x.ring_count) as u16;
     Figures {
         acyl: x.acyl,
         unlocated: x.unlocated,

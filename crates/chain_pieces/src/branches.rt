@@ -4,7 +4,8 @@ ghost use Rattle.writer.specs.emit.Text.{Written};
 ghost use Rattle.drawn_chain.specs.drawable.Drawn.{groups_in, drawn_of, DrawsSome};
 ghost use Rattle.chain_pieces.specs.branches.Text.{branch_text, group_text, sitting, groups_text, float_text, floats_text, carbonyl_text, rows_in, RowsPut};
 
-use drawn_chain::Shape;
+use chain_record::Mod;
+use drawn_chain::{Lists, Shape};
 use group_table::{HYDROXY, KETO, METHYL};
 
 // The branch of a group, from its row of the table.
@@ -52,7 +53,7 @@ fn put_float(out: &mut [u8], at: usize, row: u8) -> usize
 }
 
 // The groups of carbon k, in token order.
-pub fn put_groups(out: &mut [u8], at: usize, groups: &[u64], count: usize, k: u32) -> usize
+pub fn put_groups(out: &mut [u8], at: usize, groups: &[Mod], count: usize, k: u32) -> usize
     ensures { Written out.old at (groups_text (sitting k (groups_in count groups.now))) out.new result }
 {
     let n = drawn_chain::groups_len(groups, count);
@@ -72,7 +73,7 @@ pub fn put_groups(out: &mut [u8], at: usize, groups: &[u64], count: usize, k: u3
 }
 
 // The groups without a position.
-pub fn put_floats(out: &mut [u8], at: usize, floats: &[u64], count: usize) -> usize
+pub fn put_floats(out: &mut [u8], at: usize, floats: &[Mod], count: usize) -> usize
     ensures { Written out.old at (floats_text (groups_in count floats.now)) out.new result }
 {
     let n = drawn_chain::groups_len(floats, count);
@@ -87,7 +88,7 @@ pub fn put_floats(out: &mut [u8], at: usize, floats: &[u64], count: usize) -> us
 }
 
 // The rows of groups, one number for each.
-fn write_rows(rows: &mut [u8], at: usize, groups: &[u64], count: usize) -> usize
+fn write_rows(rows: &mut [u8], at: usize, groups: &[Mod], count: usize) -> usize
     ensures { Written rows.old at (rows_in (groups_in count groups.now)) rows.new result }
 {
     let n = drawn_chain::groups_len(groups, count);
@@ -101,15 +102,12 @@ fn write_rows(rows: &mut [u8], at: usize, groups: &[u64], count: usize) -> usize
     p
 }
 
-// The rows of the groups without a position. Most chains have none: then their room is not looked for.
-pub fn put_rows(rows: &mut [u8], at: usize, x: Shape, part: &[u64]) -> usize
+// The rows of the groups without a position.
+pub fn put_rows(rows: &mut [u8], at: usize, x: Shape, part: &Lists) -> usize
     requires { DrawsSome (drawn_of x part.now) }
     ensures { RowsPut (drawn_of x part.now) rows.old at rows.new result }
 {
-    if x.float_count == 0 {
-        return at;
-    }
-    write_rows(rows, at, drawn_chain::floats_part(part), x.float_count)
+    write_rows(rows, at, &part.floats, x.float_count)
 }
 
 // The O of a carbonyl on its carbon; where there is room for it, without a look at the end of the slice for each byte.

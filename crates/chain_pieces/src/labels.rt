@@ -37,7 +37,7 @@ fn put_end(out: &mut [u8], at: usize, ring: Ring, k: u16, label: u8) -> usize
 pub fn put_labels(
     out: &mut [u8],
     at: usize,
-    rings: &[u64],
+    rings: &[Ring],
     count: usize,
     k: u16,
     label: u8,

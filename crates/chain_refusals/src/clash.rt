@@ -7,7 +7,7 @@ ghost use Rattle.drawn_chain.specs.drawable.Drawn.{bonds_in, rings_in, drawn_of,
 ghost use Rattle.chain_refusals.specs.clash.Places.{bond_at};
 
 use chain_record::{Bridge, DbPos, Ring};
-use drawn_chain::Shape;
+use drawn_chain::{Lists, Shape};
 
 // Whether a double bond stands at p.
 fn starts_at(bond: DbPos, p: u32) -> bool
@@ -17,7 +17,7 @@ fn starts_at(bond: DbPos, p: u32) -> bool
 }
 
 // Whether some double bond stands at p, among those from a place on.
-fn bond_from(bonds: &[u64], count: usize, from: usize, p: u32) -> bool
+fn bond_from(bonds: &[DbPos], count: usize, from: usize, p: u32) -> bool
     ensures { result ≡ any_of (bond_at p) (drop from (bonds_in count bonds.now)) }
 {
     let n = drawn_chain::bonds_len(bonds, count);
@@ -33,7 +33,7 @@ fn bond_from(bonds: &[u64], count: usize, from: usize, p: u32) -> bool
 }
 
 // Whether some two double bonds stand at one carbon, each held against all that follow.
-fn repeated_bond(bonds: &[u64], count: usize) -> bool
+fn repeated_bond(bonds: &[DbPos], count: usize) -> bool
     ensures { result ≡ any_two same_bond (bonds_in count bonds.now) }
 {
     let n = drawn_chain::bonds_len(bonds, count);
@@ -49,7 +49,7 @@ fn repeated_bond(bonds: &[u64], count: usize) -> bool
 }
 
 // Whether a ring is an epoxide where a double bond stands.
-fn epoxide_on(ring: Ring, bonds: &[u64], count: usize) -> bool
+fn epoxide_on(ring: Ring, bonds: &[DbPos], count: usize) -> bool
     ensures { result ≡ epoxide_on (bonds_in count bonds.now) ring }
 {
     let bridge = ring.bridge;
@@ -61,9 +61,9 @@ fn epoxide_on(ring: Ring, bonds: &[u64], count: usize) -> bool
 
 // Whether some ring is an epoxide where a double bond stands.
 fn any_epoxide_on<'a>(
-    rings: &'a [u64],
+    rings: &'a [Ring],
     ring_count: usize,
-    bonds: &'a [u64],
+    bonds: &'a [DbPos],
     bond_count: usize,
 ) -> bool
     ensures { result ≡ any_of (epoxide_on (bonds_in bond_count bonds.now)) (rings_in ring_count rings.now) }
@@ -92,7 +92,7 @@ fn small_ring(ring: Ring) -> bool
 }
 
 // Whether some carbocycle has one atom or two.
-fn any_small_ring(rings: &[u64], count: usize) -> bool
+fn any_small_ring(rings: &[Ring], count: usize) -> bool
     ensures { result ≡ any_of small_ring (rings_in count rings.now) }
 {
     let n = drawn_chain::rings_len(rings, count);
@@ -121,7 +121,7 @@ fn same_ring(a: Ring, b: Ring) -> bool
 }
 
 // Whether some ring has the ends of a given one, among those from a place on.
-fn ring_from(rings: &[u64], count: usize, from: usize, ring: Ring) -> bool
+fn ring_from(rings: &[Ring], count: usize, from: usize, ring: Ring) -> bool
     ensures { result ≡ any_of (same_ring ring) (drop from (rings_in count rings.now)) }
 {
     let n = drawn_chain::rings_len(rings, count);
@@ -137,7 +137,7 @@ fn ring_from(rings: &[u64], count: usize, from: usize, ring: Ring) -> bool
 }
 
 // Whether some two rings have the same ends.
-fn repeated_ring(rings: &[u64], count: usize) -> bool
+fn repeated_ring(rings: &[Ring], count: usize) -> bool
     ensures { result ≡ any_two same_ring (rings_in count rings.now) }
 {
     let n = drawn_chain::rings_len(rings, count);
@@ -153,15 +153,15 @@ fn repeated_ring(rings: &[u64], count: usize) -> bool
 }
 
 // 33: whether two features clash.
-pub fn clash(x: Shape, part: &[u64]) -> bool
+pub fn clash(x: Shape, part: &Lists) -> bool
     requires { DrawsSome (drawn_of x part.now) }
     ensures { Says (drawn_of x part.now) result clashes }
 {
-    let bonds = drawn_chain::bonds_part(part);
+    let bonds = &part.bonds;
     if repeated_bond(bonds, x.bond_count) {
         return true;
     }
-    let rings = drawn_chain::rings_part(part);
+    let rings = &part.rings;
     if any_epoxide_on(rings, x.ring_count, bonds, x.bond_count) {
         return true;
     }

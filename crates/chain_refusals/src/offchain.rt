@@ -5,7 +5,7 @@ ghost use Rattle.chain_rules.specs.chain.Refusals.{double_off, group_off, ring_o
 ghost use Rattle.drawn_chain.specs.drawable.Drawn.{bonds_in, groups_in, rings_in, drawn_of, Says, DrawsSome};
 
 use chain_record::{DbPos, Mod, Ring};
-use drawn_chain::Shape;
+use drawn_chain::{Lists, Shape};
 
 // Whether a double bond is outside of the carbons from `first` up to, not including, `carbon`.
 fn bond_off(bond: DbPos, first: u16, carbon: u16) -> bool
@@ -54,7 +54,7 @@ fn ring_off(ring: Ring, first: u16, acyl: bool) -> bool
 }
 
 // Whether some double bond is off the chain.
-fn any_bond_off(bonds: &[u64], count: usize, first: u16, carbon: u16) -> bool
+fn any_bond_off(bonds: &[DbPos], count: usize, first: u16, carbon: u16) -> bool
     ensures { result ≡ any_of (double_off first carbon) (bonds_in count bonds.now) }
 {
     let n = drawn_chain::bonds_len(bonds, count);
@@ -70,7 +70,7 @@ fn any_bond_off(bonds: &[u64], count: usize, first: u16, carbon: u16) -> bool
 }
 
 // Whether some group is off the chain.
-fn any_group_off(groups: &[u64], count: usize, first: u16, carbon: u16) -> bool
+fn any_group_off(groups: &[Mod], count: usize, first: u16, carbon: u16) -> bool
     ensures { result ≡ any_of (group_off first carbon) (groups_in count groups.now) }
 {
     let n = drawn_chain::groups_len(groups, count);
@@ -86,7 +86,7 @@ fn any_group_off(groups: &[u64], count: usize, first: u16, carbon: u16) -> bool
 }
 
 // Whether some ring starts off the chain.
-fn any_ring_off(rings: &[u64], count: usize, first: u16, acyl: bool) -> bool
+fn any_ring_off(rings: &[Ring], count: usize, first: u16, acyl: bool) -> bool
     ensures { result ≡ any_of (ring_off first acyl) (rings_in count rings.now) }
 {
     let n = drawn_chain::rings_len(rings, count);
@@ -103,7 +103,7 @@ fn any_ring_off(rings: &[u64], count: usize, first: u16, acyl: bool) -> bool
 
 // 32: whether a feature is off the drawn chain. A located group on a chain without carbons is off it, so only those that float are left to
 // be asked about there.
-pub fn off_chain(x: Shape, part: &[u64]) -> bool
+pub fn off_chain(x: Shape, part: &Lists) -> bool
     requires { DrawsSome (drawn_of x part.now) }
     ensures { Says (drawn_of x part.now) result off_chain }
 {
@@ -111,13 +111,13 @@ pub fn off_chain(x: Shape, part: &[u64]) -> bool
     let carbon = x.carbon;
     let acyl = x.acyl;
     let ether_base = x.ether_base;
-    if any_bond_off(drawn_chain::bonds_part(part), x.bond_count, first, carbon) {
+    if any_bond_off(&part.bonds, x.bond_count, first, carbon) {
         return true;
     }
-    if any_group_off(drawn_chain::groups_part(part), x.group_count, first, carbon) {
+    if any_group_off(&part.groups, x.group_count, first, carbon) {
         return true;
     }
-    if any_ring_off(drawn_chain::rings_part(part), x.ring_count, first, acyl) {
+    if any_ring_off(&part.rings, x.ring_count, first, acyl) {
         return true;
     }
     if ether_base {
@@ -126,7 +126,7 @@ pub fn off_chain(x: Shape, part: &[u64]) -> bool
     if carbon > 0 {
         return false;
     }
-    if drawn_chain::groups_len(drawn_chain::floats_part(part), x.float_count) == 0 {
+    if drawn_chain::groups_len(&part.floats, x.float_count) == 0 {
         return false;
     }
     true

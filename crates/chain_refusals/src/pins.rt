@@ -6,7 +6,8 @@ ghost use Rattle.chain_rules.specs.chain.Refusals.{pin_too_far};
 ghost use Rattle.drawn_chain.specs.drawable.Drawn.{groups_in, rings_in, group_pin, drawn_of, Says, DrawsSome};
 ghost use Rattle.chain_refusals.specs.pins.Pins.{ring_pin, pins_in};
 
-use drawn_chain::Shape;
+use chain_record::{Mod, Ring};
+use drawn_chain::{Lists, Shape};
 
 // The last carbon that a first pin may have.
 fn pin_bound(first: u16, acyl: bool) -> u32
@@ -19,7 +20,7 @@ fn pin_bound(first: u16, acyl: bool) -> u32
 }
 
 // Whether there is no group and no ring to pin.
-fn no_pins<'a>(groups: &'a [u64], group_count: usize, rings: &'a [u64], ring_count: usize) -> bool
+fn no_pins<'a>(groups: &'a [Mod], group_count: usize, rings: &'a [Ring], ring_count: usize) -> bool
     ensures { result ≡ is_empty (pins_in (groups_in group_count groups.now) (rings_in ring_count rings.now)) }
 {
     if drawn_chain::groups_len(groups, group_count) > 0 {
@@ -32,7 +33,7 @@ fn no_pins<'a>(groups: &'a [u64], group_count: usize, rings: &'a [u64], ring_cou
 }
 
 // Whether every group is past a carbon.
-fn groups_past(groups: &[u64], count: usize, bound: u32) -> bool
+fn groups_past(groups: &[Mod], count: usize, bound: u32) -> bool
     ensures { result ≡ all_of (ltb bound) (map group_pin (groups_in count groups.now)) }
 {
     let n = drawn_chain::groups_len(groups, count);
@@ -48,7 +49,7 @@ fn groups_past(groups: &[u64], count: usize, bound: u32) -> bool
 }
 
 // Whether every ring starts past a carbon.
-fn rings_past(rings: &[u64], count: usize, bound: u32) -> bool
+fn rings_past(rings: &[Ring], count: usize, bound: u32) -> bool
     ensures { result ≡ all_of (ltb bound) (map ring_pin (rings_in count rings.now)) }
 {
     let n = drawn_chain::rings_len(rings, count);
@@ -64,15 +65,15 @@ fn rings_past(rings: &[u64], count: usize, bound: u32) -> bool
 }
 
 // 13: unlocated bonds, and a first pin too far.
-pub fn pin_too_far(x: Shape, part: &[u64]) -> bool
+pub fn pin_too_far(x: Shape, part: &Lists) -> bool
     requires { DrawsSome (drawn_of x part.now) }
     ensures { Says (drawn_of x part.now) result pin_too_far }
 {
     if x.unlocated == 0 {
         return false;
     }
-    let groups = drawn_chain::groups_part(part);
-    let rings = drawn_chain::rings_part(part);
+    let groups = &part.groups;
+    let rings = &part.rings;
     if no_pins(groups, x.group_count, rings, x.ring_count) {
         return false;
     }

@@ -7,7 +7,7 @@ ghost use Rattle.drawn_chain.specs.drawable.Drawn.{groups_in, group_at, drawn_of
 
 use super::pins;
 use chain_record::Mod;
-use drawn_chain::Shape;
+use drawn_chain::{Lists, Shape};
 
 // A located group at C1 of an acyl chain.
 pub const GROUP_ON_CARBONYL: u16 = 12;
@@ -26,7 +26,7 @@ fn on_first(group: Mod) -> bool
 }
 
 // Whether some group sits on C1.
-fn any_on_first(groups: &[u64], count: usize) -> bool
+fn any_on_first(groups: &[Mod], count: usize) -> bool
     ensures { result ≡ any_of (group_at 1) (groups_in count groups.now) }
 {
     let n = drawn_chain::groups_len(groups, count);
@@ -42,7 +42,7 @@ fn any_on_first(groups: &[u64], count: usize) -> bool
 }
 
 // 12: a located group at C1 of an acyl chain. Most chains have no group.
-fn group_on_carbonyl(x: Shape, part: &[u64]) -> bool
+fn group_on_carbonyl(x: Shape, part: &Lists) -> bool
     ensures { Says (drawn_of x part.now) result group_on_carbonyl }
 {
     if !x.acyl {
@@ -51,11 +51,11 @@ fn group_on_carbonyl(x: Shape, part: &[u64]) -> bool
     if x.group_count == 0 {
         return false;
     }
-    any_on_first(drawn_chain::groups_part(part), x.group_count)
+    any_on_first(&part.groups, x.group_count)
 }
 
 // 14: a flexible tail too short for its double bonds.
-fn tail_too_short(x: Shape, part: &[u64]) -> bool
+fn tail_too_short(x: Shape, part: &Lists) -> bool
     requires { DrawsSome (drawn_of x part.now) }
     ensures { Says (drawn_of x part.now) result tail_too_short }
 {
@@ -78,11 +78,11 @@ fn site_skip(acyl: bool) -> u32
 }
 
 // 15: an unlocated group with no site.
-fn no_site(x: Shape, part: &[u64]) -> bool
+fn no_site(x: Shape, part: &Lists) -> bool
     requires { DrawsSome (drawn_of x part.now) }
     ensures { Says (drawn_of x part.now) result no_site }
 {
-    if drawn_chain::groups_len(drawn_chain::floats_part(part), x.float_count) == 0 {
+    if drawn_chain::groups_len(&part.floats, x.float_count) == 0 {
         return false;
     }
     let skip = site_skip(x.acyl);
@@ -91,7 +91,7 @@ fn no_site(x: Shape, part: &[u64]) -> bool
 }
 
 // 12 to 15, in order; 0 where none is due.
-pub fn draw_refusal(x: Shape, part: &[u64]) -> u16
+pub fn draw_refusal(x: Shape, part: &Lists) -> u16
     requires { DrawsSome (drawn_of x part.now) }
     ensures { Says (drawn_of x part.now) result draw_refusal }
 {

@@ -2,24 +2,24 @@
 // through only at carbons that carry one, and the carbons between them are written in runs. On an empty slice the same functions measure.
 ghost use Rattle.std.specs.Prelude.{◌++◌, suc, ◌+◌, ◌-◌, ◌≤◌, ◌<◌, length};
 ghost use Rattle.writer.specs.emit.Text.{Written};
-ghost use Rattle.drawn_chain.specs.drawable.Drawn.{groups_in, rings_in, floats_part, drawn_of};
+ghost use Rattle.drawn_chain.specs.drawable.Drawn.{groups_in, rings_in, drawn_of};
 ghost use Rattle.carbons.specs.Tokens.{tokens, TokensOf};
 ghost use Rattle.carbons.specs.ByCarbon.{Busy};
-ghost use Rattle.chain_pieces.specs.branches.Text.{floats_text};
 ghost use Rattle.chain_pieces.specs.backbone.Text.{carbon_text, bridge_text};
 ghost use Rattle.chain_text.specs.fragment.Text.{features_text, carbons_text};
 ghost use Rattle.chain_text.specs.fragment.Segment.{DrawsRead, Segment};
 
-use drawn_chain::Shape;
+use chain_record::{Mod, Ring};
+use drawn_chain::{Lists, Shape};
 
 // What follows the C of carbon k: its labels, its carbonyl and its groups.
 fn put_features<'a>(
     out: &mut [u8],
     at: usize,
     acyl: bool,
-    groups: &'a [u64],
+    groups: &'a [Mod],
     group_count: usize,
-    rings: &'a [u64],
+    rings: &'a [Ring],
     ring_count: usize,
     k: u16,
     label: u8,
@@ -37,9 +37,9 @@ fn put_busy<'a>(
     out: &mut [u8],
     at: usize,
     acyl: bool,
-    groups: &'a [u64],
+    groups: &'a [Mod],
     group_count: usize,
-    rings: &'a [u64],
+    rings: &'a [Ring],
     ring_count: usize,
     k: u16,
     label: u8,
@@ -70,9 +70,9 @@ fn assemble_range<'a>(
     out: &mut [u8],
     at: usize,
     acyl: bool,
-    groups: &'a [u64],
+    groups: &'a [Mod],
     group_count: usize,
-    rings: &'a [u64],
+    rings: &'a [Ring],
     ring_count: usize,
     first: u16,
     last: u16,
@@ -111,23 +111,13 @@ fn assemble_range<'a>(
     p
 }
 
-// The groups without a position of a chain. Most have none: then their room is not looked for.
-fn put_loose<'a>(out: &mut [u8], at: usize, part: &'a [u64], count: usize) -> usize
-    ensures { Written out.old at (floats_text (groups_in count (floats_part part.now))) out.new result }
-{
-    if count == 0 {
-        return at;
-    }
-    chain_pieces::put_floats(out, at, drawn_chain::floats_part(part), count)
-}
-
 // The text of a chain, with ring labels from the label given on: the literal carbons, the flexible tail and the groups without a position.
 // What each carbon has was looked up before, and is lent. The label leaves room for the labels of eight rings.
 pub fn build_chain_segment<'a>(
     out: &mut [u8],
     at: usize,
     x: Shape,
-    part: &'a [u64],
+    part: &'a Lists,
     first: u16,
     last: u16,
     bonds: &'a [u8],
@@ -145,9 +135,9 @@ pub fn build_chain_segment<'a>(
         out,
         at,
         x.acyl,
-        drawn_chain::groups_part(part),
+        &part.groups,
         x.group_count,
-        drawn_chain::rings_part(part),
+        &part.rings,
         x.ring_count,
         first,
         last,
@@ -156,5 +146,5 @@ pub fn build_chain_segment<'a>(
         label,
     );
     let q = chain_pieces::put_flexible(out, p, bond, x.unlocated);
-    put_loose(out, q, part, x.float_count)
+    chain_pieces::put_floats(out, q, &part.floats, x.float_count)
 }

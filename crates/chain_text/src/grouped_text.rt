@@ -9,10 +9,11 @@ ghost use Rattle.chain_pieces.specs.runs.Links.{links_text};
 ghost use Rattle.chain_text.specs.fragment.Segment.{DrawsRead, Segment};
 ghost use Rattle.chain_text.specs.grouped_text.Text.{stop_of, next_text, rest_text};
 
-use drawn_chain::Shape;
+use chain_record::{DbPos, Mod};
+use drawn_chain::{Lists, Shape};
 
 // The carbon of the group at a place; past the last group the last carbon.
-fn stop(groups: &[u64], count: usize, i: usize, last: usize) -> usize
+fn stop(groups: &[Mod], count: usize, i: usize, last: usize) -> usize
     ensures { result ≡ stop_of (drop i (groups_in count groups.now)) last }
 {
     let n = drawn_chain::groups_len(groups, count);
@@ -24,7 +25,7 @@ fn stop(groups: &[u64], count: usize, i: usize, last: usize) -> usize
 }
 
 // The group at a place; past the last nothing.
-fn put_nth(out: &mut [u8], at: usize, groups: &[u64], count: usize, i: usize) -> usize
+fn put_nth(out: &mut [u8], at: usize, groups: &[Mod], count: usize, i: usize) -> usize
     ensures { Written out.old at (next_text (drop i (groups_in count groups.now))) out.new result }
 {
     let n = drawn_chain::groups_len(groups, count);
@@ -36,7 +37,7 @@ fn put_nth(out: &mut [u8], at: usize, groups: &[u64], count: usize, i: usize) ->
 }
 
 // The carbon at which the double bond at a place starts; past the last of them, and where it would stand off the chain, the carbon after the last.
-fn next_double(doubles: &[u64], count: usize, i: usize, last: usize) -> usize
+fn next_double(doubles: &[DbPos], count: usize, i: usize, last: usize) -> usize
     requires { last ≤ 255 }
     ensures { result ≤ last + 1 }
 {
@@ -58,7 +59,7 @@ fn put_doubles<'a>(
     out: &mut [u8],
     at: usize,
     bonds: &'a [u8],
-    doubles: &'a [u64],
+    doubles: &'a [DbPos],
     count: usize,
     k: usize,
     last: usize,
@@ -90,7 +91,7 @@ fn put_stretches<'a>(
     out: &mut [u8],
     at: usize,
     bonds: &'a [u8],
-    groups: &'a [u64],
+    groups: &'a [Mod],
     count: usize,
     k: usize,
     last: usize,
@@ -119,7 +120,7 @@ pub fn build_grouped<'a>(
     out: &mut [u8],
     at: usize,
     x: Shape,
-    part: &'a [u64],
+    part: &'a Lists,
     bonds: &'a [u8],
 ) -> usize
     requires draws_read { DrawsRead (drawn_of x part.now) }
@@ -133,29 +134,13 @@ pub fn build_grouped<'a>(
     let p = chain_pieces::put_carbon(out, at, bonds[k - 1]);
     let q = chain_pieces::put_carbonyl(out, p, x.acyl, x.first);
     if x.group_count == 0 {
-        return put_doubles(
-            out,
-            q,
-            bonds,
-            drawn_chain::bonds_part(part),
-            x.bond_count,
-            k + 1,
-            last,
-        );
+        return put_doubles(out, q, bonds, &part.bonds, x.bond_count, k + 1, last);
     }
-    put_stretches(
-        out,
-        q,
-        bonds,
-        drawn_chain::groups_part(part),
-        x.group_count,
-        k + 1,
-        last,
-    )
+    put_stretches(out, q, bonds, &part.groups, x.group_count, k + 1, last)
 }
 
 // The text of such a chain that carries nothing, where there is room for it: carbons between empty bonds, and the O of an acyl C1.
-pub fn build_bare(out: &mut [u8], at: usize, x: Shape, part: &[u64]) -> usize
+pub fn build_bare(out: &mut [u8], at: usize, x: Shape, part: &Lists) -> usize
     requires draws_read { DrawsRead (drawn_of x part.now) }
     requires grouped { Grouped (drawn_of x part.now) }
     requires bond_count_value { (x.bond_count ≡ 0) × (x.group_count ≡ 0) }

@@ -1,42 +1,20 @@
 // A chain fitted to its place: what a token says, with the double bond that `P-` adds, the O's that a base adds, and its groups parted into
-// those with a position and those that float. Its lists are laid into a lent part, where its rings stand already. Every function is defined
+// those with a position and those that float. Its lists are laid into a lent struct, where its rings stand already. Every function is defined
 // for every count: a count past its limit counts as the limit. What is drawn of a chain is said by `drawable`.
-ghost use Rattle.std.specs.Prelude.{◌≡◌, [], ◌∷◌, ◌++◌, ◌+◌, ◌≤◌, min, length, take};
-ghost use Rattle.chain_record.specs.codes.Codes.{bond_in, group_in};
+ghost use Rattle.std.specs.Prelude.{◌≡◌, [], ◌∷◌, ◌++◌, ◌+◌, ◌≤◌, length, take};
 ghost use Rattle.chain_rules.specs.declared.chain.Role.TheVariants.{Slot, Base};
 ghost use Rattle.chain_rules.specs.chain.Lists.{any_of};
 ghost use Rattle.chain_rules.specs.chain.Features.{alkenyl_bond, located, unlocated as floats, oxygen_at, base_oxygens};
-ghost use Rattle.drawn_chain.specs.drawable.Drawn.{bonds_in, groups_in, group_at, rings_part, drawn_of};
+ghost use Rattle.drawn_chain.specs.drawable.Drawn.{bonds_in, groups_in, group_at, drawn_of};
 ghost use Rattle.drawn_chain.specs.fitted.Fitted.{alkenyl, group_room, Parts, More, pieces, Fits};
 
 use super::drawable;
-use super::drawable::Shape;
+use super::drawable::{BOND_ROOM, Shape};
+use super::rooms::Lists;
 use chain_record::{
     ChainPrefix, DbPos, GROUP_ROOM, Geometry, MAX_BONDS, MAX_GROUPS, MAX_RINGS, Mod,
 };
 use chain_rules::Role;
-
-// The smaller of two numbers.
-fn at_most(n: usize, most: usize) -> usize
-    ensures { result ≡ min n most }
-{
-    if n < most {
-        return n;
-    }
-    most
-}
-
-fn bond_number(bond: DbPos) -> u64
-    ensures { bond_in result ≡ bond }
-{
-    chain_record::bond_code(bond)
-}
-
-fn group_number(group: Mod) -> u64
-    ensures { group_in result ≡ group }
-{
-    chain_record::group_code(group)
-}
 
 // ---- double bonds
 
@@ -56,15 +34,14 @@ fn ether_bonds(prefix: ChainPrefix) -> usize
 // The located double bonds: that of `P-` where one is added, then those of the token. That of `P-` is written first in any case: where it is
 // not added, it does not count, and those of the token are written over it. The first two of the token are written in any case too: most
 // chains have no more.
-fn double_bonds(added: usize, written: &[u64], n: usize, bonds: &mut [u64])
-    requires added_bound { (added ≤ 1) × (n ≤ 32) × (32 ≤ length written.now) }
-    requires bonds_len { length bonds.old ≡ 33 }
+fn double_bonds(added: usize, written: &[DbPos], n: usize, bonds: &mut [DbPos; BOND_ROOM])
+    requires { (added ≤ 1) × (n ≤ 32) × (32 ≤ length written.now) }
     ensures { bonds_in (added + n) bonds.new ≡ take added (alkenyl ∷ []) ++ bonds_in n written.now }
 {
-    bonds[0] = bond_number(DbPos {
+    bonds[0] = DbPos {
         pos: 1,
         geom: Geometry::Unstated,
-    });
+    };
     bonds[added] = written[0];
     bonds[added + 1] = written[1];
     let mut i = 2;
@@ -77,52 +54,41 @@ fn double_bonds(added: usize, written: &[u64], n: usize, bonds: &mut [u64])
 // ---- groups
 
 // The groups with a position, in order, and how many there are.
-fn located_groups(written: &[u64], n: usize, groups: &mut [u64]) -> usize
-    requires n_bound { (n ≤ 16) × (n ≤ length written.now) }
-    requires groups_len { length groups.old ≡ 18 }
+fn located_groups(written: &[Mod], n: usize, groups: &mut [Mod; GROUP_ROOM]) -> usize
+    requires { (n ≤ 16) × (n ≤ length written.now) }
     ensures { Parts (located (groups_in n written.now)) result groups.new }
 {
     let mut count = 0;
-    let mut i = 0;
-    while i < n {
-        let number = written[i];
-        let group = chain_record::group_in(number);
-        i += 1;
+    for group in &written[..n] {
         if group.pos == 0 {
             continue;
         }
-        groups[count] = number;
+        groups[count] = *group;
         count += 1;
     }
     count
 }
 
 // The groups without a position, in order, and how many there are.
-fn floating_groups(written: &[u64], n: usize, groups: &mut [u64]) -> usize
-    requires n_bound { (n ≤ 16) × (n ≤ length written.now) }
-    requires groups_len { length groups.old ≡ 18 }
+fn floating_groups(written: &[Mod], n: usize, groups: &mut [Mod; GROUP_ROOM]) -> usize
+    requires { (n ≤ 16) × (n ≤ length written.now) }
     ensures { groups_in result groups.new ≡ floats (groups_in n written.now) }
 {
     let mut count = 0;
-    let mut i = 0;
-    while i < n {
-        let number = written[i];
-        let group = chain_record::group_in(number);
-        i += 1;
+    for group in &written[..n] {
         if group.pos != 0 {
             continue;
         }
-        groups[count] = number;
+        groups[count] = *group;
         count += 1;
     }
     count
 }
 
 // The groups without a position of a chain that is no base. Most chains have none: then as many have a position as there are.
-fn left_groups(written: &[u64], n: usize, placed: usize, groups: &mut [u64]) -> usize
+fn left_groups(written: &[Mod], n: usize, placed: usize, groups: &mut [Mod; GROUP_ROOM]) -> usize
     requires n_bound { (n ≤ 16) × (n ≤ length written.now) }
     requires placed_value { placed ≡ length (located (groups_in n written.now)) }
-    requires groups_len { length groups.old ≡ 18 }
     ensures { groups_in result groups.new ≡ floats (groups_in n written.now) }
 {
     if placed == n {
@@ -132,12 +98,11 @@ fn left_groups(written: &[u64], n: usize, placed: usize, groups: &mut [u64]) -> 
 }
 
 // One more, where there is room, and how many there are then.
-fn push_group(groups: &mut [u64], count: usize, group: Mod) -> usize
-    requires { length groups.old ≡ 18 }
+fn push_group(groups: &mut [Mod; GROUP_ROOM], count: usize, group: Mod) -> usize
     ensures { More (group ∷ []) count groups.old result groups.new }
 {
     if count < GROUP_ROOM {
-        groups[count] = group_number(group);
+        groups[count] = group;
         return count + 1;
     }
     count
@@ -151,7 +116,7 @@ fn sits_at(group: Mod, p: u32) -> bool
 }
 
 // Whether some group sits at p.
-fn group_at(groups: &[u64], count: usize, p: u32) -> bool
+fn group_at(groups: &[Mod], count: usize, p: u32) -> bool
     ensures { result ≡ any_of (group_at p) (groups_in count groups.now) }
 {
     let n = drawable::groups_len(groups, count);
@@ -167,8 +132,7 @@ fn group_at(groups: &[u64], count: usize, p: u32) -> bool
 }
 
 // An O at p more, unless one of the first groups, those of the token, sits there.
-fn oxygen_at(groups: &mut [u64], count: usize, written: usize, p: u32) -> usize
-    requires { length groups.old ≡ 18 }
+fn oxygen_at(groups: &mut [Mod; GROUP_ROOM], count: usize, written: usize, p: u32) -> usize
     ensures { More (oxygen_at p (groups_in written groups.old)) count groups.old result groups.new }
 {
     if group_at(groups, written, p) {
@@ -185,8 +149,7 @@ fn oxygen_at(groups: &mut [u64], count: usize, written: usize, p: u32) -> usize
 }
 
 // The groups of a base: those of the token, then an O at 3, and at 4 for t.
-fn base_groups(prefix: ChainPrefix, groups: &mut [u64], count: usize) -> usize
-    requires { length groups.old ≡ 18 }
+fn base_groups(prefix: ChainPrefix, groups: &mut [Mod; GROUP_ROOM], count: usize) -> usize
     ensures { groups_in result groups.new ≡ take group_room (groups_in count groups.old ++ base_oxygens Base prefix (groups_in count groups.old)) }
 {
     let diol = oxygen_at(groups, count, count, 3);
@@ -200,9 +163,13 @@ fn base_groups(prefix: ChainPrefix, groups: &mut [u64], count: usize) -> usize
 }
 
 // The groups drawn on a base, and how many there are.
-fn groups_of_base(prefix: ChainPrefix, written: &[u64], n: usize, groups: &mut [u64]) -> usize
-    requires n_bound { (n ≤ 16) × (n ≤ length written.now) }
-    requires groups_len { length groups.old ≡ 18 }
+fn groups_of_base(
+    prefix: ChainPrefix,
+    written: &[Mod],
+    n: usize,
+    groups: &mut [Mod; GROUP_ROOM],
+) -> usize
+    requires { (n ≤ 16) × (n ≤ length written.now) }
     ensures { groups_in result groups.new ≡ take group_room (located (groups_in n written.now) ++ base_oxygens Base prefix (located (groups_in n written.now))) }
 {
     let count = located_groups(written, n, groups);
@@ -216,23 +183,23 @@ fn chain_as<'a>(
     prefix: ChainPrefix,
     carbon: u16,
     unlocated: u16,
-    written_bonds: &'a [u64],
+    written_bonds: &'a [DbPos],
     bond_count: usize,
-    written_groups: &'a [u64],
+    written_groups: &'a [Mod],
     group_count: usize,
     ring_count: usize,
-    part: &mut [u64],
+    part: &mut Lists,
 ) -> Shape
-    requires { (32 ≤ length written_bonds.now) × (16 ≤ length written_groups.now) × (length part.old ≡ 77) }
-    ensures { Fits Slot (pieces prefix carbon unlocated bond_count written_bonds.now group_count written_groups.now ring_count (rings_part part.old)) (drawn_of result part.new) }
+    requires { (32 ≤ length written_bonds.now) × (16 ≤ length written_groups.now) }
+    ensures { Fits Slot (pieces prefix carbon unlocated bond_count written_bonds.now group_count written_groups.now ring_count part.old.rings) (drawn_of result part.new) }
 {
-    let bonds_written = at_most(bond_count, MAX_BONDS);
-    let groups_written = at_most(group_count, MAX_GROUPS);
-    let rings = at_most(ring_count, MAX_RINGS);
+    let bonds_written = bond_count.min(MAX_BONDS);
+    let groups_written = group_count.min(MAX_GROUPS);
+    let rings = ring_count.min(MAX_RINGS);
     let added = ether_bonds(prefix);
-    double_bonds(added, written_bonds, bonds_written, &mut part[0..33]);
-    let groups = located_groups(written_groups, groups_written, &mut part[33..51]);
-    let floats = left_groups(written_groups, groups_written, groups, &mut part[51..69]);
+    double_bonds(added, written_bonds, bonds_written, &mut part.bonds);
+    let groups = located_groups(written_groups, groups_written, &mut part.groups);
+    let floats = left_groups(written_groups, groups_written, groups, &mut part.floats);
     let first = chain_rules::first_drawn(Role::Slot);
     let acyl = chain_rules::is_acyl(Role::Slot, prefix);
     Shape {
@@ -253,22 +220,22 @@ fn base_as<'a>(
     prefix: ChainPrefix,
     carbon: u16,
     unlocated: u16,
-    written_bonds: &'a [u64],
+    written_bonds: &'a [DbPos],
     bond_count: usize,
-    written_groups: &'a [u64],
+    written_groups: &'a [Mod],
     group_count: usize,
     ring_count: usize,
-    part: &mut [u64],
+    part: &mut Lists,
 ) -> Shape
-    requires { (32 ≤ length written_bonds.now) × (16 ≤ length written_groups.now) × (length part.old ≡ 77) }
-    ensures { Fits Base (pieces prefix carbon unlocated bond_count written_bonds.now group_count written_groups.now ring_count (rings_part part.old)) (drawn_of result part.new) }
+    requires { (32 ≤ length written_bonds.now) × (16 ≤ length written_groups.now) }
+    ensures { Fits Base (pieces prefix carbon unlocated bond_count written_bonds.now group_count written_groups.now ring_count part.old.rings) (drawn_of result part.new) }
 {
-    let bonds_written = at_most(bond_count, MAX_BONDS);
-    let groups_written = at_most(group_count, MAX_GROUPS);
-    let rings = at_most(ring_count, MAX_RINGS);
-    double_bonds(0, written_bonds, bonds_written, &mut part[0..33]);
-    let groups = groups_of_base(prefix, written_groups, groups_written, &mut part[33..51]);
-    let floats = floating_groups(written_groups, groups_written, &mut part[51..69]);
+    let bonds_written = bond_count.min(MAX_BONDS);
+    let groups_written = group_count.min(MAX_GROUPS);
+    let rings = ring_count.min(MAX_RINGS);
+    double_bonds(0, written_bonds, bonds_written, &mut part.bonds);
+    let groups = groups_of_base(prefix, written_groups, groups_written, &mut part.groups);
+    let floats = floating_groups(written_groups, groups_written, &mut part.floats);
     let first = chain_rules::first_drawn(Role::Base);
     let ether_base = chain_rules::is_ether_base(Role::Base, prefix);
     Shape {
@@ -284,22 +251,22 @@ fn base_as<'a>(
     }
 }
 
-// The chain as it is drawn where it stands, its lists laid into a part whose room for rings holds the token's rings. An acyl place draws a
+// The chain as it is drawn where it stands, its lists laid into a struct whose room for rings holds the token's rings. An acyl place draws a
 // chain as a slot does.
 pub fn drawn_as<'a>(
     role: Role,
     prefix: ChainPrefix,
     carbon: u16,
     unlocated: u16,
-    written_bonds: &'a [u64],
+    written_bonds: &'a [DbPos],
     bond_count: usize,
-    written_groups: &'a [u64],
+    written_groups: &'a [Mod],
     group_count: usize,
     ring_count: usize,
-    part: &mut [u64],
+    part: &mut Lists,
 ) -> Shape
-    requires { (32 ≤ length written_bonds.now) × (16 ≤ length written_groups.now) × (length part.old ≡ 77) }
-    ensures { Fits role (pieces prefix carbon unlocated bond_count written_bonds.now group_count written_groups.now ring_count (rings_part part.old)) (drawn_of result part.new) }
+    requires { (32 ≤ length written_bonds.now) × (16 ≤ length written_groups.now) }
+    ensures { Fits role (pieces prefix carbon unlocated bond_count written_bonds.now group_count written_groups.now ring_count part.old.rings) (drawn_of result part.new) }
 {
     match role {
         Role::Slot => chain_as(

@@ -1,4 +1,4 @@
-// A chain as it is drawn in its place: its numbers by value, its lists in a part of a lent array, and how far it is drawn as it is written. The
+// A chain as it is drawn in its place: its numbers by value, its lists in a lent struct of arrays, and how far it is drawn as it is written. The
 // contracts promise the chain of `chain_rules`, for every count: one past its limit counts as the limit. Nothing is refused here.
 #![tactic(auto)]
 
@@ -8,9 +8,8 @@ pub mod reach;
 mod rooms;
 
 pub use drawable::{
-    BOND_ROOM, LIST_ROOM, MAX_CHAINS, Shape, bonds_len, groups_len, nth_bond, nth_group, nth_ring,
-    rings_len,
+    BOND_ROOM, MAX_CHAINS, Shape, bonds_len, groups_len, nth_bond, nth_group, nth_ring, rings_len,
 };
 pub use fitted::drawn_as;
 pub use reach::{drawn_count, literal_end, remaining};
-pub use rooms::{CHAIN_ROOM, bonds_part, chain_part, floats_part, groups_part, rings_part};
+pub use rooms::{Lists, NO_LISTS, chain_part};

@@ -2,23 +2,16 @@
 ghost use Rattle.std.specs.Prelude.{◌≡◌, map, max};
 ghost use Rattle.chain_rules.specs.chain.Lists.{largest};
 ghost use Rattle.chain_rules.specs.chain.Features.{prefix_end, literal_end, remaining, drawn_count};
-ghost use Rattle.drawn_chain.specs.drawable.Drawn.{bonds_in, groups_in, rings_in, groups_part, rings_part, group_pin, drawn_of, Says, SaysUpTo, DrawsSome};
+ghost use Rattle.drawn_chain.specs.drawable.Drawn.{bonds_in, groups_in, rings_in, group_pin, drawn_of, Says, SaysUpTo, DrawsSome};
 ghost use Rattle.drawn_chain.specs.reach.Reach.{bond_reach, ring_reach, Flexible};
 
+use super::drawable;
 use super::drawable::Shape;
-use super::{drawable, rooms};
-
-fn larger(a: u64, b: u64) -> u64
-    ensures { result ≡ max a b }
-{
-    if a < b {
-        return b;
-    }
-    a
-}
+use super::rooms::Lists;
+use chain_record::{DbPos, Mod, Ring};
 
 // The largest of m and the carbons at which the double bonds end.
-fn bonds_reach(bonds: &[u64], count: usize, m: u64) -> u64
+fn bonds_reach(bonds: &[DbPos], count: usize, m: u64) -> u64
     ensures { result ≡ largest m (map bond_reach (bonds_in count bonds.now)) }
 {
     let n = drawable::bonds_len(bonds, count);
@@ -26,14 +19,14 @@ fn bonds_reach(bonds: &[u64], count: usize, m: u64) -> u64
     let mut i = 0;
     while i < n {
         let bond = drawable::nth_bond(bonds, count, i);
-        reach = larger(reach, bond.pos as u64 + 1);
+        reach = reach.max(bond.pos as u64 + 1);
         i += 1;
     }
     reach
 }
 
 // The largest of m and the positions of the groups.
-fn groups_reach(groups: &[u64], count: usize, m: u64) -> u64
+fn groups_reach(groups: &[Mod], count: usize, m: u64) -> u64
     ensures { result ≡ largest m (map group_pin (groups_in count groups.now)) }
 {
     let n = drawable::groups_len(groups, count);
@@ -41,14 +34,14 @@ fn groups_reach(groups: &[u64], count: usize, m: u64) -> u64
     let mut i = 0;
     while i < n {
         let group = drawable::nth_group(groups, count, i);
-        reach = larger(reach, group.pos as u64);
+        reach = reach.max(group.pos as u64);
         i += 1;
     }
     reach
 }
 
 // The largest of m and the ends of the rings.
-fn rings_reach(rings: &[u64], count: usize, m: u64) -> u64
+fn rings_reach(rings: &[Ring], count: usize, m: u64) -> u64
     ensures { result ≡ largest m (map ring_reach (rings_in count rings.now)) }
 {
     let n = drawable::rings_len(rings, count);
@@ -56,41 +49,21 @@ fn rings_reach(rings: &[u64], count: usize, m: u64) -> u64
     let mut i = 0;
     while i < n {
         let ring = drawable::nth_ring(rings, count, i);
-        reach = larger(reach, ring.end as u64);
+        reach = reach.max(ring.end as u64);
         i += 1;
     }
     reach
 }
 
-// The same of the groups of a chain. Most chains have none: then their room is not looked for.
-fn located_reach(part: &[u64], count: usize, m: u64) -> u64
-    ensures { result ≡ largest m (map group_pin (groups_in count (groups_part part.now))) }
-{
-    if count == 0 {
-        return m;
-    }
-    groups_reach(rooms::groups_part(part), count, m)
-}
-
-// The same of its rings.
-fn closed_reach(part: &[u64], count: usize, m: u64) -> u64
-    ensures { result ≡ largest m (map ring_reach (rings_in count (rings_part part.now))) }
-{
-    if count == 0 {
-        return m;
-    }
-    rings_reach(rooms::rings_part(part), count, m)
-}
-
 // The last carbon of the literal prefix.
-fn prefix_end(x: Shape, part: &[u64]) -> u16
+fn prefix_end(x: Shape, part: &Lists) -> u16
     ensures { SaysUpTo (drawn_of x part.now) result prefix_end }
 {
     let first = x.first as u64;
     let carbon = x.carbon;
-    let bonds = bonds_reach(rooms::bonds_part(part), x.bond_count, first);
-    let groups = located_reach(part, x.group_count, bonds);
-    let reach = closed_reach(part, x.ring_count, groups);
+    let bonds = bonds_reach(&part.bonds, x.bond_count, first);
+    let groups = groups_reach(&part.groups, x.group_count, bonds);
+    let reach = rings_reach(&part.rings, x.ring_count, groups);
     if reach < carbon as u64 {
         return reach as u16;
     }
@@ -98,7 +71,7 @@ fn prefix_end(x: Shape, part: &[u64]) -> u16
 }
 
 // R, the carbons that remain after the literal prefix.
-pub fn remaining(x: Shape, part: &[u64]) -> u16
+pub fn remaining(x: Shape, part: &Lists) -> u16
     requires { DrawsSome (drawn_of x part.now) }
     ensures { Says (drawn_of x part.now) result remaining }
 {
@@ -107,7 +80,7 @@ pub fn remaining(x: Shape, part: &[u64]) -> u16
 }
 
 // The last literal carbon: c where every double bond is located.
-pub fn literal_end(x: Shape, part: &[u64]) -> u16
+pub fn literal_end(x: Shape, part: &Lists) -> u16
     requires { DrawsSome (drawn_of x part.now) }
     ensures { SaysUpTo (drawn_of x part.now) result literal_end }
 {
@@ -128,7 +101,7 @@ fn flexible_count(unlocated: u16) -> u32
 }
 
 // How many carbons are drawn.
-pub fn drawn_count(x: Shape, part: &[u64]) -> u32
+pub fn drawn_count(x: Shape, part: &Lists) -> u32
     requires { DrawsSome (drawn_of x part.now) }
     ensures { Says (drawn_of x part.now) result drawn_count }
 {

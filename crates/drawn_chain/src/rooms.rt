@@ -1,62 +1,31 @@
-// The rooms of the lists of a chain in its part of a lent array, and the part of a chain among those of a request. Every function is defined for
-// every slice: past its end nothing stands.
-ghost use Rattle.std.specs.Prelude.{◌≡◌, ◌-◌, ◌≤◌, take, drop};
-ghost use Rattle.drawn_chain.specs.rooms.Ranges.{bonds_part, groups_part, floats_part, rings_part, part_of};
+// The lists of a chain, each in an array of its own, and the lists of a chain among those of a request.
+ghost use Rattle.std.specs.Prelude.{◌≡◌, MatchOption};
+ghost use Rattle.drawn_chain.specs.rooms.Ranges.{part_of};
 
-// Room for the lists of a chain: of its 77 numbers the first 33 are for its double bonds, 18 for its groups with a position, 18 for those
-// without, and 8 for its rings.
-pub const CHAIN_ROOM: usize = 77;
+use super::drawable::{BOND_ROOM, NO_BOND, NO_GROUP, NO_RING};
+use chain_record::{DbPos, GROUP_ROOM, MAX_RINGS, Mod, Ring};
 
-// The numbers from a place up to another, as far as there are any.
-fn between(xs: &[u64], from: usize, to: usize) -> &[u64]
-    requires { from ≤ to }
-    ensures { result.now ≡ take (to - from) (drop from xs.now) }
-{
-    let n = xs.len();
-    if to <= n {
-        return &xs[from..to];
-    }
-    if from <= n {
-        return &xs[from..n];
-    }
-    &xs[0..0]
+// The lists of a chain, each with its room: its located double bonds, its groups with a position, those without one, and its rings. How many of
+// each count is said by its `Shape`.
+#[derive(Clone, Copy)]
+pub struct Lists {
+    pub bonds: [DbPos; BOND_ROOM],
+    pub groups: [Mod; GROUP_ROOM],
+    pub floats: [Mod; GROUP_ROOM],
+    pub rings: [Ring; MAX_RINGS],
 }
 
-// The room of the double bonds in the part of a chain.
-pub fn bonds_part(part: &[u64]) -> &[u64]
-    ensures { result.now ≡ bonds_part part.now }
-{
-    between(part, 0, 33)
-}
+// Lists in which nothing stands yet.
+pub const NO_LISTS: Lists = Lists {
+    bonds: [NO_BOND; BOND_ROOM],
+    groups: [NO_GROUP; GROUP_ROOM],
+    floats: [NO_GROUP; GROUP_ROOM],
+    rings: [NO_RING; MAX_RINGS],
+};
 
-// That of the groups with a position.
-pub fn groups_part(part: &[u64]) -> &[u64]
-    ensures { result.now ≡ groups_part part.now }
+// The lists of the chain with an sn, if it has any.
+pub fn chain_part(lists: &[Lists], sn: u8) -> Option<&Lists>
+    ensures { MatchOption result (part_of sn lists.now ≡ NO_LISTS) (λ p. p.now ≡ part_of sn lists.now) }
 {
-    between(part, 33, 51)
-}
-
-// That of the groups without one.
-pub fn floats_part(part: &[u64]) -> &[u64]
-    ensures { result.now ≡ floats_part part.now }
-{
-    between(part, 51, 69)
-}
-
-// That of the rings.
-pub fn rings_part(part: &[u64]) -> &[u64]
-    ensures { result.now ≡ rings_part part.now }
-{
-    between(part, 69, 77)
-}
-
-// The part of the chain with an sn among the lists of a request.
-pub fn chain_part(lists: &[u64], sn: u8) -> &[u64]
-    ensures { result.now ≡ part_of sn lists.now }
-{
-    if sn == 0 {
-        return between(lists, 0, CHAIN_ROOM);
-    }
-    let from = CHAIN_ROOM * ((sn - 1) as usize);
-    between(lists, from, from + CHAIN_ROOM)
+    lists.get(sn.saturating_sub(1) as usize)
 }

@@ -12,8 +12,9 @@ ghost use Rattle.placement.specs.chain_strand.Strand.{head_count, Indexed, rooms
 
 use carbons::CARBON_ROOM;
 use chain_indices::ChainAtoms;
+use chain_record::Mod;
 use chain_rules::Role;
-use drawn_chain::Shape;
+use drawn_chain::{Lists, Shape};
 use writer::FIRST_ROOM;
 
 // A chain that is laid down: the places after its text, its indices and its rows; how many indices it has; and, counted from its first atom, the
@@ -65,7 +66,7 @@ fn put_indices<'a>(
     role: Role,
     first: u32,
     x: Shape,
-    part: &'a [u64],
+    part: &'a Lists,
     from: u16,
     last: u16,
     bonds: &'a [u8],
@@ -91,7 +92,7 @@ fn put_laden(
     used: usize,
     row: usize,
     x: Shape,
-    part: &[u64],
+    part: &Lists,
     role: Role,
     first: u32,
     label: u8,
@@ -124,7 +125,7 @@ fn put_laden(
 const SHORT_ROOM: usize = 96;
 
 // Whether the groups sit on the carbons from the first drawn one to the last, none before the one named before it.
-fn groups_rise(groups: &[u64], count: usize, first: u16, carbon: u16) -> bool
+fn groups_rise(groups: &[Mod], count: usize, first: u16, carbon: u16) -> bool
     ensures { result ≡ true → Rising first carbon (groups_in count groups.now) }
 {
     let n = drawn_chain::groups_len(groups, count);
@@ -147,7 +148,7 @@ fn groups_rise(groups: &[u64], count: usize, first: u16, carbon: u16) -> bool
 
 // Whether a chain is short and carries nothing but double bonds and groups that all have a position, the groups in the order of their carbons,
 // and, if it is acyl, the O of its C1: as nearly every chain without rings whose name is whole.
-fn is_grouped(x: Shape, part: &[u64]) -> bool
+fn is_grouped(x: Shape, part: &Lists) -> bool
     ensures { result ≡ true → GroupedShape x part.now }
 {
     if x.ring_count != 0 {
@@ -168,12 +169,7 @@ fn is_grouped(x: Shape, part: &[u64]) -> bool
     if x.carbon as usize >= SHORT_ROOM {
         return false;
     }
-    groups_rise(
-        drawn_chain::groups_part(part),
-        x.group_count,
-        x.first,
-        x.carbon,
-    )
+    groups_rise(&part.groups, x.group_count, x.first, x.carbon)
 }
 
 // Room for the first carbon with its O, and for 18 groups of at most 14 bytes.
@@ -209,7 +205,7 @@ fn grouped_indices<'a>(
     role: Role,
     first: u32,
     x: Shape,
-    part: &'a [u64],
+    part: &'a Lists,
     bonds: &'a [u8],
 ) -> ChainAtoms
     requires draws_few { DrawsFew (drawn_of x part.now) }
@@ -235,7 +231,7 @@ fn put_grouped(
     used: usize,
     row: usize,
     x: Shape,
-    part: &[u64],
+    part: &Lists,
     role: Role,
     first: u32,
 ) -> Strand
@@ -267,7 +263,7 @@ fn bare_indices(
     role: Role,
     first: u32,
     x: Shape,
-    part: &[u64],
+    part: &Lists,
 ) -> ChainAtoms
     requires draws_few { DrawsFew (drawn_of x part.now) }
     requires grouped { Grouped (drawn_of x part.now) }
@@ -291,7 +287,7 @@ fn put_bare(
     used: usize,
     row: usize,
     x: Shape,
-    part: &[u64],
+    part: &Lists,
     role: Role,
     first: u32,
 ) -> Strand
@@ -324,7 +320,7 @@ pub fn put_strand(
     used: usize,
     row: usize,
     x: Shape,
-    part: &[u64],
+    part: &Lists,
     role: Role,
     first: u32,
     label: u8,

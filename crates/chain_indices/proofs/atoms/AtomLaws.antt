@@ -18,8 +18,7 @@ use Rattle.reading_rules.specs.reading.Part.{Part}
 use Rattle.reading_rules.specs.reading.Chain.{Carbon, parts_end, bridge_end, carbon_end, chain_end, float_end}
 use Rattle.chain_rules.specs.chain.Lists.{only, values_from}
 use Rattle.chain_rules.specs.chain.Drawing.{branch_part, branches}
-use Rattle.drawn_chain.proofs.drawable.Parts.{floats-few}
-use Rattle.drawn_chain.specs.drawable.Drawn.{Drawn, floats_part, groups_drawn, rings_drawn}
+use Rattle.drawn_chain.specs.drawable.Drawn.{Drawn, groups_drawn, rings_drawn}
 use Rattle.chain_text.specs.fragment.Text.{sitting, carbonyl_of, carbon_of}
 use Rattle.carbons.specs.ByCarbon.{group_on, ring_on, carbonyl_on, busy_at, group_atoms, load_at, Busy}
 use Rattle.writer.specs.index_runs.Index.{index_from, indices}
@@ -153,10 +152,6 @@ literal-few : (x : Drawn) (t : ChainTokens) → TokensOf x t → length (literal
 unfolding literal_of
 literal-few x t w =
     omega (arith, w.first, w.room, length-values (carbon_of x.acyl t.bonds (groups_drawn x)) t.first (suc t.last - t.first))
-
--- groups that stand in the part of a chain
-pub floats-short : {gs : List ℕ} (l : List ℕ) → gs ≡ floats_part l → length gs ≤ 18
-floats-short l e = rw e (floats-few l)
 
 -- of the carbons cs, the indices of `count` are written, and `rest` are left, the first of them atom `next`
 pub record Numbering (first : ℕ) (cs : List Carbon) (xs : List ℕ) (at : ℕ) (ys : List ℕ) (p count next : ℕ) (rest : List Carbon) : Type 0 where

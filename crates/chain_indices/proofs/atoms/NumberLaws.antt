@@ -17,7 +17,7 @@ use Rattle.chain_rules.specs.chain.Features.{first_drawn, literal_end, flexible_
 use Rattle.chain_rules.specs.chain.Bonds.{bond_at, mark_of}
 use Rattle.chain_rules.specs.chain.Drawing.{branch_part, branches, bare, pairs, flexible, literal, carbons, floats, carbon_atoms, flexible_atom, atoms_end}
 use Rattle.drawn_chain.specs.declared.drawable.Shape.{Shape}
-use Rattle.drawn_chain.specs.drawable.Drawn.{Drawn, groups_in, floats_part, drawn_of, Length, no_group, floats_drawn, Draws}
+use Rattle.drawn_chain.specs.drawable.Drawn.{Drawn, Length, no_group, floats_drawn, Draws}
 use Rattle.chain_indices.specs.declared.atoms.Numbers.{Numbers}
 use Rattle.carbons.specs.Tokens.{ChainTokens, TokensOf}
 use Rattle.chain_text.specs.fragment.Segment.{Readable}
@@ -119,20 +119,6 @@ module _ {room n first end : ℕ} {gs : List Mod} (i : ℕ) (s : Length room gs 
         few = omega (arith, v.few, s.fits);
       }
 
-none-floats : (l : List ℕ) → groups_in 0 l ≡ []
-unfolding groups_in
-none-floats [] = refl
-none-floats (n ∷ l) = refl
-
-module _ (l : List ℕ) (n first : ℕ) where
-  pub loose_none : n ≡ 0 → Counts (first + 108) (float_end first (branches (groups_in n (floats_part l)))) first
-  unfolding branches float_end
-  loose_none e = record { is = rw (e, none-floats (floats_part l)); few = omega arith }
-
-  pub loose-some : {fs : List ℕ} {m : ℕ} → fs ≡ floats_part l → Counts (first + 108) (float_end first (branches (groups_in n fs))) m
-      → Counts (first + 108) (float_end first (branches (groups_in n (floats_part l)))) m
-  loose-some e c = rw e at c
-
 -- ---- the atoms of the drawing
 
 starts-values : (f n : ℕ) (cs : List Carbon) → values_from (atom_of f n cs) f (length cs) ≡ starts n cs
@@ -204,12 +190,12 @@ module _ (r : Role) (d : read.Chain) (x : Drawn) (t : ChainTokens) (w : Draws r 
       = tail-after (literal_of x t) (mark_of (bond_at r d (literal_end r d))) x.unlocated g n v (fits l n h) in
       rw (literal-same, w.unlocated) at q
 
-pub all-numbered : {first : ℕ} {xs ys zs : List ℕ} {at : ℕ} (x : Drawn) (t : ChainTokens) (l a : Numbers) (e : ℕ) → length xs < 2 ^ 64 → TokensOf x t
+pub chain-numbered : {first : ℕ} {xs ys zs : List ℕ} {at : ℕ} (x : Drawn) (t : ChainTokens) (l a : Numbers) (e : ℕ) → length xs < 2 ^ 64 → TokensOf x t
     → LiteralNumbers first x t xs at ys l → TailNumbers first x.unlocated ys l zs a
     → Counts (a.next + 108) (float_end a.next (branches (floats_drawn x))) e
     → AtomsOf first x xs at zs (record { at = a.at; count = a.count; flexible = l.next; floats = a.next; end = e })
 unfolding flexible_atom atoms_end floats
-all-numbered {first} {xs} {ys} {zs} {at} x t l a e g k u v c =
+chain-numbered {first} {xs} {ys} {zs} {at} x t l a e g k u v c =
     record {
       are =
           λ r d w s h.
@@ -229,13 +215,6 @@ all-numbered {first} {xs} {ys} {zs} {at} x t l a e g k u v c =
       few = omega (arith, c.few, v.next, v.count, u.few, u.room);
     }
 
--- where the floating groups stand in the part of a chain
-pub chain-numbered : {first : ℕ} {xs ys zs : List ℕ} {at : ℕ} (x : Shape) (part : List ℕ) (t : ChainTokens) (l a : Numbers) (e : ℕ) → length xs < 2 ^ 64
-    → TokensOf (drawn_of x part) t → LiteralNumbers first (drawn_of x part) t xs at ys l → TailNumbers first x.unlocated ys l zs a
-    → Counts (a.next + 108) (float_end a.next (branches (groups_in x.float_count (floats_part part)))) e
-    → AtomsOf first (drawn_of x part) xs at zs (record { at = a.at; count = a.count; flexible = l.next; floats = a.next; end = e })
-chain-numbered x part t l a e g k u v c = all-numbered (drawn_of x part) t l a e g k u v c
-
 -- ---- a chain of literal carbons alone
 
 no_floats : (x : Drawn) (n : ℕ) → floats_drawn x ≡ [] → Counts (n + 108) (float_end n (branches (floats_drawn x))) n
@@ -248,4 +227,4 @@ pub literal-alone : {first : ℕ} {xs ys : List ℕ} {at : ℕ} (x : Drawn) (t :
 literal-alone {first} {xs} {ys} {at} x t p count next g o k u f w m n room few =
     let l : Numbers = record { at = p; count = count; next = next } in
     let v : LiteralNumbers first x t xs at ys l = record { numbered = record { written = w; count = m; next = n }; room = room; few = few } in
-    all-numbered x t l l next g k v (tail-empty first x.unlocated ys l u o room) (no_floats x next f)
+    chain-numbered x t l l next g k v (tail-empty first x.unlocated ys l u o room) (no_floats x next f)

@@ -9,6 +9,7 @@ use Rattle.writer.specs.emit.Text.{Written}
 use Rattle.writer.proofs.emit.Laws.{written-nil}
 use Rattle.reading_rules.specs.reading.Chain.{parts_end}
 use Rattle.drawn_chain.specs.declared.drawable.Shape.{Shape}
+use Rattle.drawn_chain.specs.declared.rooms.Lists.{Lists}
 use Rattle.drawn_chain.specs.drawable.Drawn.{Drawn, groups_drawn, drawn_of}
 use Rattle.chain_text.specs.fragment.Text.{carbonyl_of}
 use Rattle.carbons.specs.Tokens.{Grouped}
@@ -33,7 +34,7 @@ no-groups next k xs at h =
       few = omega arith;
     }
 
-pub bare-numbered : {xs ys ws : List ℕ} {lead at p q : ℕ} (x : Shape) (part : List ℕ) (first : ℕ) → Grouped (drawn_of x part) → (x.bond_count ≡ 0) × (x.group_count ≡ 0)
+pub bare-numbered : {xs ys ws : List ℕ} {lead at p q : ℕ} (x : Shape) (part : Lists) (first : ℕ) → Grouped (drawn_of x part) → (x.bond_count ≡ 0) × (x.group_count ≡ 0)
     → Counts 1 (parts_end 0 (carbonyl_of x.acyl x.first)) lead → (at + x.carbon ≤ length xs) × (first < 40000) → length xs < 2 ^ 64 → Written xs at (first ∷ []) ys p
     → Written ys p (ups (first + 1 + lead) (x.carbon - x.first)) ws q → q < 2 ^ 64
     → AtomsOf first (drawn_of x part) xs at ws
@@ -46,4 +47,4 @@ bare-numbered {ys = ys} {ws} {lead} {p = p} {q} x part first e none c room l w u
     let m : first + 1 + lead + (x.carbon - x.first) - first ≡ 1 + lead + (x.carbon - x.first) = omega arith in
     let v : GroupsNumbered (first + 1 + lead) (x.first + 1) (groups_drawn d) ys p ys r = rw (bare-groups d none.1) (no-groups (first + 1 + lead) (x.first + 1) ys p (omega (arith, w.next))) in
     let rest : Written ys p (ups (first + 1 + lead) (x.carbon + 1 - (x.first + 1))) ws q = rw n u in
-    rw (n, m) at (grouped-numbered x part first e c refl room.0 room.1 l w r v t.by rest o)
+    rw (n, m) at (grouped-numbered x part first e c room.0 room.1 l w r v t.by rest o)

@@ -14,7 +14,8 @@ use Rattle.reading_rules.specs.reading.Chain.{Carbon, parts_end, bridge_end, car
 use Rattle.chain_rules.specs.chain.Lists.{values_from}
 use Rattle.chain_rules.specs.chain.Drawing.{branch_part, branches}
 use Rattle.drawn_chain.specs.declared.drawable.Shape.{Shape}
-use Rattle.drawn_chain.specs.drawable.Drawn.{Drawn, groups_in, groups_part, drawn_of, bonds_drawn, groups_drawn, rings_drawn}
+use Rattle.drawn_chain.specs.declared.rooms.Lists.{Lists}
+use Rattle.drawn_chain.specs.drawable.Drawn.{Drawn, drawn_of, bonds_drawn, groups_drawn, rings_drawn}
 use Rattle.chain_text.specs.fragment.Text.{sitting, carbonyl_of, carbon_of}
 use Rattle.carbons.specs.ByCarbon.{BondsBy}
 use Rattle.carbons.specs.Tokens.{tokens, Rising, Grouped}
@@ -125,21 +126,21 @@ module _ (x : Drawn) (bs : List ℕ) (e : Grouped x) (b : BondsBy (bonds_drawn x
 
 -- ---- where its numbers stay
 
-pub chain-some : (x : Shape) (part : List ℕ) → Grouped (drawn_of x part) → x.first ≤ x.carbon
+pub chain-some : (x : Shape) (part : Lists) → Grouped (drawn_of x part) → x.first ≤ x.carbon
 chain-some x part e = e.some
 
-pub chain-room : (x : Shape) (part : List ℕ) → Grouped (drawn_of x part) → x.carbon ≤ 255
+pub chain-room : (x : Shape) (part : Lists) → Grouped (drawn_of x part) → x.carbon ≤ 255
 chain-room x part e = e.room
 
-module _ (x : Shape) (part : List ℕ) {gs xs ys : List ℕ} {lead at p : ℕ} (first : ℕ) (e : Grouped (drawn_of x part)) (c : Counts 1 (parts_end 0 (carbonyl_of x.acyl x.first)) lead)
-    (g : gs ≡ groups_part part) (h : at + x.carbon ≤ length xs) (s : first < 40000) (l : length xs < 2 ^ 64) (w : Written xs at (first ∷ []) ys p) where
+module _ (x : Shape) (part : Lists) {xs ys : List ℕ} {lead at p : ℕ} (first : ℕ) (e : Grouped (drawn_of x part)) (c : Counts 1 (parts_end 0 (carbonyl_of x.acyl x.first)) lead)
+    (h : at + x.carbon ≤ length xs) (s : first < 40000) (l : length xs < 2 ^ 64) (w : Written xs at (first ∷ []) ys p) where
   one_on : p ≡ at + 1
   one_on = omega (arith, w.next, e.first, e.some)
 
-  pub groups-fit : Fits (length ys) p (first + 1 + lead) (x.first + 1) (groups_in x.group_count gs)
+  pub groups-fit : Fits (length ys) p (first + 1 + lead) (x.first + 1) (groups_drawn (drawn_of x part))
   groups-fit =
       let z : x.first + 1 - 1 ≡ x.first = omega arith in
-      rw g (record {
+      record {
         last = x.carbon;
         rising = rw z e.groups;
         some = omega arith;
@@ -147,17 +148,17 @@ module _ (x : Shape) (part : List ℕ) {gs xs ys : List ℕ} {lead at p : ℕ} (
         reach = omega (arith, e.some);
         fits = omega (arith, one_on, written-length w, e.first, e.some);
         small = omega (arith, c.few, e.room, e.few);
-      })
+      }
 
-  module _ {zs : List ℕ} (r : Reached) (v : GroupsNumbered (first + 1 + lead) (x.first + 1) (groups_in x.group_count gs) ys p zs r) where
-    few-groups : length (groups_in x.group_count gs) ≤ 18
-    few-groups = rw g e.few
+  module _ {zs : List ℕ} (r : Reached) (v : GroupsNumbered (first + 1 + lead) (x.first + 1) (groups_drawn (drawn_of x part)) ys p zs r) where
+    few-groups : length (groups_drawn (drawn_of x part)) ≤ 18
+    few-groups = e.few
 
     pub carbon-within : r.carbon ≤ x.carbon + 1
     carbon-within =
         let z : x.first + 1 - 1 ≡ x.first = omega arith in
-        let y : Rising (x.first + 1 - 1) x.carbon (groups_in x.group_count gs) = rw (g, z) e.groups in
-        omega (arith, v.carbon, carbon-last (x.first + 1) x.carbon (groups_in x.group_count gs) y (omega (arith, e.some)))
+        let y : Rising (x.first + 1 - 1) x.carbon (groups_drawn (drawn_of x part)) = rw z e.groups in
+        omega (arith, v.carbon, carbon-last (x.first + 1) x.carbon (groups_drawn (drawn_of x part)) y (omega (arith, e.some)))
 
     pub rest-room : r.at + (x.carbon + 1 - r.carbon) ≤ length zs
     rest-room = omega (arith, carbon-within, v.place, v.order, one_on, written-length w, written-length v.written, e.first)
@@ -166,7 +167,7 @@ module _ (x : Shape) (part : List ℕ) {gs xs ys : List ℕ} {lead at p : ℕ} (
     rest-small = omega (arith, carbon-within, v.few, v.order, few-groups, c.few, e.room)
 
     pub rest-grows : first ≤ r.next + (x.carbon + 1 - r.carbon)
-    rest-grows = omega (arith, v.atom, end-grows (first + 1 + lead) (x.first + 1) (groups_in x.group_count gs))
+    rest-grows = omega (arith, v.atom, end-grows (first + 1 + lead) (x.first + 1) (groups_drawn (drawn_of x part)))
 
     -- ---- its numbers are those of the drawing
 
@@ -176,7 +177,7 @@ module _ (x : Shape) (part : List ℕ) {gs xs ys : List ℕ} {lead at p : ℕ} (
       again =
           let z : first + 1 + lead ≡ first + (1 + lead) = omega arith in
           let y : x.first + 1 ≡ suc x.first = omega arith in
-          rw (g, z, y) at v
+          rw (z, y) at v
 
       all_end : first + total (drawn_of x part) bs e b lead c ≡ r.next + (x.carbon + 1 - r.carbon)
       unfolding total

@@ -24,7 +24,8 @@ use Rattle.chain_rules.specs.chain.Lists.{only}
 use Rattle.chain_rules.specs.chain.Drawing.{or_none, branch_part, branches}
 use Rattle.chain_pieces.specs.branches.Text.{branch_text, group_text, sitting, groups_text, float_text, floats_text, carbonyl_of, carbonyl_text, rows_in, RowsPut}
 use Rattle.drawn_chain.specs.declared.drawable.Shape.{Shape}
-use Rattle.drawn_chain.specs.drawable.Drawn.{groups_in, Length, no_group, floats_part, drawn_of}
+use Rattle.drawn_chain.specs.declared.rooms.Lists.{Lists}
+use Rattle.drawn_chain.specs.drawable.Drawn.{Length, no_group, floats_drawn, drawn_of}
 use Rattle.carbons.specs.Tokens.{Rising}
 use Rattle.carbons.proofs.Fronts.{next_of, none_left}
 use Rattle.carbons.proofs.Loads.{past}
@@ -175,27 +176,9 @@ module _ {xs ys ts : List ℕ} {at p room n : ℕ} {gs : List Mod} (i : ℕ) (s 
   unfolding rows_in
   rows_end t = left-none v (ap rows_in (none_left s i t))
 
--- those of the floating groups, which stand in the part of a chain
-pub rows-put : {xs ys fs : List ℕ} {at p : ℕ} (x : Shape) (l : List ℕ) → fs ≡ floats_part l → Written xs at (rows_in (groups_in x.float_count fs)) ys p
-    → RowsPut (drawn_of x l) xs at ys p
-rows-put x l e w = record { rows = λ ρ d k. rw (e, ap rows_in k.floats) at w; size = written-length w }
-
-none-floats : (l : List ℕ) → groups_in 0 l ≡ []
-unfolding groups_in
-none-floats [] = refl
-none-floats (n ∷ l) = refl
-
-pub rows_none : (x : Shape) (l xs : List ℕ) (at : ℕ) → at < 2 ^ 64 → x.float_count ≡ 0 → RowsPut (drawn_of x l) xs at xs at
-unfolding rows_in
-rows_none x l xs at h e = rows-put x l refl (rw (e, none-floats (floats_part l)) (written-nil xs at h))
-
--- what is written of groups that a chain does not have
-pub loose_none : (l xs : List ℕ) (at n : ℕ) → at < 2 ^ 64 → n ≡ 0 → Written xs at (floats_text (groups_in n (floats_part l))) xs at
-unfolding floats_text branches float_pieces show
-loose_none l xs at n h e = rw (e, none-floats (floats_part l)) (written-nil xs at h)
-
-pub floats-there : {xs ys fs : List ℕ} {at p : ℕ} (l : List ℕ) (n : ℕ) → fs ≡ floats_part l → Written xs at (floats_text (groups_in n fs)) ys p → Written xs at (floats_text (groups_in n (floats_part l))) ys p
-floats-there l n e w = rw e at w
+-- those of the floating groups
+pub rows-put : {xs ys : List ℕ} {at p : ℕ} (x : Shape) (l : Lists) → Written xs at (rows_in (floats_drawn (drawn_of x l))) ys p → RowsPut (drawn_of x l) xs at ys p
+rows-put x l w = record { rows = λ ρ d k. rw (ap rows_in k.floats) at w; size = written-length w }
 
 -- ---- the carbonyl
 

@@ -14,7 +14,7 @@ use Rattle.chain_record.specs.plain.Chain.{Chain}
 use Rattle.chain_rules.specs.declared.chain.Role.{Role}
 use Rattle.chain_rules.specs.chain.Lists.{any_of, any_two}
 use Rattle.chain_rules.specs.chain.Refusals.{same_bond, epoxide_on, small_ring, same_ring, clashes}
-use Rattle.drawn_chain.specs.drawable.Drawn.{Drawn, bonds_in, rings_in, bonds_drawn, rings_drawn, Draws, Says}
+use Rattle.drawn_chain.specs.drawable.Drawn.{Drawn, bonds_drawn, rings_drawn, Draws, Says}
 use Rattle.chain_refusals.specs.clash.Places.{bond_at}
 use Rattle.drawn_chain.proofs.drawable.Lists.{any_same, eqb_swap}
 
@@ -56,7 +56,6 @@ on-carbocycle x l e = rw e
 
 -- ---- the whole chain
 
--- its lists are lent as bs and rs
 module _ (x : Drawn) where
   pub clashes-as : (r : Role) (d : Chain) → Draws r d x
       → clashes r d
@@ -65,26 +64,26 @@ module _ (x : Drawn) where
   unfolding clashes
   clashes-as r d w = rw (w.bonds, w.rings)
 
-  module _ (bs : List ℕ) (p₁ : bs ≡ x.bonds) (t₁ : Bool) (e₁ : t₁ ≡ any_two same_bond (bonds_in x.bond_count bs)) where
+  module _ (t₁ : Bool) (e₁ : t₁ ≡ any_two same_bond (bonds_drawn x)) where
     as₁ : any_two same_bond (bonds_drawn x) ≡ t₁
-    as₁ = rw (← p₁) (sym e₁)
+    as₁ = sym e₁
 
     pub clash-bonds : t₁ ≡ true → Says x true clashes
     clash-bonds f₁ = record { is = λ r d w. sym (clashes-as r d w ∙ rw (as₁ ∙ f₁)) }
 
-    module _ (f₁ : t₁ ≡ false) (rs : List ℕ) (p₂ : rs ≡ x.rings) (t₂ : Bool) (e₂ : t₂ ≡ any_of (epoxide_on (bonds_in x.bond_count bs)) (rings_in x.ring_count rs)) where
+    module _ (f₁ : t₁ ≡ false) (t₂ : Bool) (e₂ : t₂ ≡ any_of (epoxide_on (bonds_drawn x)) (rings_drawn x)) where
       as₂ : any_of (epoxide_on (bonds_drawn x)) (rings_drawn x) ≡ t₂
-      as₂ = rw (← p₁, ← p₂) (sym e₂)
+      as₂ = sym e₂
 
       pub clash-epoxide : t₂ ≡ true → Says x true clashes
       clash-epoxide f₂ = record { is = λ r d w. sym (clashes-as r d w ∙ rw (as₁ ∙ f₁, as₂ ∙ f₂)) }
 
-      module _ (f₂ : t₂ ≡ false) (t₃ : Bool) (e₃ : t₃ ≡ any_of small_ring (rings_in x.ring_count rs)) where
+      module _ (f₂ : t₂ ≡ false) (t₃ : Bool) (e₃ : t₃ ≡ any_of small_ring (rings_drawn x)) where
         as₃ : any_of small_ring (rings_drawn x) ≡ t₃
-        as₃ = rw (← p₂) (sym e₃)
+        as₃ = sym e₃
 
         pub clash-small : t₃ ≡ true → Says x true clashes
         clash-small f₃ = record { is = λ r d w. sym (clashes-as r d w ∙ rw (as₁ ∙ f₁, as₂ ∙ f₂, as₃ ∙ f₃)) }
 
-        pub clash-rings : (t₄ : Bool) → t₃ ≡ false → t₄ ≡ any_two same_ring (rings_in x.ring_count rs) → Says x t₄ clashes
-        clash-rings t₄ f₃ e₄ = record { is = λ r d w. sym (clashes-as r d w ∙ rw (as₁ ∙ f₁, as₂ ∙ f₂, as₃ ∙ f₃, ← p₂) (sym e₄)) }
+        pub clash-rings : (t₄ : Bool) → t₃ ≡ false → t₄ ≡ any_two same_ring (rings_drawn x) → Says x t₄ clashes
+        clash-rings t₄ f₃ e₄ = record { is = λ r d w. sym (clashes-as r d w ∙ rw (as₁ ∙ f₁, as₂ ∙ f₂, as₃ ∙ f₃) (sym e₄)) }

@@ -16,7 +16,7 @@ use Rattle.chain_rules.specs.declared.chain.Role.{Role}
 use Rattle.chain_rules.specs.chain.Lists.{any_of, only, is_empty}
 use Rattle.chain_rules.specs.chain.Features.{located, unlocated, base_oxygens, groups_on, floating}
 use Rattle.chain_rules.specs.chain.Refusals.{double_off, group_off, ring_off, off_chain}
-use Rattle.drawn_chain.specs.drawable.Drawn.{Drawn, bonds_in, groups_in, rings_in, bonds_drawn, groups_drawn, floats_drawn, rings_drawn, Length, Draws, Says}
+use Rattle.drawn_chain.specs.drawable.Drawn.{Drawn, bonds_drawn, groups_drawn, floats_drawn, rings_drawn, Length, Draws, Says}
 
 -- ---- one feature
 
@@ -100,23 +100,23 @@ module _ (x : Drawn) where
   unfolding off_chain
   off-as r d w = rw (w.first, w.carbon, w.acyl, w.ether, w.bonds, w.groups, w.rings)
 
-  module _ (bs : List ℕ) (p₁ : bs ≡ x.bonds) (t₁ : Bool) (e₁ : t₁ ≡ any_of (double_off x.first x.carbon) (bonds_in x.bond_count bs)) where
+  module _ (t₁ : Bool) (e₁ : t₁ ≡ any_of (double_off x.first x.carbon) (bonds_drawn x)) where
     as₁ : any_of (double_off x.first x.carbon) (bonds_drawn x) ≡ t₁
-    as₁ = rw (← p₁) (sym e₁)
+    as₁ = sym e₁
 
     pub off-bond : t₁ ≡ true → Says x true off_chain
     off-bond f₁ = record { is = λ r d w. sym (off-as r d w ∙ rw (as₁ ∙ f₁)) }
 
-    module _ (f₁ : t₁ ≡ false) (gs : List ℕ) (p₂ : gs ≡ x.groups) (t₂ : Bool) (e₂ : t₂ ≡ any_of (group_off x.first x.carbon) (groups_in x.group_count gs)) where
+    module _ (f₁ : t₁ ≡ false) (t₂ : Bool) (e₂ : t₂ ≡ any_of (group_off x.first x.carbon) (groups_drawn x)) where
       as₂ : any_of (group_off x.first x.carbon) (groups_drawn x) ≡ t₂
-      as₂ = rw (← p₂) (sym e₂)
+      as₂ = sym e₂
 
       pub off-group : t₂ ≡ true → Says x true off_chain
       off-group f₂ = record { is = λ r d w. sym (off-as r d w ∙ rw (as₁ ∙ f₁, as₂ ∙ f₂)) }
 
-      module _ (f₂ : t₂ ≡ false) (rs : List ℕ) (p₃ : rs ≡ x.rings) (t₃ : Bool) (e₃ : t₃ ≡ any_of (ring_off x.first x.acyl) (rings_in x.ring_count rs)) where
+      module _ (f₂ : t₂ ≡ false) (t₃ : Bool) (e₃ : t₃ ≡ any_of (ring_off x.first x.acyl) (rings_drawn x)) where
         as₃ : any_of (ring_off x.first x.acyl) (rings_drawn x) ≡ t₃
-        as₃ = rw (← p₃) (sym e₃)
+        as₃ = sym e₃
 
         pub off-ring : t₃ ≡ true → Says x true off_chain
         off-ring f₃ = record { is = λ r d w. sym (off-as r d w ∙ rw (as₁ ∙ f₁, as₂ ∙ f₂, as₃ ∙ f₃)) }
@@ -135,9 +135,9 @@ module _ (x : Drawn) where
                 off-as r d w
                 ∙ rw (as₁ ∙ f₁, as₂ ∙ f₂, as₃ ∙ f₃, f₄, eq-eqb x.carbon 0 (omega arith)) (or-false (not (is_empty d.groups)))
 
-            module _ (h : x.carbon ≤ 0) (fs : List ℕ) (p₄ : fs ≡ x.floats) (room n : ℕ) (l : Length room (groups_in x.float_count fs) n) where
+            module _ (h : x.carbon ≤ 0) (room n : ℕ) (l : Length room (floats_drawn x) n) where
               as₄ : length (floats_drawn x) ≡ n
-              as₄ = rw (← p₄) (sym l.is)
+              as₄ = sym l.is
 
               pub on-nothing : n ≡ 0 → Says x false off_chain
               unfolding groups_on floating

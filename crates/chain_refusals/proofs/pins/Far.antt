@@ -14,7 +14,7 @@ use Rattle.chain_rules.specs.declared.chain.Role.{Role}
 use Rattle.chain_rules.specs.chain.Lists.{all_of, is_empty}
 use Rattle.chain_rules.specs.chain.Features.{pins}
 use Rattle.chain_rules.specs.chain.Refusals.{pin_too_far}
-use Rattle.drawn_chain.specs.drawable.Drawn.{Drawn, groups_in, rings_in, groups_drawn, rings_drawn, group_pin, Length, Draws, Says}
+use Rattle.drawn_chain.specs.drawable.Drawn.{Drawn, groups_drawn, rings_drawn, group_pin, Length, Draws, Says}
 use Rattle.chain_refusals.specs.pins.Pins.{ring_pin, pins_in}
 use Rattle.drawn_chain.proofs.drawable.Lists.{all_append, empty-append, empty-map, some-empty, none-empty}
 
@@ -51,26 +51,21 @@ module _ (x : Drawn) where
   pub far-located : x.unlocated ≡ 0 → Says x false pin_too_far
   far-located h = record { is = λ r d w. sym (far-as r d w ∙ rw (eq-eqb x.unlocated 0 h)) }
 
-  -- its lists are lent as gs and rs
-  module _ (h : x.unlocated ≡ 0 → ⊥) (gs rs : List ℕ) (p₁ : gs ≡ x.groups) (p₂ : rs ≡ x.rings) (t : Bool)
-      (e : t ≡ is_empty (pins_in (groups_in x.group_count gs) (rings_in x.ring_count rs))) where
+  module _ (h : x.unlocated ≡ 0 → ⊥) (t : Bool) (e : t ≡ is_empty (pins_in (groups_drawn x) (rings_drawn x))) where
     as₁ : is_empty (pins_in (groups_drawn x) (rings_drawn x)) ≡ t
-    as₁ = rw (← p₁, ← p₂) (sym e)
+    as₁ = sym e
 
     pub far_none : t ≡ true → Says x false pin_too_far
     far_none f = record { is = λ r d w. sym (far-as r d w ∙ rw (ne_eqb x.unlocated 0 h, as₁ ∙ f)) }
 
-    module _ (f : t ≡ false) (b : ℕ) (k : b ≡ cond x.acyl 3 (x.first + 1)) (u : Bool) (g : u ≡ all_of (ltb b) (map group_pin (groups_in x.group_count gs))) where
-      as₂ : u ≡ all_of (ltb b) (map group_pin (groups_drawn x))
-      as₂ = rw p₁ at g
-
+    module _ (f : t ≡ false) (b : ℕ) (k : b ≡ cond x.acyl 3 (x.first + 1)) (u : Bool) (g : u ≡ all_of (ltb b) (map group_pin (groups_drawn x))) where
       far-last : (r : Role) (d : Chain) → Draws r d x → pin_too_far r d ≡ u && all_of (ltb b) (map ring_pin (rings_drawn x))
       far-last r d w =
           far-as r d w
-          ∙ rw (ne_eqb x.unlocated 0 h, as₁ ∙ f, ← k, as₂) (all_append (ltb b) (map group_pin (groups_drawn x)) (map ring_pin (rings_drawn x)))
+          ∙ rw (ne_eqb x.unlocated 0 h, as₁ ∙ f, ← k, g) (all_append (ltb b) (map group_pin (groups_drawn x)) (map ring_pin (rings_drawn x)))
 
-      pub far-rings : (v : Bool) → u ≡ true → v ≡ all_of (ltb b) (map ring_pin (rings_in x.ring_count rs)) → Says x v pin_too_far
-      far-rings v z i = record { is = λ r d w. sym (far-last r d w ∙ rw (z, ← p₂) (sym i)) }
+      pub far-rings : (v : Bool) → u ≡ true → v ≡ all_of (ltb b) (map ring_pin (rings_drawn x)) → Says x v pin_too_far
+      far-rings v z i = record { is = λ r d w. sym (far-last r d w ∙ rw z (sym i)) }
 
       pub far-not : u ≡ false → Says x false pin_too_far
       far-not z = record { is = λ r d w. sym (far-last r d w ∙ rw z) }

@@ -5,10 +5,10 @@ use native.Mathlib.Numerals.{add-one}
 use native.Mathlib.Omega.{arith}
 use mathlib.Core.Path.{◌≡◌, refl, sym, ap, ◌∙◌}
 use mathlib.Core.Bool.{Bool, true, false, cond, not, ◌&&◌, ◌||◌, false≢true, or-true}
-use mathlib.Core.List.{List, [], ◌∷◌, map}
+use mathlib.Core.List.{List, [], ◌∷◌}
 use lib.Dec.{eqb, ltb, leb}
-use lib.ListN.{length, take, drop, get_or, length-take, length-drop, length-map, drop_of_length-le, get_or-map}
-use lib.Seq.{drop-cons, get_or-take, get_or-drop}
+use lib.ListN.{length, drop, get_or, drop_of_length-le}
+use lib.Seq.{drop-cons}
 use borrow.Author.Tests.{ltb-true, leb-true, lt-ltb, le-ltb, le-leb, lt-leb, ne_eqb, not-true, not-false}
 use Rattle.chain_record.specs.declared.plain.ChainPrefix.{ChainPrefix}
 use Rattle.chain_record.specs.declared.plain.Bridge.TheVariants.{Epoxide, Carbocycle}
@@ -16,13 +16,12 @@ use Rattle.chain_record.specs.declared.plain.DbPos.{DbPos}
 use Rattle.chain_record.specs.declared.plain.Mod.{Mod}
 use Rattle.chain_record.specs.declared.plain.Ring.{Ring}
 use Rattle.chain_record.specs.plain.Chain.{Chain}
-use Rattle.chain_record.specs.codes.Codes.{bond_in, group_in, ring_in}
 use Rattle.chain_rules.specs.declared.chain.Role.{Role}
 use Rattle.chain_rules.specs.declared.chain.Role.TheVariants.{Slot, Acyl, Base}
 use Rattle.chain_rules.specs.chain.Lists.{any_of, any_two, is_empty}
 use Rattle.chain_rules.specs.chain.Features.{first_drawn, is_acyl}
 use Rattle.chain_rules.specs.chain.Refusals.{is_epoxide, double_off, group_off, ring_off, off_chain, same_bond, epoxide_on, small_ring, same_ring, clashes, place_refusal}
-use Rattle.drawn_chain.specs.drawable.Drawn.{Drawn, bonds_in, groups_in, rings_in, bonds_part, groups_part, rings_part, bonds_drawn, groups_drawn, rings_drawn, Draws, Says}
+use Rattle.drawn_chain.specs.drawable.Drawn.{Drawn, no_bond, no_group, no_ring, bonds_drawn, groups_drawn, rings_drawn, Draws, Says}
 use Rattle.chain_refusals.proofs.offchain.Off.{off-as}
 use Rattle.chain_refusals.proofs.clash.Clashes.{clashes-as}
 use Rattle.chain_refusals.specs.refusals.Rising.{Only, bonds_rise, ring_past, rings_rise}
@@ -30,58 +29,39 @@ use Rattle.chain_refusals.specs.refusals.Rising.{Only, bonds_rise, ring_past, ri
 pub only-false : (u : Bool) → Only false u
 only-false u = record { told = λ e. absurd (false≢true e) }
 
--- ---- what stands at a place of a part
+-- ---- what stands at a place of a list
 
-module _ {A : Type 0} (f : ℕ → A) (l : List ℕ) (from room count i : ℕ) (s : from + room ≤ length l) (k : count ≤ room) where
-  abbrev whole : List A
-  whole = map f (take count (take room (drop from l)))
+left_here : {A : Type 0} (l : List A) (i : ℕ) (d : A) → i < length l → drop i l ≡ get_or l i d ∷ drop (i + 1) l
+left_here l i d h = rw (add-one i) (drop-cons l i d h)
 
-  whole_long : length whole ≡ count
-  whole_long =
-      omega
-      (arith, length-map (take count (take room (drop from l))) f, length-take count (take room (drop from l)), length-take room (drop from l), length-drop from l)
-
-  left_here : i < count → drop i whole ≡ f (get_or l (from + i) 0) ∷ drop (i + 1) whole
-  left_here h =
-      let there : get_or whole i (f 0) ≡ f (get_or l (from + i) 0) =
-      get_or-map f (take count (take room (drop from l))) i 0
-      ∙ ap f (get_or-take count (take room (drop from l)) i 0 h ∙ (get_or-take room (drop from l) i 0 (omega arith) ∙ get_or-drop from l i 0)) in
-      rw (add-one i) (drop-cons whole i (f 0) (omega (arith, whole_long)) ∙ ap (λ (a : A). a ∷ drop (suc i) whole) there)
-
-  left-none : count ≤ i → drop i whole ≡ []
-  left-none h = drop_of_length-le whole {i = i} (omega (arith, whole_long))
+left-none : {A : Type 0} (l : List A) (i : ℕ) → length l ≤ i → drop i l ≡ []
+left-none l i h = drop_of_length-le l {i = i} h
 
 -- ---- the double bonds; what was asked is v
 
 pub rise-first : (c m k : ℕ) (l : List DbPos) → k ≡ m → bonds_rise c m l ≡ bonds_rise c k (drop 0 l)
 rise-first c m k l e = rw e
 
-module _ (v : Bool) (l : List ℕ) (count i c m : ℕ) (s : 77 ≤ length l) (k : count ≤ 33) (same : v ≡ bonds_rise c m (drop i (bonds_in count (bonds_part l)))) where
-  pub rise-next : (b : DbPos) → i < count → b ≡ bond_in (get_or l i 0) → m < b.pos → v ≡ bonds_rise c b.pos (drop (i + 1) (bonds_in count (bonds_part l)))
-  unfolding bonds_in bonds_part bonds_rise
-  rise-next b h e g =
-      let z : 0 + i ≡ i = omega arith in
-      let here : drop i (bonds_in count (bonds_part l)) ≡ bond_in (get_or l (0 + i) 0) ∷ drop (i + 1) (bonds_in count (bonds_part l)) = left_here bond_in l 0 33 count i (omega arith) k h in
-      same ∙ rw (here, z, ← e, lt-ltb m b.pos g)
+module _ (v : Bool) (l : List DbPos) (i c m : ℕ) (same : v ≡ bonds_rise c m (drop i l)) where
+  pub rise-next : (b : DbPos) → i < length l → b ≡ get_or l i no_bond → m < b.pos → v ≡ bonds_rise c b.pos (drop (i + 1) l)
+  unfolding bonds_rise
+  rise-next b h e g = same ∙ rw (left_here l i no_bond h, ← e, lt-ltb m b.pos g)
 
-  pub rise-end : count ≤ i → Only (ltb m c) v
-  unfolding bonds_in bonds_part bonds_rise
-  rise-end h = record { told = λ e. same ∙ rw (left-none bond_in l 0 33 count i (omega arith) k h) e }
+  pub rise-end : length l ≤ i → Only (ltb m c) v
+  unfolding bonds_rise
+  rise-end h = record { told = λ e. same ∙ rw (left-none l i h) e }
 
 -- ---- the groups
 
-module _ (l : List ℕ) (count i f c : ℕ) (s : 77 ≤ length l) (k : count ≤ 18)
-    (same : any_of (group_off f c) (groups_in count (groups_part l)) ≡ any_of (group_off f c) (drop i (groups_in count (groups_part l)))) where
-  pub sit-next : (g : Mod) → i < count → g ≡ group_in (get_or l (33 + i) 0) → f ≤ g.pos → g.pos ≤ c
-      → any_of (group_off f c) (groups_in count (groups_part l)) ≡ any_of (group_off f c) (drop (i + 1) (groups_in count (groups_part l)))
-  unfolding groups_in groups_part any_of group_off
-  sit-next g h e p q =
-      same ∙ rw (left_here group_in l 33 18 count i (omega arith) k h, ← e, le-leb f g.pos p, le-leb g.pos c q)
+module _ (l : List Mod) (i f c : ℕ) (same : any_of (group_off f c) l ≡ any_of (group_off f c) (drop i l)) where
+  pub sit-next : (g : Mod) → i < length l → g ≡ get_or l i no_group → f ≤ g.pos → g.pos ≤ c → any_of (group_off f c) l ≡ any_of (group_off f c) (drop (i + 1) l)
+  unfolding any_of group_off
+  sit-next g h e p q = same ∙ rw (left_here l i no_group h, ← e, le-leb f g.pos p, le-leb g.pos c q)
 
-  pub sit-end : count ≤ i → Only true (not (any_of (group_off f c) (groups_in count (groups_part l))))
-  unfolding groups_in groups_part any_of
+  pub sit-end : length l ≤ i → Only true (not (any_of (group_off f c) l))
+  unfolding any_of
   sit-end h =
-      let none : any_of (group_off f c) (groups_in count (groups_part l)) ≡ false = same ∙ rw (left-none group_in l 33 18 count i (omega arith) k h) in
+      let none : any_of (group_off f c) l ≡ false = same ∙ rw (left-none l i h) in
       record { told = λ e. ap not none }
 
 -- ---- the rings; what was asked is v
@@ -99,14 +79,14 @@ module _ (x : Ring) (m : ℕ) where
   unfolding ring_past
   past-carbocycle h e = rw (le-leb m x.start h, e)
 
-module _ (v : Bool) (l : List ℕ) (count i m : ℕ) (s : 77 ≤ length l) (k : count ≤ 8) (same : v ≡ rings_rise m (drop i (rings_in count (rings_part l)))) where
-  pub rings-next : (x : Ring) (t : Bool) → i < count → x ≡ ring_in (get_or l (69 + i) 0) → t ≡ ring_past m x → not t ≡ false → v ≡ rings_rise (x.start + 1) (drop (i + 1) (rings_in count (rings_part l)))
-  unfolding rings_in rings_part rings_rise
-  rings-next x t h e p q = same ∙ rw (left_here ring_in l 69 8 count i (omega arith) k h, ← e, ← p, not-false t q)
+module _ (v : Bool) (l : List Ring) (i m : ℕ) (same : v ≡ rings_rise m (drop i l)) where
+  pub rings-next : (x : Ring) (t : Bool) → i < length l → x ≡ get_or l i no_ring → t ≡ ring_past m x → not t ≡ false → v ≡ rings_rise (x.start + 1) (drop (i + 1) l)
+  unfolding rings_rise
+  rings-next x t h e p q = same ∙ rw (left_here l i no_ring h, ← e, ← p, not-false t q)
 
-  pub rings-end : count ≤ i → Only true v
-  unfolding rings_in rings_part rings_rise
-  rings-end h = record { told = λ e. same ∙ rw (left-none ring_in l 69 8 count i (omega arith) k h) }
+  pub rings-end : length l ≤ i → Only true v
+  unfolding rings_rise
+  rings-end h = record { told = λ e. same ∙ rw (left-none l i h) }
 
 -- ---- double bonds that rise: none is off the chain, and no two stand at one carbon
 
@@ -244,14 +224,15 @@ module _ (x : Drawn) where
   past-carbonyl : (t : Bool) → t ≡ true → 2 ≤ cond t 2 x.first
   past-carbonyl t e = rw e (omega arith)
 
-  pub place-rises : (t₁ t₂ t₃ : Bool) (m : ℕ) → x.ether_base ≡ false → Only t₁ (bonds_rise x.carbon (x.first - 1) (bonds_drawn x)) → not t₁ ≡ false
-      → Only t₂ (not (any_of (group_off x.first x.carbon) (groups_drawn x))) → not t₂ ≡ false → m ≡ cond x.acyl 2 x.first → Only t₃ (rings_rise m (rings_drawn x)) → t₃ ≡ true
+  pub place-rises : (t₁ t₂ t₃ : Bool) (m : ℕ) {bs : List DbPos} {gs : List Mod} {rs : List Ring} → bs ≡ bonds_drawn x → gs ≡ groups_drawn x → rs ≡ rings_drawn x → x.ether_base ≡ false
+      → Only t₁ (bonds_rise x.carbon (x.first - 1) bs) → not t₁ ≡ false → Only t₂ (not (any_of (group_off x.first x.carbon) gs)) → not t₂ ≡ false → m ≡ cond x.acyl 2 x.first
+      → Only t₃ (rings_rise m rs) → t₃ ≡ true
       → Says x 0 place_refusal
   unfolding place_refusal
-  place-rises t₁ t₂ t₃ m h o₁ f₁ o₂ f₂ z o₃ f₃ =
-      let bonds : bonds_rise x.carbon (x.first - 1) (bonds_drawn x) ≡ true = o₁.told (not-false t₁ f₁) in
-      let groups : any_of (group_off x.first x.carbon) (groups_drawn x) ≡ false = not-true _ (o₂.told (not-false t₂ f₂)) in
-      let rings : rings_rise m (rings_drawn x) ≡ true = o₃.told f₃ in
+  place-rises t₁ t₂ t₃ m p q s h o₁ f₁ o₂ f₂ z o₃ f₃ =
+      let bonds : bonds_rise x.carbon (x.first - 1) (bonds_drawn x) ≡ true = (rw p at o₁).told (not-false t₁ f₁) in
+      let groups : any_of (group_off x.first x.carbon) (groups_drawn x) ≡ false = not-true _ ((rw q at o₂).told (not-false t₂ f₂)) in
+      let rings : rings_rise m (rings_drawn x) ≡ true = (rw s at o₃).told f₃ in
       let some : 0 < x.carbon = omega (arith, rise-before x.carbon (x.first - 1) (bonds_drawn x) bonds) in
       record {
         is = λ r d w.

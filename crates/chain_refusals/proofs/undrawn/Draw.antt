@@ -11,21 +11,21 @@ use borrow.Author.Tests.{eq-eqb, ne_eqb, not-true, not-false}
 use Rattle.chain_rules.specs.chain.Lists.{any_of}
 use Rattle.chain_rules.specs.chain.Features.{is_acyl, remaining, drawn_count, site_skip}
 use Rattle.chain_rules.specs.chain.Refusals.{group_on_carbonyl, pin_too_far, tail_too_short, no_site, draw_refusal}
-use Rattle.drawn_chain.specs.drawable.Drawn.{Drawn, groups_in, floats_drawn, group_at, Length, Says}
+use Rattle.drawn_chain.specs.drawable.Drawn.{Drawn, groups_drawn, floats_drawn, group_at, Length, Says}
 use Rattle.drawn_chain.proofs.drawable.Lists.{some-empty, none-empty}
 
 -- ---- 12
 
-pub carbonyl-groups : (x : Drawn) (gs : List ℕ) (t : Bool) → gs ≡ x.groups → not x.acyl ≡ false → t ≡ any_of (group_at 1) (groups_in x.group_count gs) → Says x t group_on_carbonyl
+pub carbonyl-groups : (x : Drawn) (t : Bool) → not x.acyl ≡ false → t ≡ any_of (group_at 1) (groups_drawn x) → Says x t group_on_carbonyl
 unfolding group_on_carbonyl
-carbonyl-groups x gs t p h e = record { is = λ r d w. rw (← w.acyl, not-false x.acyl h, ← w.groups, ← p) e }
+carbonyl-groups x t h e = record { is = λ r d w. rw (← w.acyl, not-false x.acyl h, ← w.groups) e }
 
 pub no-carbonyl : (x : Drawn) → not x.acyl ≡ true → Says x false group_on_carbonyl
 unfolding group_on_carbonyl
 no-carbonyl x h = record { is = λ r d w. rw (← w.acyl, not-true x.acyl h) }
 
 pub no-groups : (x : Drawn) → x.group_count ≡ 0 → Says x false group_on_carbonyl
-unfolding group_on_carbonyl groups_in any_of
+unfolding group_on_carbonyl any_of
 no-groups x h = record { is = λ r d w. rw (← w.groups, h) (sym (and-false (is_acyl r d.prefix))) }
 
 -- ---- 14
@@ -40,9 +40,9 @@ tail-some x m h s = record { is = λ r d w. rw (← w.unlocated, ne_eqb x.unloca
 
 -- ---- 15
 
-module _ (x : Drawn) (fs : List ℕ) (p : fs ≡ x.floats) (room n : ℕ) (l : Length room (groups_in x.float_count fs) n) where
+module _ (x : Drawn) (room n : ℕ) (l : Length room (floats_drawn x) n) where
   many : n ≡ length (floats_drawn x)
-  many = rw p at l.is
+  many = l.is
 
   pub site-none : n ≡ 0 → Says x false no_site
   unfolding no_site

@@ -26,11 +26,11 @@ use Rattle.chain_rules.specs.chain.Features.{first_drawn, doubles, groups_on, pr
 use Rattle.chain_rules.specs.chain.Bonds.{bonds_of, bond_at, mark_of, mark_from, plain_bonds}
 use Rattle.chain_rules.specs.chain.Drawing.{branches, carbonyl, groups_at, carbon_at, literal, flexible, carbons, ring_pairs, floats, chain_drawn}
 use Rattle.drawn_chain.specs.declared.drawable.Shape.{Shape}
-use Rattle.drawn_chain.specs.drawable.Drawn.{Drawn, groups_in, rings_in, groups_part, floats_part, rings_part, drawn_of, groups_drawn, floats_drawn, rings_drawn, Draws}
+use Rattle.drawn_chain.specs.declared.rooms.Lists.{Lists}
+use Rattle.drawn_chain.specs.drawable.Drawn.{Drawn, drawn_of, groups_drawn, floats_drawn, rings_drawn, Draws}
 use Rattle.chain_pieces.specs.branches.Text.{sitting, floats_text, carbonyl_of}
 use Rattle.chain_pieces.specs.backbone.Text.{flexible_text}
 use Rattle.chain_text.specs.fragment.Text.{carbon_of, carbons_text}
-use Rattle.drawn_chain.proofs.drawable.Parts.{rings-few}
 use Rattle.carbons.specs.Tokens.{ChainTokens, tokens, TokensOf}
 use Rattle.carbons.specs.ByCarbon.{Busy}
 use Rattle.chain_text.specs.fragment.Segment.{segment_text, RingsOn, Readable, Segment}
@@ -190,21 +190,18 @@ segment-written x t l h u v w = written-three h u v w
 pub segment-drawn : {xs ys : List ℕ} {at q : ℕ} (x : Drawn) (t : ChainTokens) (l : ℕ) → TokensOf x t → Written xs at (segment_text x t l) ys q → Segment x l xs at ys q
 segment-drawn x t l k w = record { size = written-length w; text = λ r d g s. rw (segment-is r d x t g k s l) w }
 
--- what the writer of the literal carbons relies on
-pub range-ready : (x : Shape) (part : List ℕ) (first last : ℕ) (bs us : List ℕ) {gs rs : List ℕ} (l : ℕ) → TokensOf (drawn_of x part) (tokens first last bs us)
-    → gs ≡ groups_part part → rs ≡ rings_part part → l ≤ 247
-    → (1 ≤ first) × (last ≤ 255) × (last < length bs) × (last < length us) × Busy x.acyl (groups_in x.group_count gs) (rings_in x.ring_count rs) us × (l + length rs ≤ 255)
-range-ready x part first last bs us l k a b e =
-    (omega (arith, k.first), k.room, k.bonded, k.laden, rw (a, b) k.busy, rw b (omega (arith, rings-few part)))
+-- what the writer of the literal carbons relies on, where there is room for so many rings
+pub range-ready : (x : Drawn) (first last : ℕ) (bs us : List ℕ) (rs : List Closed) (l : ℕ) → TokensOf x (tokens first last bs us) → length rs ≡ 8 → l ≤ 247
+    → (1 ≤ first) × (last ≤ 255) × (last < length bs) × (last < length us) × Busy x.acyl (groups_drawn x) (rings_drawn x) us × (l + length rs ≤ 255)
+range-ready x first last bs us rs l k a e = (omega (arith, k.first), k.room, k.bonded, k.laden, k.busy, omega arith)
 
--- where the lists stand in the part of a chain
-pub segment-done : {xs ys zs ws gs rs : List ℕ} {at p q o : ℕ} (x : Shape) (part : List ℕ) (first last : ℕ) (bs us : List ℕ) (l : ℕ) → length xs < 2 ^ 64
-    → TokensOf (drawn_of x part) (tokens first last bs us) → gs ≡ groups_part part → rs ≡ rings_part part
-    → Written xs at (carbons_text x.acyl bs (groups_in x.group_count gs) (rings_in x.ring_count rs) l first (suc last - first)) ys p
-    → Written ys p (flexible_text (get_or bs last 0) x.unlocated) zs q
-    → Written zs q (floats_text (groups_in x.float_count (floats_part part))) ws o → Segment (drawn_of x part) l xs at ws o
-segment-done x part first last bs us l h k a b u v w =
-    segment-drawn (drawn_of x part) (tokens first last bs us) l k (segment-written (drawn_of x part) (tokens first last bs us) l h (rw (a, b) at u) v w)
+-- where what each carbon has is lent
+pub segment-done : {xs ys zs ws : List ℕ} {at p q o : ℕ} (x : Shape) (part : Lists) (first last : ℕ) (bs us : List ℕ) (l : ℕ) → length xs < 2 ^ 64
+    → TokensOf (drawn_of x part) (tokens first last bs us)
+    → Written xs at (carbons_text x.acyl bs (groups_drawn (drawn_of x part)) (rings_drawn (drawn_of x part)) l first (suc last - first)) ys p
+    → Written ys p (flexible_text (get_or bs last 0) x.unlocated) zs q → Written zs q (floats_text (floats_drawn (drawn_of x part))) ws o → Segment (drawn_of x part) l xs at ws o
+segment-done x part first last bs us l h k u v w =
+    segment-drawn (drawn_of x part) (tokens first last bs us) l k (segment-written (drawn_of x part) (tokens first last bs us) l h u v w)
 
 -- ---- a chain without a tail
 

@@ -13,6 +13,7 @@ use Rattle.reading_rules.specs.reading.Piece.{show}
 use Rattle.reading_rules.specs.reading.Chain.{mark_pieces}
 use Rattle.chain_rules.specs.chain.Bonds.{mark_of}
 use Rattle.drawn_chain.specs.declared.drawable.Shape.{Shape}
+use Rattle.drawn_chain.specs.declared.rooms.Lists.{Lists}
 use Rattle.drawn_chain.specs.drawable.Drawn.{Drawn, groups_drawn, drawn_of}
 use Rattle.carbons.specs.Tokens.{Grouped}
 use Rattle.carbons.specs.ByCarbon.{Noughts}
@@ -35,7 +36,7 @@ bare-rest : {bs : List ℕ} (k c n : ℕ) → Noughts bs → 1 ≤ k → c + 1 -
 unfolding rest_text
 bare-rest {bs} k c n z h e = rw e (links-plain bs n k h (λ j l. z.at (k - 1 + j)))
 
-module _ (x : Shape) (part : List ℕ) (e : Grouped (drawn_of x part)) where
+module _ (x : Shape) (part : Lists) (e : Grouped (drawn_of x part)) where
   pub bare-room : {xs ys zs : List ℕ} {at p q : ℕ} (acyl : Bool) → at + (x.carbon * 2 + 260) ≤ length xs → Written xs at (67 ∷ []) ys p → Written ys p (carbonyl_text acyl x.first) zs q
       → q + (x.carbon - x.first) ≤ length zs
   bare-room acyl h u v = omega (arith, e.first, e.some, u.next, v.next, carbonyl-length acyl x.first, written-length u, written-length v)

@@ -9,7 +9,8 @@ use lib.ListN.{length, get_or}
 use Rattle.writer.specs.emit.Text.{Written}
 use Rattle.writer.proofs.emit.Laws.{written-length}
 use Rattle.drawn_chain.specs.declared.drawable.Shape.{Shape}
-use Rattle.drawn_chain.specs.drawable.Drawn.{Drawn, groups_in, groups_part, drawn_of, bonds_drawn, groups_drawn, rings_drawn}
+use Rattle.drawn_chain.specs.declared.rooms.Lists.{Lists}
+use Rattle.drawn_chain.specs.drawable.Drawn.{Drawn, drawn_of, bonds_drawn, groups_drawn, rings_drawn}
 use Rattle.carbons.specs.Tokens.{tokens, Rising, Grouped}
 use Rattle.carbons.specs.ByCarbon.{BondsBy}
 use Rattle.carbons.proofs.Bridges.{ringless-bridge}
@@ -50,36 +51,35 @@ module _ (x : Drawn) (bs : List ℕ) (e : Grouped x) (b : BondsBy (bonds_drawn x
       segment-drawn x (tokens x.first x.carbon bs (busy_list x)) l (grouped-tokens e b)
       (rw (grouped-text (busy_list x) l) (written-three g u v w))
 
--- ---- what the writer needs, where the groups stand in the part of a chain
+-- ---- what the writer needs
 
-module _ {gs : List ℕ} (x : Shape) (part : List ℕ) (e : Grouped (drawn_of x part)) (f : gs ≡ groups_part part) where
+module _ (x : Shape) (part : Lists) (e : Grouped (drawn_of x part)) where
   pub grouped-done : {xs ys zs ws : List ℕ} {at p q r : ℕ} (bs : List ℕ) → BondsBy (bonds_drawn (drawn_of x part)) (rings_drawn (drawn_of x part)) x.carbon bs → length xs < 2 ^ 64
       → Written xs at (carbon_text (get_or bs (x.first - 1) 0)) ys p → Written ys p (carbonyl_text x.acyl x.first) zs q
-      → Written zs q (rest_text bs (x.first + 1) x.carbon (groups_in x.group_count gs)) ws r → (l : ℕ) → Segment (drawn_of x part) l xs at ws r
-  grouped-done bs b g u v w = grouped-segment (drawn_of x part) bs e b g u v (rw f at w)
+      → Written zs q (rest_text bs (x.first + 1) x.carbon (groups_drawn (drawn_of x part))) ws r → (l : ℕ) → Segment (drawn_of x part) l xs at ws r
+  grouped-done bs b g u v w = grouped-segment (drawn_of x part) bs e b g u v w
 
-  pub grouped-rising : Rising (x.first + 1 - 1) x.carbon (groups_in x.group_count gs)
+  pub grouped-rising : Rising (x.first + 1 - 1) x.carbon (groups_drawn (drawn_of x part))
   grouped-rising =
       let z : x.first + 1 - 1 ≡ x.first = omega arith in
-      rw (z, f) e.groups
+      rw z e.groups
 
   pub grouped-room : {xs ys zs : List ℕ} {at p q : ℕ} (b : ℕ) (acyl : Bool) → at + (x.carbon * 2 + 260) ≤ length xs → Written xs at (carbon_text b) ys p → Written ys p (carbonyl_text acyl x.first) zs q
-      → q + ((x.carbon + 1 - (x.first + 1)) * 2 + 14 * length (groups_in x.group_count gs)) ≤ length zs
+      → q + ((x.carbon + 1 - (x.first + 1)) * 2 + 14 * length (groups_drawn (drawn_of x part))) ≤ length zs
   grouped-room b acyl h u v =
-      let few : length (groups_in x.group_count gs) ≤ 18 = rw f e.few in
-      omega (arith, e.first, e.some, u.next, v.next, carbon-length b, carbonyl-length acyl x.first, written-length u, written-length v)
+      omega (arith, e.first, e.few, e.some, u.next, v.next, carbon-length b, carbonyl-length acyl x.first, written-length u, written-length v)
 
 -- ---- and where there are none
 
-module _ (x : Shape) (part : List ℕ) (e : Grouped (drawn_of x part)) where
+module _ (x : Shape) (part : Lists) (e : Grouped (drawn_of x part)) where
   pub plain_done : {xs ys zs ws : List ℕ} {at p q r : ℕ} (bs : List ℕ) → BondsBy (bonds_drawn (drawn_of x part)) (rings_drawn (drawn_of x part)) x.carbon bs → length xs < 2 ^ 64
       → x.group_count ≡ 0 → Written xs at (carbon_text (get_or bs (x.first - 1) 0)) ys p → Written ys p (carbonyl_text x.acyl x.first) zs q
       → Written zs q (links_text bs (x.first + 1) (x.carbon + 1 - (x.first + 1))) ws r → (l : ℕ) → Segment (drawn_of x part) l xs at ws r
-  unfolding rest_text groups_in
+  unfolding rest_text
   plain_done {zs = zs} {ws} {q = q} {r} bs b g z u v w =
-      let none : groups_in x.group_count (groups_part part) ≡ [] = rw z in
+      let none : groups_drawn (drawn_of x part) ≡ [] = rw z in
       grouped-segment (drawn_of x part) bs e b g u v (rw none w)
 
   pub plain-room : {xs ys zs : List ℕ} {at p q : ℕ} (b : ℕ) (acyl : Bool) → at + (x.carbon * 2 + 260) ≤ length xs → Written xs at (carbon_text b) ys p → Written ys p (carbonyl_text acyl x.first) zs q
       → q + (x.carbon + 1 - (x.first + 1)) * 2 ≤ length zs
-  plain-room b acyl h u v = omega (arith, grouped-room x part e refl b acyl h u v)
+  plain-room b acyl h u v = omega (arith, grouped-room x part e b acyl h u v)

@@ -5,9 +5,9 @@ use native.Mathlib.Numerals.{add-one}
 use native.Mathlib.Omega.{arith}
 use mathlib.Core.Path.{◌≡◌, refl, sym, ap, ◌∙◌}
 use mathlib.Core.Bool.{Bool, true, false, cond, not}
-use mathlib.Core.List.{List, [], ◌∷◌, ◌++◌, map, map-append, append_assoc, append-nil}
+use mathlib.Core.List.{List, [], ◌∷◌, ◌++◌, map, append_assoc, append-nil}
 use lib.Dec.{eqb}
-use lib.ListN.{length, take, drop, set, get_or, length-append, length-take, length-map, length-set, get_or-map}
+use lib.ListN.{length, take, drop, set, get_or, length-append, length-take, length-set}
 use lib.Seq.{take-suc, take-suc-set, take-set-le, take_all, take-append-le, take-append-add, take-take, get_or-take}
 use borrow.Author.Tests.{eq-eqb, ne_eqb}
 use Rattle.chain_record.specs.declared.plain.ChainPrefix.{ChainPrefix}
@@ -22,11 +22,11 @@ use Rattle.chain_rules.specs.declared.chain.Role.TheVariants.{Slot, Acyl, Base}
 use Rattle.chain_rules.specs.chain.Lists.{any_of, only}
 use Rattle.chain_rules.specs.chain.Features.{alkenyl_bond, doubles, located, unlocated, oxygen_at, triol_oxygen, base_oxygens, groups_on, floating}
 use Rattle.group_table.specs.groups.Groups.{hydroxy}
-use Rattle.chain_record.specs.codes.Codes.{bond_code, bond_in, group_code, group_in, ring_in}
-use Rattle.chain_record.proofs.codes.Laws.{bond-back, group-back}
-use Rattle.drawn_chain.specs.drawable.Drawn.{Drawn, DrawsSome, bonds_in, groups_in, rings_in, no_group, Length, group_at, chain_of}
+use Rattle.chain_record.specs.codes.Codes.{bond_in, group_in, ring_in}
+use Rattle.drawn_chain.specs.drawable.Drawn.{Drawn, DrawsSome, bonds_in, groups_in, rings_in, no_bond, no_group, Length, group_at, chain_of}
 use Rattle.drawn_chain.proofs.drawable.Through.{only-skip, only-keep, only-all}
 use Rattle.drawn_chain.proofs.drawable.Lists.{length-only, take-front}
+use Rattle.drawn_chain.proofs.drawable.Held.{held_more, held-full}
 use Rattle.drawn_chain.specs.fitted.Fitted.{alkenyl, Parts, More, Pieces, pieces_as, Fits}
 
 -- ---- a chain that a record holds, within its limits, is the one that its arrays say
@@ -35,15 +35,15 @@ kept : {A : Type 0} (of : ℕ → A) (limit : ℕ) (xs : List ℕ) (n : ℕ) (l 
 kept of limit xs n l k h = k.kept ∙ take_all limit l h
 
 pub held-chain : {c : ParsedChain} {d : Chain} → Holds c d → Within d → chain_of c ≡ d
-unfolding chain_of bonds_in groups_in rings_in
+unfolding chain_of
 held-chain {c} {d} k w =
     simp (k.prefix, k.written, k.carbon, k.branched, k.unlocated, k.oxygens, kept bond_in max_bonds c.bonds c.bond_count d.bonds k.bonds w.bonds, kept group_in max_groups c.groups c.group_count d.groups k.groups w.groups, kept ring_in max_rings c.rings c.ring_count d.rings k.rings w.rings)
 
--- what is drawn of every record with some pieces is drawn of some chain
+-- what is drawn of every chain with some pieces is drawn of some chain
 pub fits-some : {r : Role} {p : Pieces} {x : Drawn} → Fits r p x → DrawsSome x
 fits-some {r} {p} f =
-    let bare : ParsedChain = record { prefix = p.prefix; written = 0; carbon = 0; branched = false; unlocated = 0; oxygens = 0; bond_count = 0; bonds = []; group_count = 0; groups = []; ring_count = 0; rings = [] } in
-    record { role = r; chain = chain_of (pieces_as bare p); draws = f.draws bare }
+    let bare : Chain = record { prefix = p.prefix; written = 0; carbon = 0; branched = false; unlocated = 0; oxygens = 0; bonds = []; groups = []; rings = [] } in
+    record { role = r; chain = pieces_as bare p; draws = f.draws bare }
 
 -- ---- how many double bonds a prefix adds
 
@@ -70,18 +70,10 @@ pub adds-triol : 0 ≡ length (alkenyl_bond Slot prefix.SphingoidT)
 unfolding alkenyl_bond
 adds-triol = refl
 
--- ---- numbers that stand for a list
+-- ---- one element more in an array with a count
 
--- one number more
-more : {A : Type 0} (f : ℕ → A) (ys : List ℕ) (j v : ℕ) → j < length ys → map f (take (j + 1) (set ys j v)) ≡ map f (take j ys) ++ (f v ∷ [])
-more f ys j v h = rw (add-one j, take-suc-set ys j v h) (map-append f (take j ys) (v ∷ []))
-
--- each number stands for what it is the number of
-pub bond-stands : (b : DbPos) (v : ℕ) → b.pos < 4294967296 → v ≡ bond_code b → bond_in v ≡ b
-bond-stands b v h e = ap bond_in e ∙ bond-back b h
-
-pub group-stands : (g : Mod) (v : ℕ) → g.pos < 4294967296 → g.row < 256 → v ≡ group_code g → group_in v ≡ g
-group-stands g v h k e = ap group_in e ∙ group-back g h k
+more : {A : Type 0} (ys : List A) (j : ℕ) (v : A) → j < length ys → take (j + 1) (set ys j v) ≡ take j ys ++ (v ∷ [])
+more ys j v h = rw (add-one j) (take-suc-set ys j v h)
 
 -- ---- the double bonds: that of `P-` first, which is written over where it is not added
 
@@ -116,105 +108,80 @@ alkenyl-short Acyl prefix.SphingoidT = omega arith
 pub adds-few : (r : Role) (p : ChainPrefix) (k : ℕ) → k ≡ length (alkenyl_bond r p) → k ≤ 1
 adds-few r p k e = rw e (alkenyl-short r p)
 
-pub bonds-none : (k v : ℕ) (xs ys : List ℕ) → length ys ≡ 33 → k ≤ 1 → bond_in v ≡ alkenyl → bonds_in (k + 0) (set ys 0 v) ≡ take k (alkenyl ∷ []) ++ bonds_in 0 xs
-unfolding bonds_in
-bonds-none zero v xs ys l h e = refl
-bonds-none (suc zero) v xs ys l h e = rw (take-suc-set ys 0 v (omega arith), e)
-bonds-none (suc (suc k)) v xs ys l h e = absurd (omega arith)
+bonds-none : (k : ℕ) (xs ys : List DbPos) → length ys ≡ 33 → k ≤ 1 → bonds_in (k + 0) (set ys 0 alkenyl) ≡ take k (alkenyl ∷ []) ++ bonds_in 0 xs
+bonds-none zero xs ys l h = refl
+bonds-none (suc zero) xs ys l h = rw (take-suc-set ys 0 alkenyl (omega arith))
+bonds-none (suc (suc k)) xs ys l h = absurd (omega arith)
 
 -- one bond more of those in the lent array, behind a
-pub bonds-next : (a : List DbPos) (xs ys : List ℕ) (k i n : ℕ) → 32 ≤ length xs → length ys ≡ 33 → k ≤ 1 → n ≤ 32 → bonds_in (k + i) ys ≡ a ++ bonds_in i xs → i < n
-    → bonds_in (k + (i + 1)) (set ys (k + i) (get_or xs i 0)) ≡ a ++ bonds_in (i + 1) xs
-unfolding bonds_in
+pub bonds-next : (a xs ys : List DbPos) (k i n : ℕ) → 32 ≤ length xs → length ys ≡ 33 → k ≤ 1 → n ≤ 32 → bonds_in (k + i) ys ≡ a ++ bonds_in i xs → i < n
+    → bonds_in (k + (i + 1)) (set ys (k + i) (get_or xs i no_bond)) ≡ a ++ bonds_in (i + 1) xs
 bonds-next a xs ys k i n s t j m v h =
     let e : k + (i + 1) ≡ k + i + 1 = omega arith in
-    let w : bonds_in (i + 1) xs ≡ bonds_in i xs ++ (bond_in (get_or xs i 0) ∷ []) = rw (add-one i, take-suc xs i 0 (omega arith)) (map-append bond_in (take i xs) (get_or xs i 0 ∷ [])) in
-    rw (e, more bond_in ys (k + i) (get_or xs i 0) (omega arith), v, w, append_assoc)
+    let w : bonds_in (i + 1) xs ≡ bonds_in i xs ++ (get_or xs i no_bond ∷ []) = rw (add-one i) (take-suc xs i no_bond (omega arith)) in
+    rw (e, more ys (k + i) (get_or xs i no_bond) (omega arith), v, w, append_assoc)
 
 -- the first two, which are written in any case
-pub bonds-two : (k v : ℕ) (xs ys : List ℕ) → 32 ≤ length xs → length ys ≡ 33 → k ≤ 1 → bond_in v ≡ alkenyl
-    → bonds_in (k + 2) (set (set (set ys 0 v) k (get_or xs 0 0)) (k + 1) (get_or xs 1 0)) ≡ take k (alkenyl ∷ []) ++ bonds_in 2 xs
-bonds-two k v xs ys s t h e =
+pub bonds-two : (k : ℕ) (xs ys : List DbPos) → 32 ≤ length xs → length ys ≡ 33 → k ≤ 1
+    → bonds_in (k + 2) (set (set (set ys 0 alkenyl) k (get_or xs 0 no_bond)) (k + 1) (get_or xs 1 no_bond)) ≡ take k (alkenyl ∷ []) ++ bonds_in 2 xs
+bonds-two k xs ys s t h =
     let z : k + 0 ≡ k = omega arith in
     let a = take k (alkenyl ∷ []) in
-    let none : bonds_in (k + 0) (set ys 0 v) ≡ a ++ bonds_in 0 xs = bonds-none k v xs ys t h e in
-    let one : bonds_in (k + 1) (set (set ys 0 v) k (get_or xs 0 0)) ≡ a ++ bonds_in 1 xs =
-    rw z at (bonds-next a xs (set ys 0 v) k 0 32 s (simp length-set t) h (omega arith) none (omega arith)) in
-    bonds-next a xs (set (set ys 0 v) k (get_or xs 0 0)) k 1 32 s (simp length-set t) h (omega arith) one (omega arith)
-
-take-map : {A : Type 0} (f : ℕ → A) (n : ℕ) (l : List ℕ) → take n (map f l) ≡ map f (take n l)
-take-map f zero l = refl
-take-map f (suc n) [] = refl
-take-map {A} f (suc n) (a ∷ l) = ap {B = List A} (λ r. f a ∷ r) (take-map f n l)
+    let none : bonds_in (k + 0) (set ys 0 alkenyl) ≡ a ++ bonds_in 0 xs = bonds-none k xs ys t h in
+    let one : bonds_in (k + 1) (set (set ys 0 alkenyl) k (get_or xs 0 no_bond)) ≡ a ++ bonds_in 1 xs =
+    rw z at (bonds-next a xs (set ys 0 alkenyl) k 0 32 s (simp length-set t) h (omega arith) none (omega arith)) in
+    bonds-next a xs (set (set ys 0 alkenyl) k (get_or xs 0 no_bond)) k 1 32 s (simp length-set t) h (omega arith) one (omega arith)
 
 front_long : (k : ℕ) → k ≤ 1 → length (take k (alkenyl ∷ [])) ≡ k
 front_long k h = omega (arith, length-take k (alkenyl ∷ []))
 
 -- of more than count, those that count
-pub bonds-all : (xs ys : List ℕ) (k i n : ℕ) → k ≤ 1 → bonds_in (k + i) ys ≡ take k (alkenyl ∷ []) ++ bonds_in i xs → n ≤ i → bonds_in (k + n) ys ≡ take k (alkenyl ∷ []) ++ bonds_in n xs
-unfolding bonds_in
+pub bonds-all : (xs ys : List DbPos) (k i n : ℕ) → k ≤ 1 → bonds_in (k + i) ys ≡ take k (alkenyl ∷ []) ++ bonds_in i xs → n ≤ i → bonds_in (k + n) ys ≡ take k (alkenyl ∷ []) ++ bonds_in n xs
 bonds-all xs ys k i n h v g =
     let a = take k (alkenyl ∷ []) in
-    let cut : take (k + n) (bonds_in (k + i) ys) ≡ bonds_in (k + n) ys = take-map bond_in (k + n) (take (k + i) ys) ∙ ap (map bond_in) (take-take (k + n) (k + i) ys (omega arith)) in
-    let short : take n (bonds_in i xs) ≡ bonds_in n xs = take-map bond_in n (take i xs) ∙ ap (map bond_in) (take-take n i xs g) in
     let seam : take (k + n) (a ++ bonds_in i xs) ≡ a ++ take n (bonds_in i xs) = ap (λ (j : ℕ). take (j + n) (a ++ bonds_in i xs)) (sym (front_long k h)) ∙ take-append-add a (bonds_in i xs) n in
-    sym cut ∙ (ap (take (k + n)) v ∙ (seam ∙ ap (λ (l : List DbPos). a ++ l) short))
+    sym (take-take (k + n) (k + i) ys (omega arith)) ∙ (ap (take (k + n)) v ∙ (seam ∙ ap (λ (l : List DbPos). a ++ l) (take-take n i xs g)))
 
--- ---- groups with a position, and those without: the loop over the first n numbers of xs, of which so many are kept in ys
+-- ---- groups with a position, and those without: the loop over the groups of xs, of which so many are kept in ys
 
-module _ (xs : List ℕ) (n i : ℕ) (f : n ≤ length xs) where
-  whole : Length n (groups_in n xs) n
-  unfolding groups_in
-  whole = record { is = omega (arith, length-map (take n xs) group_in, length-take n xs); fits = omega arith }
+module _ (xs : List Mod) (i : ℕ) where
+  whole : Length (length xs) xs (length xs)
+  whole = record { is = refl; fits = omega arith }
 
-  here : i < n → (g : Mod) → g ≡ group_in (get_or xs i 0) → g ≡ get_or (groups_in n xs) i no_group
-  unfolding groups_in group_in
-  here h g e = e ∙ (ap group_in (sym (get_or-take n xs i 0 h)) ∙ sym (get_or-map group_in (take n xs) i 0))
+  module _ (g : Mod) (e : g ≡ get_or xs i no_group) (h : i < length xs) where
+    module _ (l : List Mod) where
+      pub located-pass : l ++ located (drop i xs) ≡ located xs → g.pos ≡ 0 → l ++ located (drop (i + 1) xs) ≡ located xs
+      unfolding located
+      located-pass v z = only-skip (λ g. not (eqb g.pos 0)) (length xs) xs (length xs) i no_group g l whole v h e (rw (eq-eqb g.pos 0 z))
 
-  module _ (l : List Mod) (g : Mod) (e : g ≡ group_in (get_or xs i 0)) (h : i < n) where
-    pub located-pass : l ++ located (drop i (groups_in n xs)) ≡ located (groups_in n xs) → g.pos ≡ 0 → l ++ located (drop (i + 1) (groups_in n xs)) ≡ located (groups_in n xs)
+      pub floating-pass : l ++ unlocated (drop i xs) ≡ unlocated xs → (g.pos ≡ 0 → ⊥) → l ++ unlocated (drop (i + 1) xs) ≡ unlocated xs
+      unfolding unlocated
+      floating-pass v z = only-skip (λ g. eqb g.pos 0) (length xs) xs (length xs) i no_group g l whole v h e (ne_eqb g.pos 0 z)
+
+    module _ (ys : List Mod) (j : ℕ) (s : length ys ≡ 18) (k : length xs ≤ 16) (b : j ≤ i) where
+      pub located-put : groups_in j ys ++ located (drop i xs) ≡ located xs → (g.pos ≡ 0 → ⊥) → groups_in (j + 1) (set ys j g) ++ located (drop (i + 1) xs) ≡ located xs
+      unfolding located
+      located-put v z =
+          only-keep (λ g. not (eqb g.pos 0)) (length xs) xs (length xs) i no_group g (groups_in j ys) whole v h e (groups_in (j + 1) (set ys j g)) (rw (ne_eqb g.pos 0 z)) (more ys j g (omega arith))
+
+      pub floating-put : groups_in j ys ++ unlocated (drop i xs) ≡ unlocated xs → g.pos ≡ 0 → groups_in (j + 1) (set ys j g) ++ unlocated (drop (i + 1) xs) ≡ unlocated xs
+      unfolding unlocated
+      floating-put v z =
+          only-keep (λ g. eqb g.pos 0) (length xs) xs (length xs) i no_group g (groups_in j ys) whole v h e (groups_in (j + 1) (set ys j g)) (eq-eqb g.pos 0 z) (more ys j g (omega arith))
+
+  module _ (ys : List Mod) (j : ℕ) (h : length xs ≤ i) where
+    pub located_end : j ≤ i → i ≤ length xs → length xs ≤ 16 → length ys ≡ 18 → groups_in j ys ++ located (drop i xs) ≡ located xs → Parts (located xs) j ys
     unfolding located
-    located-pass v z = only-skip (λ g. not (eqb g.pos 0)) n (groups_in n xs) n i no_group g l whole v h (here h g e) (rw (eq-eqb g.pos 0 z))
-
-    pub floating-pass : l ++ unlocated (drop i (groups_in n xs)) ≡ unlocated (groups_in n xs) → (g.pos ≡ 0 → ⊥) → l ++ unlocated (drop (i + 1) (groups_in n xs)) ≡ unlocated (groups_in n xs)
-    unfolding unlocated
-    floating-pass v z = only-skip (λ g. eqb g.pos 0) n (groups_in n xs) n i no_group g l whole v h (here h g e) (ne_eqb g.pos 0 z)
-
-  module _ (ys : List ℕ) (j : ℕ) (s : length ys ≡ 18) (k : n ≤ 16) (b : j ≤ i) (g : Mod) (e : g ≡ group_in (get_or xs i 0)) (h : i < n) where
-    put : groups_in (j + 1) (set ys j (get_or xs i 0)) ≡ groups_in j ys ++ (g ∷ [])
-    unfolding groups_in
-    put = more group_in ys j (get_or xs i 0) (omega arith) ∙ rw e
-
-    pub located-put : groups_in j ys ++ located (drop i (groups_in n xs)) ≡ located (groups_in n xs) → (g.pos ≡ 0 → ⊥)
-        → groups_in (j + 1) (set ys j (get_or xs i 0)) ++ located (drop (i + 1) (groups_in n xs)) ≡ located (groups_in n xs)
-    unfolding located
-    located-put v z =
-        only-keep (λ g. not (eqb g.pos 0)) n (groups_in n xs) n i no_group g (groups_in j ys) whole v h (here h g e) (groups_in (j + 1) (set ys j (get_or xs i 0))) (rw (ne_eqb g.pos 0 z)) put
-
-    pub floating-put : groups_in j ys ++ unlocated (drop i (groups_in n xs)) ≡ unlocated (groups_in n xs) → g.pos ≡ 0
-        → groups_in (j + 1) (set ys j (get_or xs i 0)) ++ unlocated (drop (i + 1) (groups_in n xs)) ≡ unlocated (groups_in n xs)
-    unfolding unlocated
-    floating-put v z =
-        only-keep (λ g. eqb g.pos 0) n (groups_in n xs) n i no_group g (groups_in j ys) whole v h (here h g e) (groups_in (j + 1) (set ys j (get_or xs i 0))) (eq-eqb g.pos 0 z) put
-
-  module _ (ys : List ℕ) (j : ℕ) (h : n ≤ i) where
-    pub located_end : j ≤ i → i ≤ n → n ≤ 16 → length ys ≡ 18 → groups_in j ys ++ located (drop i (groups_in n xs)) ≡ located (groups_in n xs) → Parts (located (groups_in n xs)) j ys
-    unfolding located groups_in
     located_end b t k s v =
-        let e : groups_in j ys ≡ located (groups_in n xs) = only-all (λ g. not (eqb g.pos 0)) n (groups_in n xs) n i (groups_in j ys) whole v h in
-        record { groups = e; many = omega (arith, ap length e, length-map (take j ys) group_in, length-take j ys) }
+        let e : groups_in j ys ≡ located xs = only-all (λ g. not (eqb g.pos 0)) (length xs) xs (length xs) i (groups_in j ys) whole v h in
+        record { groups = e; many = omega (arith, ap length e, length-take j ys) }
 
-    pub floating-end : groups_in j ys ++ unlocated (drop i (groups_in n xs)) ≡ unlocated (groups_in n xs) → groups_in j ys ≡ unlocated (groups_in n xs)
+    pub floating-end : groups_in j ys ++ unlocated (drop i xs) ≡ unlocated xs → groups_in j ys ≡ unlocated xs
     unfolding unlocated
-    floating-end v = only-all (λ g. eqb g.pos 0) n (groups_in n xs) n i (groups_in j ys) whole v h
+    floating-end v = only-all (λ g. eqb g.pos 0) (length xs) xs (length xs) i (groups_in j ys) whole v h
 
-pub located-first : (ys : List ℕ) (l : List Mod) → groups_in 0 ys ++ located (drop 0 l) ≡ located l
-unfolding groups_in
-located-first ys l = refl
-
-pub floating-first : (ys : List ℕ) (l : List Mod) → groups_in 0 ys ++ unlocated (drop 0 l) ≡ unlocated l
-unfolding groups_in
-floating-first ys l = refl
+pub counted-few : (n : ℕ) (xs : List Mod) → n ≤ 16 → length (groups_in n xs) ≤ 16
+counted-few n xs h = omega (arith, length-take n xs)
 
 -- where all have a position none is without
 located-all : (l : List Mod) → length (located l) ≡ length l → unlocated l ≡ []
@@ -227,60 +194,44 @@ located-all (g ∷ l) e = go (eqb g.pos 0) e (located-all l)
     go true f k = absurd (omega (arith, length-only (λ g. not (eqb g.pos 0)) l))
     go false f k = k (omega arith)
 
-pub none_left : (xs ys : List ℕ) (n k : ℕ) → n ≤ length xs → k ≡ length (located (groups_in n xs)) → k ≡ n → groups_in 0 ys ≡ unlocated (groups_in n xs)
-unfolding groups_in
-none_left xs ys n k f e h = sym (located-all (groups_in n xs) (omega (arith, length-map (take n xs) group_in, length-take n xs)))
+pub none_left : (xs ys : List Mod) (n k : ℕ) → n ≤ length xs → k ≡ length (located (groups_in n xs)) → k ≡ n → groups_in 0 ys ≡ unlocated (groups_in n xs)
+none_left xs ys n k f e h = sym (located-all (groups_in n xs) (omega (arith, length-take n xs)))
 
 -- ---- one group more in a list
 
-module _ (xs : List ℕ) (n : ℕ) (s : length xs ≡ 18) where
-  pub one_more : (g : Mod) (v : ℕ) → group_in v ≡ g → n < 18 → More (g ∷ []) n xs (n + 1) (set xs n v)
-  unfolding groups_in
-  one_more g v e h =
-      record {
-        groups = more group_in xs n v (omega arith)
-            ∙ rw e (sym (take_all 18 (map group_in (take n xs) ++ (g ∷ [])) (omega (arith, length-append (map group_in (take n xs)) (g ∷ []), length-map (take n xs) group_in, length-take n xs))));
-        kept = take-set-le n xs n v (omega arith);
-      }
+module _ (xs : List Mod) (n : ℕ) (s : length xs ≡ 18) where
+  pub one_more : (g : Mod) → n < 18 → More (g ∷ []) n xs (n + 1) (set xs n g)
+  one_more g h = record { groups = held_more xs n 18 s g h; kept = take-set-le n xs n g (omega arith) }
 
   pub one-full : (g : Mod) → 18 ≤ n → More (g ∷ []) n xs n xs
-  unfolding groups_in
-  one-full g h =
-      let z : length (groups_in n xs) ≡ 18 = omega (arith, length-map (take n xs) group_in, length-take n xs) in
-      record { groups = sym (take-append-le 18 (groups_in n xs) (g ∷ []) (omega arith) ∙ take_all 18 (groups_in n xs) (omega arith)); kept = refl }
+  one-full g h = record { groups = held-full xs n 18 s g h; kept = refl }
 
   -- no more than there is room for
   groups-fit : length (groups_in n xs) ≤ 18
-  unfolding groups_in
-  groups-fit = omega (arith, length-map (take n xs) group_in, length-take n xs)
+  groups-fit = omega (arith, length-take n xs)
 
   pub oxygen-none : (w : ℕ) (p : ℕ) (t : Bool) → t ≡ any_of (group_at p) (groups_in w xs) → t ≡ true → More (oxygen_at p (groups_in w xs)) n xs n xs
   unfolding oxygen_at
   oxygen-none w p t e f = record { groups = rw (sym e ∙ f, append-nil (groups_in n xs)) (sym (take_all 18 (groups_in n xs) groups-fit)); kept = refl }
 
-  pub oxygen-one : (w m : ℕ) (ys : List ℕ) (p : ℕ) (t : Bool) → t ≡ any_of (group_at p) (groups_in w xs) → t ≡ false → More (record { pos = p; row = 11 } ∷ []) n xs m ys
+  pub oxygen-one : (w m : ℕ) (ys : List Mod) (p : ℕ) (t : Bool) → t ≡ any_of (group_at p) (groups_in w xs) → t ≡ false → More (record { pos = p; row = 11 } ∷ []) n xs m ys
       → More (oxygen_at p (groups_in w xs)) n xs m ys
   unfolding oxygen_at
   oxygen-one w m ys p t e f h = rw (sym e ∙ f) h
 
 -- ---- the groups on the chain
 
-kept-groups : (xs ys : List ℕ) (n : ℕ) → take n ys ≡ take n xs → groups_in n ys ≡ groups_in n xs
-unfolding groups_in
-kept-groups xs ys n e = ap (map group_in) e
-
-module _ (p : ChainPrefix) (xs ys : List ℕ) (n k : ℕ) (d : More (oxygen_at 3 (groups_in n xs)) n xs k ys) where
+module _ (p : ChainPrefix) (xs ys : List Mod) (n k : ℕ) (d : More (oxygen_at 3 (groups_in n xs)) n xs k ys) where
   -- an O at 3 alone, where the prefix is not t
   pub diol-groups : (q : ChainPrefix) → ((gs : List Mod) → triol_oxygen q gs ≡ []) → p ≡ q → groups_in k ys ≡ take 18 (groups_in n xs ++ base_oxygens Base p (groups_in n xs))
   unfolding base_oxygens
   diol-groups q z h = rw (h, z (groups_in n xs), append-nil (oxygen_at 3 (groups_in n xs))) d.groups
 
   -- and at 4, where it is
-  pub triol-groups : (m : ℕ) (zs : List ℕ) → p ≡ prefix.SphingoidT → More (oxygen_at 4 (groups_in n ys)) k ys m zs → groups_in m zs ≡ take 18 (groups_in n xs ++ base_oxygens Base p (groups_in n xs))
+  pub triol-groups : (m : ℕ) (zs : List Mod) → p ≡ prefix.SphingoidT → More (oxygen_at 4 (groups_in n ys)) k ys m zs → groups_in m zs ≡ take 18 (groups_in n xs ++ base_oxygens Base p (groups_in n xs))
   unfolding base_oxygens triol_oxygen
   triol-groups m zs h e =
-      let same : groups_in n ys ≡ groups_in n xs = kept-groups xs ys n d.kept in
-      let f : groups_in m zs ≡ take 18 (groups_in k ys ++ oxygen_at 4 (groups_in n xs)) = rw same at e.groups in
+      let f : groups_in m zs ≡ take 18 (groups_in k ys ++ oxygen_at 4 (groups_in n xs)) = rw d.kept at e.groups in
       f ∙ rw (d.groups, h, take-front 18 (groups_in n xs ++ oxygen_at 3 (groups_in n xs)) (oxygen_at 4 (groups_in n xs)), append_assoc)
 
 pub no-triol-acyl : (gs : List Mod) → triol_oxygen prefix.Acyl gs ≡ []
@@ -300,11 +251,11 @@ unfolding triol_oxygen
 no-triol-diol gs = refl
 
 -- a chain that is no base has no O's of its own
-pub plain-groups : (p : ChainPrefix) (n : ℕ) (xs : List ℕ) (w : List Mod) → length xs ≡ 18 → groups_in n xs ≡ w → groups_in n xs ≡ take 18 (w ++ base_oxygens Slot p w)
+pub plain-groups : (p : ChainPrefix) (n : ℕ) (xs w : List Mod) → length w ≤ 18 → groups_in n xs ≡ w → groups_in n xs ≡ take 18 (w ++ base_oxygens Slot p w)
 unfolding base_oxygens
-plain-groups p n xs w l e = rw (← e, append-nil (groups_in n xs)) (sym (take_all 18 (groups_in n xs) (groups-fit xs n l)))
+plain-groups p n xs w l e = e ∙ rw (append-nil w) (sym (take_all 18 w l))
 
-pub base-drawn : (p : ChainPrefix) (n m : ℕ) (xs ys : List ℕ) (w : List Mod) → Parts w n xs → groups_in m ys ≡ take 18 (groups_in n xs ++ base_oxygens Base p (groups_in n xs))
+pub base-drawn : (p : ChainPrefix) (n m : ℕ) (xs ys w : List Mod) → Parts w n xs → groups_in m ys ≡ take 18 (groups_in n xs ++ base_oxygens Base p (groups_in n xs))
     → groups_in m ys ≡ take 18 (w ++ base_oxygens Base p w)
 base-drawn p n m xs ys w e f = rw (← e.groups) f
 
@@ -332,32 +283,30 @@ base_short Slot p gs = omega arith
 base_short Acyl p gs = omega arith
 base_short Base p gs = omega (arith, oxygen-short 3 gs, triol-short p gs, length-append (oxygen_at 3 gs) (triol_oxygen p gs))
 
-located-short : (c : ParsedChain) → length (located (chain_of c).groups) ≤ 16
-unfolding located chain_of groups_in
-located-short c =
-    omega
-    (arith, length-only (λ g. not (eqb g.pos 0)) (chain_of c).groups, length-map (take (min c.group_count max_groups) c.groups) group_in, length-take (min c.group_count max_groups) c.groups)
+-- no more groups have a position than are counted
+pub located-short : (xs : List Mod) (n m : ℕ) → n ≡ min m 16 → length (located (groups_in n xs)) ≤ 16
+unfolding located
+located-short xs n m e = omega (arith, length-only (λ g. not (eqb g.pos 0)) (groups_in n xs), length-take n xs)
 
-pub bonds-drawn : (r : Role) (c : ParsedChain) (k n : ℕ) (ys : List ℕ) → k ≡ length (alkenyl_bond r c.prefix) → n ≡ min c.bond_count 32
-    → bonds_in (k + n) ys ≡ take k (alkenyl ∷ []) ++ bonds_in n c.bonds → bonds_in (k + n) ys ≡ doubles r (chain_of c)
-unfolding doubles chain_of
-bonds-drawn r c k n ys e f h = h ∙ rw (e, alkenyl-front r c.prefix, f)
+pub bonds-drawn : (r : Role) (d : Chain) (p : Pieces) (k n : ℕ) (ys : List DbPos) → k ≡ length (alkenyl_bond r p.prefix) → n ≡ min p.bond_count 32
+    → bonds_in (k + n) ys ≡ take k (alkenyl ∷ []) ++ bonds_in n p.bonds → bonds_in (k + n) ys ≡ doubles r (pieces_as d p)
+unfolding doubles
+bonds-drawn r d p k n ys e f h = h ∙ rw (e, alkenyl-front r p.prefix, f)
 
 pub adds_fit : (r : Role) (p : ChainPrefix) (k m n : ℕ) → k ≡ length (alkenyl_bond r p) → n ≡ min m 32 → k + n < 2 ^ 64
 adds_fit r p k m n e f = omega (arith, adds-few r p k e)
 
-pub groups-drawn : (r : Role) (c : ParsedChain) (n : ℕ) (k m : List Mod) → n ≡ min c.group_count 16 → k ≡ located (groups_in n c.groups) → m ≡ take 18 (k ++ base_oxygens r c.prefix k)
-    → m ≡ groups_on r (chain_of c)
-unfolding groups_on chain_of
-groups-drawn r c n k m e i h =
-    let g : k ≡ located (chain_of c).groups = rw e at i in
+pub groups-drawn : (r : Role) (d : Chain) (p : Pieces) (n : ℕ) (k m : List Mod) → n ≡ min p.group_count 16 → k ≡ located (groups_in n p.groups)
+    → m ≡ take 18 (k ++ base_oxygens r p.prefix k) → m ≡ groups_on r (pieces_as d p)
+unfolding groups_on
+groups-drawn r d p n k m e i h =
+    let g : k ≡ located (pieces_as d p).groups = rw e at i in
     h
-    ∙ rw g (take_all 18 _ (omega (arith, length-append (located (chain_of c).groups) (base_oxygens r c.prefix (located (chain_of c).groups)), located-short c, base_short r c.prefix (located (chain_of c).groups))))
+    ∙ rw g (take_all 18 _ (omega (arith, length-append (located (pieces_as d p).groups) (base_oxygens r p.prefix (located (pieces_as d p).groups)), located-short p.groups (min p.group_count max_groups) p.group_count refl, base_short r p.prefix (located (pieces_as d p).groups))))
 
-pub floats-drawn : (c : ParsedChain) (n : ℕ) (m : List Mod) → n ≡ min c.group_count 16 → m ≡ unlocated (groups_in n c.groups) → m ≡ floating (chain_of c)
-unfolding floating chain_of
-floats-drawn c n m e i = rw e at i
+pub floats-drawn : (d : Chain) (p : Pieces) (n : ℕ) (m : List Mod) → n ≡ min p.group_count 16 → m ≡ unlocated (groups_in n p.groups) → m ≡ floating (pieces_as d p)
+unfolding floating
+floats-drawn d p n m e i = rw e at i
 
-pub rings-drawn : (c : ParsedChain) (n : ℕ) → n ≡ min c.ring_count 8 → rings_in n c.rings ≡ (chain_of c).rings
-unfolding chain_of
-rings-drawn c n e = rw e
+pub rings-drawn : (d : Chain) (p : Pieces) (n : ℕ) → n ≡ min p.ring_count 8 → rings_in n p.rings ≡ (pieces_as d p).rings
+rings-drawn d p n e = rw e

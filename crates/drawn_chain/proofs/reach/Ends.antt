@@ -3,43 +3,15 @@
 use Prim.Native.Nat.{ℕ, suc, ◌+◌, ◌-◌, ◌*◌, ◌<◌, ◌≤◌, min}
 use native.Mathlib.Omega.{arith}
 use mathlib.Core.Path.{◌≡◌, refl, sym, ◌∙◌}
-use mathlib.Core.List.{List, [], ◌∷◌, ◌++◌, map}
+use mathlib.Core.List.{◌++◌, map}
 use borrow.Author.Tests.{eq-eqb, ne_eqb}
 use Rattle.chain_record.specs.plain.Chain.{Chain}
 use Rattle.chain_rules.specs.declared.chain.Role.{Role}
 use Rattle.chain_rules.specs.chain.Lists.{largest}
 use Rattle.chain_rules.specs.chain.Features.{first_drawn, prefix_end, literal_end, remaining, flexible_count, drawn_count}
-use Rattle.drawn_chain.specs.declared.drawable.Shape.{Shape}
-use Rattle.drawn_chain.specs.drawable.Drawn.{Drawn, bonds_in, groups_in, rings_in, bonds_part, groups_part, rings_part, drawn_of, bonds_drawn, groups_drawn, rings_drawn, group_pin, Draws, Says, SaysUpTo}
+use Rattle.drawn_chain.specs.drawable.Drawn.{Drawn, bonds_drawn, groups_drawn, rings_drawn, group_pin, Draws, Says, SaysUpTo}
 use Rattle.drawn_chain.specs.reach.Reach.{bond_reach, ring_reach, Flexible}
 use Rattle.drawn_chain.proofs.drawable.Lists.{largest-append}
-
--- ---- the lists that stand in the part of a chain
-
-groups_none : (l : List ℕ) → groups_in 0 l ≡ []
-unfolding groups_in
-groups_none [] = refl
-groups_none (n ∷ l) = refl
-
-rings-none : (l : List ℕ) → rings_in 0 l ≡ []
-unfolding rings_in
-rings-none [] = refl
-rings-none (n ∷ l) = refl
-
-module _ (l : List ℕ) (n m : ℕ) where
-  pub located-none : n ≡ 0 → m ≡ largest m (map group_pin (groups_in n (groups_part l)))
-  unfolding largest
-  located-none e = rw (e, groups_none (groups_part l))
-
-  pub located-some : {r : ℕ} {gs : List ℕ} → gs ≡ groups_part l → r ≡ largest m (map group_pin (groups_in n gs)) → r ≡ largest m (map group_pin (groups_in n (groups_part l)))
-  located-some e f = rw e at f
-
-  pub closed_none : n ≡ 0 → m ≡ largest m (map ring_reach (rings_in n (rings_part l)))
-  unfolding largest
-  closed_none e = rw (e, rings-none (rings_part l))
-
-  pub closed_some : {r : ℕ} {rs : List ℕ} → rs ≡ rings_part l → r ≡ largest m (map ring_reach (rings_in n rs)) → r ≡ largest m (map ring_reach (rings_in n (rings_part l)))
-  closed_some e f = rw e at f
 
 -- ---- the literal prefix
 
@@ -50,20 +22,11 @@ module _ (x : Drawn) (b g e : ℕ) (e₁ : b ≡ largest x.first (map bond_reach
   end-as r d w =
       rw (← w.first, ← w.carbon, ← w.bonds, ← w.groups, ← w.rings, largest-append x.first (map bond_reach (bonds_drawn x)) (map group_pin (groups_drawn x) ++ map ring_reach (rings_drawn x)), largest-append (largest x.first (map bond_reach (bonds_drawn x))) (map group_pin (groups_drawn x)) (map ring_reach (rings_drawn x)), ← e₁, ← e₂, ← e₃)
 
-  inside : e < x.carbon → SaysUpTo x e prefix_end
-  inside h = record { says = record { is = λ r d w. omega (arith, end-as r d w) }; fits = omega arith }
+  pub prefix-inside : e < x.carbon → SaysUpTo x e prefix_end
+  prefix-inside h = record { says = record { is = λ r d w. omega (arith, end-as r d w) }; fits = omega arith }
 
-  whole : x.carbon ≤ e → SaysUpTo x x.carbon prefix_end
-  whole h = record { says = record { is = λ r d w. omega (arith, end-as r d w) }; fits = omega arith }
-
--- the same where the lists stand in the part of a chain
-module _ (x : Shape) (l bs : List ℕ) (b g e : ℕ) (p₁ : bs ≡ bonds_part l) (e₁ : b ≡ largest x.first (map bond_reach (bonds_in x.bond_count bs)))
-    (e₂ : g ≡ largest b (map group_pin (groups_in x.group_count (groups_part l)))) (e₃ : e ≡ largest g (map ring_reach (rings_in x.ring_count (rings_part l)))) where
-  pub prefix-inside : e < x.carbon → SaysUpTo (drawn_of x l) e prefix_end
-  prefix-inside = inside (drawn_of x l) b g e (rw p₁ at e₁) e₂ e₃
-
-  pub prefix-whole : x.carbon ≤ e → SaysUpTo (drawn_of x l) x.carbon prefix_end
-  prefix-whole = whole (drawn_of x l) b g e (rw p₁ at e₁) e₂ e₃
+  pub prefix-whole : x.carbon ≤ e → SaysUpTo x x.carbon prefix_end
+  prefix-whole h = record { says = record { is = λ r d w. omega (arith, end-as r d w) }; fits = omega arith }
 
 pub rest-is : (x : Drawn) (e : ℕ) → SaysUpTo x e prefix_end → Says x (x.carbon - e) remaining
 unfolding remaining

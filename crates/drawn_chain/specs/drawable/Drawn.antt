@@ -11,18 +11,18 @@ use Rattle.chain_record.specs.declared.parsed.ParsedChain.{ParsedChain}
 use Rattle.chain_rules.specs.declared.chain.Role.{Role}
 use Rattle.chain_rules.specs.chain.Features.{first_drawn, is_acyl, doubles, groups_on, floating}
 use Rattle.chain_rules.specs.chain.Refusals.{is_ether_base}
-unfoldable pub use Rattle.drawn_chain.specs.rooms.Ranges.{bonds_part, groups_part, floats_part, rings_part}
 use Rattle.drawn_chain.specs.declared.drawable.Shape.{Shape}
+use Rattle.drawn_chain.specs.declared.rooms.Lists.{Lists}
 
--- what an array of numbers with a count holds
-unfoldable pub bonds_in : ℕ → List ℕ → List DbPos
-bonds_in n xs = map bond_in (take n xs)
+-- what an array with a count holds
+abbrev pub bonds_in : ℕ → List DbPos → List DbPos
+bonds_in n xs = take n xs
 
-unfoldable pub groups_in : ℕ → List ℕ → List Mod
-groups_in n xs = map group_in (take n xs)
+abbrev pub groups_in : ℕ → List Mod → List Mod
+groups_in n xs = take n xs
 
-unfoldable pub rings_in : ℕ → List ℕ → List Ring
-rings_in n xs = map ring_in (take n xs)
+abbrev pub rings_in : ℕ → List Ring → List Ring
+rings_in n xs = take n xs
 
 -- what stands past the last element
 abbrev pub no_bond : DbPos
@@ -50,11 +50,11 @@ group_pin g = g.pos
 -- the chain that a record of the code holds, a count past its limit counting as the limit
 unfoldable pub chain_of : ParsedChain → Chain
 chain_of c =
-    record { prefix = c.prefix; written = c.written; carbon = c.carbon; branched = c.branched; unlocated = c.unlocated; oxygens = c.oxygens; bonds = bonds_in (min c.bond_count max_bonds) c.bonds; groups = groups_in (min c.group_count max_groups) c.groups; rings = rings_in (min c.ring_count max_rings) c.rings }
+    record { prefix = c.prefix; written = c.written; carbon = c.carbon; branched = c.branched; unlocated = c.unlocated; oxygens = c.oxygens; bonds = map bond_in (take (min c.bond_count max_bonds) c.bonds); groups = map group_in (take (min c.group_count max_groups) c.groups); rings = map ring_in (take (min c.ring_count max_rings) c.rings) }
 
 -- ---- a chain as it is drawn
 
--- its numbers, and its lists as numbers
+-- its numbers, and its lists
 pub record Drawn : Type 0 where
   pub first : ℕ
   pub carbon : ℕ
@@ -65,15 +65,15 @@ pub record Drawn : Type 0 where
   pub group_count : ℕ
   pub float_count : ℕ
   pub ring_count : ℕ
-  pub bonds : List ℕ
-  pub groups : List ℕ
-  pub floats : List ℕ
-  pub rings : List ℕ
+  pub bonds : List DbPos
+  pub groups : List Mod
+  pub floats : List Mod
+  pub rings : List Ring
 
--- the drawn chain that numbers of the code and a part say
-abbrev pub drawn_of : Shape → List ℕ → Drawn
+-- the drawn chain that numbers and lists of the code say
+abbrev pub drawn_of : Shape → Lists → Drawn
 drawn_of x l =
-    record { first = x.first; carbon = x.carbon; acyl = x.acyl; ether_base = x.ether_base; unlocated = x.unlocated; bond_count = x.bond_count; group_count = x.group_count; float_count = x.float_count; ring_count = x.ring_count; bonds = bonds_part l; groups = groups_part l; floats = floats_part l; rings = rings_part l }
+    record { first = x.first; carbon = x.carbon; acyl = x.acyl; ether_base = x.ether_base; unlocated = x.unlocated; bond_count = x.bond_count; group_count = x.group_count; float_count = x.float_count; ring_count = x.ring_count; bonds = l.bonds; groups = l.groups; floats = l.floats; rings = l.rings }
 
 -- the lists of a drawn chain
 abbrev pub bonds_drawn : Drawn → List DbPos

@@ -1,12 +1,13 @@
 -- What the contracts of `fitted` cite, beside the definitions of `chain_rules::chain` and `drawable`. Assumes nothing.
-use Rattle.std.specs.Prelude.{ℕ, ◌≡◌, List, ◌++◌, length, take}
+use Rattle.std.specs.Prelude.{ℕ, ◌≡◌, List, ◌++◌, length, take, min}
 use Rattle.chain_record.specs.declared.plain.ChainPrefix.{ChainPrefix}
 use Rattle.chain_record.specs.declared.plain.Geometry.TheVariants.{Unstated}
 use Rattle.chain_record.specs.declared.plain.DbPos.{DbPos}
 use Rattle.chain_record.specs.declared.plain.Mod.{Mod}
-use Rattle.chain_record.specs.declared.parsed.ParsedChain.{ParsedChain}
+use Rattle.chain_record.specs.declared.plain.Ring.{Ring}
+use Rattle.chain_record.specs.plain.Chain.{Chain, max_bonds, max_groups, max_rings}
 use Rattle.chain_rules.specs.declared.chain.Role.{Role}
-use Rattle.drawn_chain.specs.drawable.Drawn.{Drawn, groups_in, chain_of, Draws}
+use Rattle.drawn_chain.specs.drawable.Drawn.{Drawn, bonds_in, groups_in, rings_in, Draws}
 
 -- 01, 31: 16 groups, and a base's own O's
 abbrev pub group_room : ℕ
@@ -17,35 +18,35 @@ abbrev pub alkenyl : DbPos
 alkenyl = record { pos = 1; geom = Unstated }
 
 -- the array ys holds the groups of l, and m is how many they are
-pub record Parts (l : List Mod) (m : ℕ) (ys : List ℕ) : Type 0 where
+pub record Parts (l : List Mod) (m : ℕ) (ys : List Mod) : Type 0 where
   pub groups : groups_in m ys ≡ l
   pub many : m ≡ length l
 
 -- the array ys holds m groups: the n of xs and then those of l, as far as there is room; those of xs stand where they stood
-pub record More (l : List Mod) (n : ℕ) (xs : List ℕ) (m : ℕ) (ys : List ℕ) : Type 0 where
+pub record More (l : List Mod) (n : ℕ) (xs : List Mod) (m : ℕ) (ys : List Mod) : Type 0 where
   pub groups : groups_in m ys ≡ take group_room (groups_in n xs ++ l)
   pub kept : take n ys ≡ take n xs
 
--- what a token says of a chain as far as it is drawn: its lists are arrays of numbers, each with a count
+-- what a token says of a chain as far as it is drawn: its lists are arrays, each with a count
 pub record Pieces : Type 0 where
   pub prefix : ChainPrefix
   pub carbon : ℕ
   pub unlocated : ℕ
   pub bond_count : ℕ
-  pub bonds : List ℕ
+  pub bonds : List DbPos
   pub group_count : ℕ
-  pub groups : List ℕ
+  pub groups : List Mod
   pub ring_count : ℕ
-  pub rings : List ℕ
+  pub rings : List Ring
 
-abbrev pub pieces : ChainPrefix → ℕ → ℕ → ℕ → List ℕ → ℕ → List ℕ → ℕ → List ℕ → Pieces
+abbrev pub pieces : ChainPrefix → ℕ → ℕ → ℕ → List DbPos → ℕ → List Mod → ℕ → List Ring → Pieces
 pieces p c u nb bs ng gs nr rs = record { prefix = p; carbon = c; unlocated = u; bond_count = nb; bonds = bs; group_count = ng; groups = gs; ring_count = nr; rings = rs }
 
--- a record x with these pieces: what is not drawn of it is its own
-abbrev pub pieces_as : ParsedChain → Pieces → ParsedChain
-pieces_as x p =
-    record { prefix = p.prefix; written = x.written; carbon = p.carbon; branched = x.branched; unlocated = p.unlocated; oxygens = x.oxygens; bond_count = p.bond_count; bonds = p.bonds; group_count = p.group_count; groups = p.groups; ring_count = p.ring_count; rings = p.rings }
+-- a chain d with these pieces, a count past its limit counting as the limit: what is not drawn of it is its own
+abbrev pub pieces_as : Chain → Pieces → Chain
+pieces_as d p =
+    record { prefix = p.prefix; written = d.written; carbon = p.carbon; branched = d.branched; unlocated = p.unlocated; oxygens = d.oxygens; bonds = bonds_in (min p.bond_count max_bonds) p.bonds; groups = groups_in (min p.group_count max_groups) p.groups; rings = rings_in (min p.ring_count max_rings) p.rings }
 
--- x is what is drawn, where it stands as r, of every chain whose record has the pieces p
+-- x is what is drawn, where it stands as r, of every chain that has the pieces p
 pub record Fits (r : Role) (p : Pieces) (x : Drawn) : Type 0 where
-  pub draws : (c : ParsedChain) → Draws r (chain_of (pieces_as c p)) x
+  pub draws : (d : Chain) → Draws r (pieces_as d p) x

@@ -1,20 +1,8 @@
--- Where the lists of a chain stand in its part, and where its part stands among those of a request: what the contracts of `rooms` cite.
--- Assumes nothing.
-use Rattle.std.specs.Prelude.{ℕ, ◌-◌, ◌*◌, List, take, drop}
+-- Which lists stand for a chain among those of a request: what the contract of `rooms` cites. Assumes nothing.
+use Rattle.std.specs.Prelude.{ℕ, ◌-◌, List, get_or}
+use Rattle.drawn_chain.specs.declared.rooms.Lists.{Lists}
+use Rattle.drawn_chain.specs.declared.rooms.TheConstants.{NO_LISTS}
 
--- the rooms of the lists in the part of a chain
-unfoldable pub bonds_part : List ℕ → List ℕ
-bonds_part l = take 33 l
-
-unfoldable pub groups_part : List ℕ → List ℕ
-groups_part l = take 18 (drop 33 l)
-
-unfoldable pub floats_part : List ℕ → List ℕ
-floats_part l = take 18 (drop 51 l)
-
-unfoldable pub rings_part : List ℕ → List ℕ
-rings_part l = take 8 (drop 69 l)
-
--- the part of the chain with an sn
-unfoldable pub part_of : ℕ → List ℕ → List ℕ
-part_of sn l = take 77 (drop (77 * (sn - 1)) l)
+-- the lists of the chain with an sn; past the last, those in which nothing stands
+abbrev pub part_of : ℕ → List Lists → Lists
+part_of sn l = get_or l (sn - 1) NO_LISTS

@@ -10,12 +10,11 @@ use Rattle.writer.proofs.emit.Laws.{written-nil, written-append, written-length}
 use Rattle.chain_rules.specs.declared.chain.Role.{Role}
 use Rattle.chain_rules.specs.declared.chain.Role.TheVariants.{Slot, Acyl, Base}
 use Rattle.chain_rules.specs.chain.Drawing.{carbon_atoms}
-use Rattle.drawn_chain.proofs.drawable.Parts.{groups-few}
 use Rattle.drawn_chain.specs.declared.drawable.Shape.{Shape}
-use Rattle.drawn_chain.specs.drawable.Drawn.{Drawn, DrawsSome, Length, no_group, groups_in, rings_in, groups_part, floats_part, rings_part, drawn_of}
+use Rattle.drawn_chain.specs.declared.rooms.Lists.{Lists}
+use Rattle.drawn_chain.specs.drawable.Drawn.{Drawn, DrawsSome, Length, no_group, groups_drawn, drawn_of}
 use Rattle.chain_record.specs.declared.plain.Mod.{Mod}
 use Rattle.carbons.specs.Tokens.{Rising, Grouped}
-use Rattle.carbons.proofs.Bare.{none-groups}
 use Rattle.carbons.proofs.Fronts.{next_of, none_left}
 use Rattle.carbons.proofs.Loads.{groups-held}
 use Rattle.chain_pieces.specs.branches.Text.{rows_in, RowsPut}
@@ -92,11 +91,6 @@ strand-laid {ρ} s i r =
 
 -- ---- a chain whose groups stand in the order of their carbons
 
-none-rings : (l : List ℕ) → rings_in 0 l ≡ []
-unfolding rings_in
-none-rings [] = refl
-none-rings (n ∷ l) = refl
-
 -- if the groups from the i-th on rise from k, all do
 pub record RiseLeft (f c : ℕ) (gs : List Mod) (k i : ℕ) : Type 0 where
   pub so : Rising k c (drop i gs) → Rising f c gs
@@ -111,8 +105,8 @@ module _ {room n f c : ℕ} {gs : List Mod} (s : Length room gs n) (k i : ℕ) (
   pub rise-end : n ≤ i → Rising f c gs
   rise-end h = w.so (rw (none_left s i h) tt)
 
-pub shape-grouped : (x : Shape) (l : List ℕ) {gs : List ℕ} → gs ≡ groups_part l → x.ring_count ≡ 0 → x.float_count ≡ 0 → x.unlocated ≡ 0 → (x.first ≡ 0 → ⊥) → x.first ≤ x.carbon → x.carbon < 96
-    → Rising x.first x.carbon (groups_in x.group_count gs) → GroupedShape x l
+pub shape-grouped : (x : Shape) (l : Lists) → length l.groups ≤ 18 → x.ring_count ≡ 0 → x.float_count ≡ 0 → x.unlocated ≡ 0 → (x.first ≡ 0 → ⊥) → x.first ≤ x.carbon → x.carbon < 96
+    → Rising x.first x.carbon (groups_drawn (drawn_of x l)) → GroupedShape x l
 shape-grouped x l e r f u n s h w =
     record {
       short = h;
@@ -122,10 +116,10 @@ shape-grouped x l e r f u n s h w =
             some = s;
             room = omega arith;
             unlocated = u;
-            groups = rw e at w;
-            few = groups-held x.group_count (groups_part l) (groups-few l);
-            floats = rw f (none-groups (floats_part l));
-            rings = rw r (none-rings (rings_part l));
+            groups = w;
+            few = groups-held x.group_count l.groups e;
+            floats = rw f;
+            rings = rw r;
           };
     }
 
@@ -140,13 +134,12 @@ grouped-laid s i r l = strand-laid (s l) i r
 -- ---- one that carries nothing
 
 -- no group of it floats, so that no row is written
-no_rows : (x : Shape) (l zs : List ℕ) (row : ℕ) → Grouped (drawn_of x l) → row < 2 ^ 64 → RowsPut (drawn_of x l) zs row zs row
+no_rows : (x : Shape) (l : Lists) (zs : List ℕ) (row : ℕ) → Grouped (drawn_of x l) → row < 2 ^ 64 → RowsPut (drawn_of x l) zs row zs row
 unfolding rows_in
 no_rows x l zs row e h =
-    let f : groups_in x.float_count (floats_part l) ≡ [] = e.floats in
-    rows-put x l refl (rw f (written-nil zs row h))
+    rows-put x l (rw e.floats (written-nil zs row h))
 
-pub bare-laid : {ρ : Role} {first at used row : ℕ} {xs ys xs' ys' : List ℕ} {p : ℕ} {n : ChainAtoms} (x : Shape) (part : List ℕ) → Grouped (drawn_of x part) → row < 2 ^ 64
+pub bare-laid : {ρ : Role} {first at used row : ℕ} {xs ys xs' ys' : List ℕ} {p : ℕ} {n : ChainAtoms} (x : Shape) (part : Lists) → Grouped (drawn_of x part) → row < 2 ^ 64
     → ((l : ℕ) → Segment (drawn_of x part) l xs at xs' p) → Indexed ρ first (drawn_of x part) ys used ys' n
     → (l : ℕ) (zs : List ℕ) → StrandOf ρ first l (drawn_of x part) (rooms xs ys zs) at used row (rooms xs' ys' zs) (record { at = p; used = n.at; rows = row; count = n.count; flexible = n.flexible; floats = n.floats; end = n.end })
 bare-laid {row = row} x part e h s i l zs = strand-laid (s l) i (no_rows x part zs row e h)

@@ -9,6 +9,7 @@ use Rattle.chain_rules.specs.declared.chain.Role.{Role}
 use Rattle.chain_rules.specs.chain.Features.{floating, drawn_count}
 use Rattle.chain_rules.specs.chain.Drawing.{chain_drawn, carbons, carbon_atoms, flexible_atom, atoms_end}
 use Rattle.drawn_chain.specs.declared.drawable.Shape.{Shape}
+use Rattle.drawn_chain.specs.declared.rooms.Lists.{Lists}
 use Rattle.drawn_chain.specs.drawable.Drawn.{Drawn, drawn_of, Draws}
 use Rattle.carbons.specs.Tokens.{Grouped}
 use Rattle.chain_pieces.specs.branches.Text.{rows_in}
@@ -74,6 +75,6 @@ pub record StrandOf (ρ : Role) (first l : ℕ) (x : Drawn) (xs : Rooms) (at use
   pub sizes : Sizes xs ys
 
 -- a chain with these numbers and lists is short, and its groups stand in the order of their carbons
-pub record GroupedShape (x : Shape) (l : List ℕ) : Type 0 where
+pub record GroupedShape (x : Shape) (l : Lists) : Type 0 where
   pub short : x.carbon < 96
   pub grouped : Grouped (drawn_of x l)

@@ -1,14 +1,6 @@
-use native.Mathlib.Omega.{arith}
-use lib.ListN.{length-set}
 use Rattle.drawn_chain.proofs.fitted.Drawing.{bonds-two, bonds-next, bonds-all}
 use borrow.Author.Rules.{rules}
 use Rattle.drawn_chain.proofs.fitted.double_bonds.Goals as goal
-
-pub bounds-bonds-added : goal.bounds-bonds-added
-bounds-bonds-added c = simp length-set (omega arith)
-
-pub bounds-bonds-added-2 : goal.bounds-bonds-added-2
-bounds-bonds-added-2 c = simp length-set (omega arith)
 
 pub loop-i-init : goal.loop-i-init
 loop-i-init c = (search bonds-two, search rules)
