@@ -52,9 +52,9 @@ module _ {A : Type 0} (v : Bool) (rel : A → A → Bool) (l : List A) (a : A) (
 -- ---- the largest of the elements' numbers and m
 
 module _ {A : Type 0} (v : ℕ) (f : A → ℕ) (l : List A) (i m : ℕ) (same : v ≡ largest m (map f (drop i l))) where
-  pub reach_next : (d a : A) (k : ℕ) → i < length l → a ≡ get_or l i d → k ≡ max m (f a) → v ≡ largest k (map f (drop (i + 1) l))
+  pub reach_next : (d : A) (k : ℕ) → i < length l → k ≡ max m (f (get_or l i d)) → v ≡ largest k (map f (drop (i + 1) l))
   unfolding largest
-  reach_next d a k h e g = same ∙ rw (left_here l i d a h e, g)
+  reach_next d k h g = same ∙ rw (left_here l i d (get_or l i d) h refl, g)
 
   pub reach_end : length l ≤ i → m ≡ v
   unfolding largest
