@@ -15,10 +15,11 @@ use Rattle.chain_record.specs.declared.plain.Geometry.TheVariants.{Unstated, Cis
 use Rattle.chain_record.specs.declared.plain.Bridge.TheVariants.{Epoxide, Carbocycle}
 use Rattle.chain_record.specs.declared.plain.DbPos.{DbPos}
 use Rattle.chain_record.specs.declared.plain.Ring.{Ring}
+use Rattle.chain_rules.specs.chain.Lists.{any_of}
 use Rattle.chain_rules.specs.chain.Bonds.{open_mark, opens_down, close_mark, close_byte, mark_bond, mark_from, geometry_at}
-use Rattle.drawn_chain.specs.drawable.Drawn.{Length, no_bond, no_ring}
+use Rattle.drawn_chain.specs.drawable.Drawn.{no_bond}
 use Rattle.carbons.specs.ByCarbon.{geometry_byte, geometry_of, double_at, bridge_at, ring_on, rises_from, SetWhere, Geometries, Marks}
-use Rattle.carbons.proofs.Fronts.{next_of, back_one, none_left}
+use Rattle.drawn_chain.proofs.drawable.Turns.{left_here, left-none}
 
 -- ---- a store
 
@@ -59,83 +60,59 @@ or_assoc true b c = refl
 or_assoc false b c = refl
 
 -- nothing is set before the loop: the list is gone through from its end
-module _ {room n : ℕ} (ks : List ℕ) where
-  pub doubles-none : {bs : List DbPos} → Length room bs n → SetWhere (double_at (drop n bs)) 61 ks ks
-  unfolding double_at
-  doubles-none s = where-none 61 ks (λ k. rw (none_left s n (omega arith)))
+module _ (ks : List ℕ) where
+  pub doubles-none : SetWhere (double_at []) 61 ks ks
+  unfolding double_at any_of
+  doubles-none = where-none 61 ks (λ k. refl)
 
-  pub bridges-none : {rs : List Ring} → Length room rs n → SetWhere (bridge_at (drop n rs)) 79 ks ks
-  unfolding bridge_at
-  bridges-none s = where-none 79 ks (λ k. rw (none_left s n (omega arith)))
+  pub bridges-none : SetWhere (bridge_at []) 79 ks ks
+  unfolding bridge_at any_of
+  bridges-none = where-none 79 ks (λ k. refl)
 
-  pub rings-none : {rs : List Ring} → Length room rs n → SetWhere (ring_on (drop n rs)) 1 ks ks
-  unfolding ring_on
-  rings-none s = where-none 1 ks (λ k. rw (none_left s n (omega arith)))
+  pub rings-none : SetWhere (ring_on []) 1 ks ks
+  unfolding ring_on any_of
+  rings-none = where-none 1 ks (λ k. refl)
 
 -- a turn
-module _ {room n : ℕ} {ks js : List ℕ} (i : ℕ) (h : 0 < i) (m : i ≤ n) where
-  pub double-set : {is : List ℕ} {bs : List DbPos} (b : DbPos) → Length room bs n → SetWhere (double_at (drop i bs)) 61 ks js → b ≡ get_or bs (i - 1) no_bond
-      → is ≡ set js b.pos 61 → SetWhere (double_at (drop (i - 1) bs)) 61 ks is
-  unfolding double_at
-  double-set b s w e f = rw f (where-one b.pos w (λ k. rw (back_one s no_bond b i e h m)))
+module _ {ks js : List ℕ} where
+  pub double-set : {is : List ℕ} (b : DbPos) → is ≡ set js b.pos 61 → (bs : List DbPos) → SetWhere (double_at bs) 61 ks js → SetWhere (double_at (b ∷ bs)) 61 ks is
+  unfolding double_at any_of
+  double-set b f bs w = rw f (where-one b.pos w (λ k. refl))
 
-  pub bridge-set : {is : List ℕ} {rs : List Ring} (x : Ring) → Length room rs n → SetWhere (bridge_at (drop i rs)) 79 ks js → x ≡ get_or rs (i - 1) no_ring
-      → x.bridge ≡ Epoxide → is ≡ set js x.start 79 → SetWhere (bridge_at (drop (i - 1) rs)) 79 ks is
-  unfolding bridge_at
-  bridge-set x s w e g f = rw f (where-one x.start w (λ k. rw (back_one s no_ring x i e h m, g)))
+  pub bridge-set : {is : List ℕ} (x : Ring) → x.bridge ≡ Epoxide → is ≡ set js x.start 79 → (rs : List Ring) → SetWhere (bridge_at rs) 79 ks js
+      → SetWhere (bridge_at (x ∷ rs)) 79 ks is
+  unfolding bridge_at any_of
+  bridge-set x g f rs w = rw f (where-one x.start w (λ k. rw g))
 
-  pub bridge-not : {rs : List Ring} (x : Ring) → Length room rs n → SetWhere (bridge_at (drop i rs)) 79 ks js → x ≡ get_or rs (i - 1) no_ring
-      → x.bridge ≡ Carbocycle → SetWhere (bridge_at (drop (i - 1) rs)) 79 ks js
-  unfolding bridge_at
-  bridge-not x s w e g = where-same w (λ k. rw (back_one s no_ring x i e h m, g))
+  pub bridge-not : (x : Ring) → x.bridge ≡ Carbocycle → (rs : List Ring) → SetWhere (bridge_at rs) 79 ks js → SetWhere (bridge_at (x ∷ rs)) 79 ks js
+  unfolding bridge_at any_of
+  bridge-not x g rs w = where-same w (λ k. rw g)
 
-  pub ring-set : {rs : List Ring} {mid is : List ℕ} (x : Ring) → Length room rs n → SetWhere (ring_on (drop i rs)) 1 ks js → x ≡ get_or rs (i - 1) no_ring
-      → mid ≡ set js x.end 1 → is ≡ set mid x.start 1 → SetWhere (ring_on (drop (i - 1) rs)) 1 ks is
-  unfolding ring_on
-  ring-set {rs} {mid} x s w e f g =
-      let t : SetWhere (λ (k : ℕ). eqb x.end k || ring_on (drop i rs) k) 1 ks mid = rw f (where-one x.end w (λ k. refl)) in
-      rw g (where-one x.start t (λ k. rw (back_one s no_ring x i e h m) (or_assoc (eqb x.start k) (eqb x.end k) (ring_on (drop i rs) k))))
-
--- all of the list
-module _ {A : Type 0} (i : ℕ) (h : i ≤ 0) (l : List A) where
-  drop-none : drop i l ≡ l
-  drop-none =
-      let z : i ≡ 0 = omega arith in
-      rw z
-
-module _ {ks js : List ℕ} (i : ℕ) (h : i ≤ 0) where
-  pub doubles-all : (bs : List DbPos) → SetWhere (double_at (drop i bs)) 61 ks js → SetWhere (double_at bs) 61 ks js
-  doubles-all bs w = rw (drop-none i h bs) at w
-
-  pub bridges-all : (rs : List Ring) → SetWhere (bridge_at (drop i rs)) 79 ks js → SetWhere (bridge_at rs) 79 ks js
-  bridges-all rs w = rw (drop-none i h rs) at w
-
-  pub rings-all : (rs : List Ring) → SetWhere (ring_on (drop i rs)) 1 ks js → SetWhere (ring_on rs) 1 ks js
-  rings-all rs w = rw (drop-none i h rs) at w
+  pub ring-set : {mid is : List ℕ} (x : Ring) → mid ≡ set js x.end 1 → is ≡ set mid x.start 1 → (rs : List Ring) → SetWhere (ring_on rs) 1 ks js
+      → SetWhere (ring_on (x ∷ rs)) 1 ks is
+  unfolding ring_on any_of
+  ring-set {mid} x f g rs w =
+      let t : SetWhere (λ (k : ℕ). eqb x.end k || ring_on rs k) 1 ks mid = rw f (where-one x.end w (λ k. refl)) in
+      rw g (where-one x.start t (λ k. or_assoc (eqb x.start k) (eqb x.end k) (ring_on rs k)))
 
 -- ---- geometries
 
-pub geometries-none : {room n : ℕ} {bs : List DbPos} {zs : List ℕ} → zs ≡ replicate 256 0 → Length room bs n → Geometries (drop n bs) zs
+pub geometries-none : {zs : List ℕ} → zs ≡ replicate 256 0 → Geometries [] zs
 unfolding geometry_at
-geometries-none {n = n} e s =
-    rw e (record { size = length-replicate {A = ℕ} 256 0; at = λ k h. get_or-replicate 256 k 0 0 h ∙ (rw (none_left s n (omega arith))) })
+geometries-none e = rw e (record { size = length-replicate {A = ℕ} 256 0; at = λ k h. get_or-replicate 256 k 0 0 h })
 
-pub geometry-set : {room n : ℕ} {bs : List DbPos} {js is : List ℕ} (i r : ℕ) (b : DbPos) → 0 < i → i ≤ n → Length room bs n
-    → Geometries (drop i bs) js → b ≡ get_or bs (i - 1) no_bond → r ≡ geometry_byte b.geom → is ≡ set js b.pos r → Geometries (drop (i - 1) bs) is
+pub geometry-set : {js is : List ℕ} (r : ℕ) (b : DbPos) → r ≡ geometry_byte b.geom → is ≡ set js b.pos r → (bs : List DbPos) → Geometries bs js → Geometries (b ∷ bs) is
 unfolding geometry_at
-geometry-set {room} {n} {bs} {js} {is} i r b h m s w e f g =
-    rw (g, back_one s no_bond b i e h m)
+geometry-set {js} {is} r b f g bs w =
+    rw g
     (record { size = length-set js b.pos r ∙ w.size; at = λ k q. stored js b.pos r k (omega (arith, w.size)) ∙ go k (eqb b.pos k) (w.at k q) })
   where
-    go : (k : ℕ) (t : Bool) → get_or js k 0 ≡ geometry_byte (geometry_at k (drop i bs)) → cond t r (get_or js k 0) ≡ geometry_byte (cond t b.geom (geometry_at k (drop i bs)))
+    go : (k : ℕ) (t : Bool) → get_or js k 0 ≡ geometry_byte (geometry_at k bs) → cond t r (get_or js k 0) ≡ geometry_byte (cond t b.geom (geometry_at k bs))
     go k true u = f
     go k false u = u
 
 pub geometries-length : {bs : List DbPos} {zs js : List ℕ} → zs ≡ replicate 256 0 → Geometries bs js → length js ≡ length zs
 geometries-length e w = w.size ∙ sym (ap length e ∙ length-replicate {A = ℕ} 256 0)
-
-pub geometries-all : {bs : List DbPos} {js : List ℕ} (i : ℕ) → i ≤ 0 → Geometries (drop i bs) js → Geometries bs js
-geometries-all {bs} {js} i h w = rw (drop-none i h bs) at w
 
 geometry-back : (g : Geometry) → geometry_of (geometry_byte g) ≡ g
 unfolding geometry_of
@@ -270,18 +247,18 @@ marks-by {bs} g v = v.are bs g
 -- ---- positions that rise
 
 -- the test, turn by turn
-module _ {room n : ℕ} {bs : List DbPos} {t : Bool} (s : Length room bs n) (i m : ℕ) (e : t ≡ rises_from m (drop i bs)) where
-  pub rises-more : (b : DbPos) → b ≡ get_or bs i no_bond → i < n → m < b.pos → t ≡ rises_from b.pos (drop (i + 1) bs)
+module _ (bs : List DbPos) {t : Bool} (i m : ℕ) (e : t ≡ rises_from m (drop i bs)) where
+  pub rises-more : (b : DbPos) → b ≡ get_or bs i no_bond → i < length bs → m < b.pos → t ≡ rises_from b.pos (drop (i + 1) bs)
   unfolding rises_from
-  rises-more b f h g = e ∙ (rw (next_of s no_bond b i f h, lt-ltb m b.pos g))
+  rises-more b f h g = e ∙ (rw (left_here bs i no_bond b h f, lt-ltb m b.pos g))
 
-  pub rises-not : (b : DbPos) → b ≡ get_or bs i no_bond → i < n → b.pos ≤ m → false ≡ t
+  pub rises-not : (b : DbPos) → b ≡ get_or bs i no_bond → i < length bs → b.pos ≤ m → false ≡ t
   unfolding rises_from
-  rises-not b f h g = sym (e ∙ (rw (next_of s no_bond b i f h, le-ltb m b.pos g)))
+  rises-not b f h g = sym (e ∙ (rw (left_here bs i no_bond b h f, le-ltb m b.pos g)))
 
-  pub rises-end : n ≤ i → true ≡ t
+  pub rises-end : length bs ≤ i → true ≡ t
   unfolding rises_from
-  rises-end h = sym (e ∙ (rw (none_left s i h)))
+  rises-end h = sym (e ∙ (rw (left-none bs i h)))
 
 pub rises-so : (t : Bool) (bs : List DbPos) → t ≡ rises_from 0 bs → t ≡ true → rises_from 0 bs ≡ true
 rises-so t bs e f = sym e ∙ f
@@ -360,14 +337,14 @@ pub record RisingLeft (c : ℕ) (bs : List DbPos) (before now : List ℕ) (i : �
 pub rising-all : {c : ℕ} {bs : List DbPos} {ks : List ℕ} → rises_from 0 bs ≡ true → RisingLeft c bs ks ks 0
 rising-all e = record { size = refl; rises = e; are = refl }
 
-module _ {room n c : ℕ} {bs : List DbPos} {ks js : List ℕ} (s : Length room bs n) (i : ℕ) (w : RisingLeft c bs ks js i) where
-  pub rising-end : n ≤ i → js ≡ mark_from c bs 1 c ks
+module _ {c : ℕ} {bs : List DbPos} {ks js : List ℕ} (i : ℕ) (w : RisingLeft c bs ks js i) where
+  pub rising-end : length bs ≤ i → js ≡ mark_from c bs 1 c ks
   unfolding rises_from
-  rising-end h = sym (w.are ∙ (rw (none_left s i h) (marks-before c (suc c) 1 c [] js (omega arith) refl)))
+  rising-end h = sym (w.are ∙ (rw (left-none bs i h) (marks-before c (suc c) 1 c [] js (omega arith) refl)))
 
-  module _ (b : DbPos) (e : b ≡ get_or bs i no_bond) (h : i < n) where
+  module _ (b : DbPos) (e : b ≡ get_or bs i no_bond) (h : i < length bs) where
     first-left : rises_from 0 (b ∷ drop (i + 1) bs) ≡ true
-    first-left = rw (next_of s no_bond b i e h) at w.rises
+    first-left = rw (left_here bs i no_bond b h e) at w.rises
 
     pub rising-one : 1 ≤ b.pos
     rising-one = rises-past 0 b (drop (i + 1) bs) first-left
@@ -376,7 +353,7 @@ module _ {room n c : ℕ} {bs : List DbPos} {ks js : List ℕ} (s : Length room 
     unfolding rises_from
     rising-past p =
         let z : rises_from c (b ∷ drop (i + 1) bs) ≡ true = rw (lt-ltb c b.pos p) (rises-rest 0 b (drop (i + 1) bs) first-left) in
-        sym (w.are ∙ (rw (next_of s no_bond b i e h) (marks-before c c 1 c (b ∷ drop (i + 1) bs) js (omega arith) z)))
+        sym (w.are ∙ (rw (left_here bs i no_bond b h e) (marks-before c c 1 c (b ∷ drop (i + 1) bs) js (omega arith) z)))
 
     pub rising-less : {is : List ℕ} → b.pos ≤ c → is ≡ mark_bond c b.geom b.pos js → RisingLeft c bs ks is (i + 1)
     rising-less {is} p f =
@@ -384,5 +361,5 @@ module _ {room n c : ℕ} {bs : List DbPos} {ks js : List ℕ} (s : Length room 
         record {
           size = marked-length js is c b.geom b.pos f ∙ w.size;
           rises = rises-back b.pos 0 (drop (i + 1) bs) (omega arith) q;
-          are = w.are ∙ (rw (next_of s no_bond b i e h, f) (marks-first c 1 c b (drop (i + 1) bs) js q rising-one (omega arith)));
+          are = w.are ∙ (rw (left_here bs i no_bond b h e, f) (marks-first c 1 c b (drop (i + 1) bs) js q rising-one (omega arith)));
         }

@@ -1,25 +1,31 @@
--- Going through a list by its places, forwards and backwards.
+-- Going through a list from its end: so much of it is left in front, and something holds of what was passed.
 -- Assumes nothing.
-use Prim.Native.Nat.{ℕ, suc, ◌+◌, ◌-◌, ◌≤◌, ◌<◌}
-use native.Mathlib.Numerals.{add-one}
 use native.Mathlib.Omega.{arith}
-use mathlib.Core.Path.{◌≡◌, ap, ◌∙◌}
-use mathlib.Core.List.{List, [], ◌∷◌}
-use lib.ListN.{drop, get_or, drop_of_length-le}
-use lib.Seq.{drop-cons}
-use Rattle.drawn_chain.specs.drawable.Drawn.{Length}
+use mathlib.Core.Path.{◌≡◌, refl, sym, ◌∙◌}
+use mathlib.Core.List.{List, [], ◌∷◌, ◌++◌, append-nil, append_assoc}
+use lib.ListN.{length}
 
-module _ {A : Type 0} {room n : ℕ} {l : List A} (s : Length room l n) where
-  -- the element at a place that is within the list
-  pub next_of : (d a : A) (i : ℕ) → a ≡ get_or l i d → i < n → drop i l ≡ a ∷ drop (i + 1) l
-  next_of d a i e h = rw (add-one i, e) (drop-cons l i d (omega (arith, s.is)))
+-- front is left of the list l, and P holds of the elements that were passed, in their order
+pub record Behind {A : Type 0} (P : List A → Type 0) (l front : List A) : Type 0 where
+  pub passed : List A
+  pub joined : l ≡ front ++ passed
+  pub holds : P passed
 
-  -- past the last
-  pub none_left : (i : ℕ) → n ≤ i → drop i l ≡ []
-  none_left i h = drop_of_length-le l {i = i} (omega (arith, s.is))
+module _ {A : Type 0} {P : List A → Type 0} (l front : List A) where
+  -- nothing is passed
+  pub behind-start : front ≡ l → P [] → Behind P l front
+  behind-start e p = record { passed = []; joined = sym (append-nil front ∙ e); holds = p }
 
-  -- the element before a place
-  pub back_one : (d a : A) (i : ℕ) → a ≡ get_or l (i - 1) d → 0 < i → i ≤ n → drop (i - 1) l ≡ a ∷ drop i l
-  back_one d a i e h k =
-      let z : suc (i - 1) ≡ i = omega arith in
-      rw e (drop-cons l (i - 1) d (omega (arith, s.is)) ∙ ap (λ (j : ℕ). get_or l (i - 1) d ∷ drop j l) z)
+  -- one element more
+  pub behind-turn : {Q : List A → Type 0} (rest : List A) (x : A) → front ≡ rest ++ (x ∷ []) → ((m : List A) → P m → Q (x ∷ m)) → Behind P l front → Behind Q l rest
+  behind-turn rest x e step w = record { passed = x ∷ w.passed; joined = w.joined ∙ rw (e, append_assoc); holds = step w.passed w.holds }
+
+  -- all of them are passed
+  pub behind-end : length front ≡ 0 → Behind P l front → P l
+  behind-end h w =
+      let z : l ≡ w.passed = w.joined ∙ rw (none front h) in
+      rw z w.holds
+    where
+      none : (m : List A) → length m ≡ 0 → m ≡ []
+      none [] e = refl
+      none (x ∷ m) e = absurd (omega arith)

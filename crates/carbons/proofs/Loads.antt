@@ -3,20 +3,19 @@
 use Prim.Native.Nat.{ℕ, zero, suc, ◌+◌, ◌-◌, ◌*◌, ◌≤◌, ◌<◌, max}
 use native.Mathlib.Nat.{zero-add}
 use native.Mathlib.Omega.{arith}
-use mathlib.Core.Path.{◌≡◌, refl, sym, ◌∙◌}
+use mathlib.Core.Path.{◌≡◌, refl, sym, ap, ◌∙◌}
 use mathlib.Core.Bool.{Bool, true, false, cond, ◌||◌}
-use mathlib.Core.List.{List, [], ◌∷◌, map}
+use mathlib.Core.List.{List, [], ◌∷◌, ◌++◌, map}
 use lib.Dec.{eqb, leb}
-use lib.ListN.{length, take, drop, get_or, set, length-set, length-map, length-take, length-drop, get_or-map}
+use lib.ListN.{length, get_or, set, length-set, length-append, length-map, get_or-map}
 use borrow.Author.Tests.{leb-true, leb-false, eqb-true}
+use Rattle.chain_rules.specs.chain.Lists.{any_of}
 use Rattle.group_table.specs.groups.Groups.{Entry, entries, blank, entry_at}
 use Rattle.group_table.proofs.groups.Laws.{every, every-at}
 use Rattle.chain_record.specs.declared.plain.Mod.{Mod}
 use Rattle.chain_record.specs.declared.plain.Ring.{Ring}
-use Rattle.chain_record.specs.codes.Codes.{group_in}
-use Rattle.drawn_chain.specs.drawable.Drawn.{Length, groups_in, no_group}
 use Rattle.carbons.specs.ByCarbon.{group_on, ring_on, carbonyl_on, busy_at, RowAtoms, group_atoms, load_at, Added, Busy}
-use Rattle.carbons.proofs.Fronts.{back_one, none_left}
+use Rattle.carbons.proofs.Fronts.{Behind}
 use Rattle.carbons.proofs.BondLaws.{stored}
 
 -- ---- a branch has at most five atoms, by one computed test over the table
@@ -79,12 +78,9 @@ atoms-few (g ∷ gs) k = go (eqb g.pos k) (atoms-few gs k)
 
 -- ---- groups added, from the end of the list on
 
-pub more-set : (xs : List ℕ) (p n own : ℕ) → own ≡ max (get_or xs p 0) 1 → set xs p (own + n) ≡ set xs p (max (get_or xs p 0) 1 + n)
-more-set xs p n own e = rw e
-
-pub added_none : {room n : ℕ} {gs : List Mod} (ks : List ℕ) → Length room gs n → Added (drop n gs) ks ks
-unfolding group_on
-added_none {n = n} ks s = record { size = refl; at = λ k h. rw (none_left s n (omega arith)) }
+pub added_none : (ks : List ℕ) → Added [] ks ks
+unfolding group_on any_of
+added_none ks = record { size = refl; at = λ k h. refl }
 
 added-one : {gs : List Mod} {ks js : List ℕ} (g : Mod) (a : ℕ) → a ≡ (entry_at g.row).atoms → Added gs ks js
     → Added (g ∷ gs) ks (set js g.pos (max (get_or js g.pos 0) 1 + a))
@@ -106,38 +102,30 @@ added-one {gs} {ks} {js} g a e s =
     go k true f w = rw (eqb-true g.pos k f) (there k (group_on gs k) refl w)
     go k false f w = rw (zero-add (group_atoms gs k)) w
 
-pub group-added : {room n : ℕ} {gs : List Mod} {ks js is : List ℕ} (i a : ℕ) (g : Mod) → 0 < i → i ≤ n → Length room gs n → Added (drop i gs) ks js
-    → g ≡ get_or gs (i - 1) no_group → RowAtoms g.row a → is ≡ set js g.pos (max (get_or js g.pos 0) 1 + a) → Added (drop (i - 1) gs) ks is
-group-added i a g h m s w e r f = rw (f, back_one s no_group g i e h m) (added-one g a r.is w)
-
-pub added-all : {ks js : List ℕ} (i : ℕ) (gs : List Mod) → i ≤ 0 → Added (drop i gs) ks js → Added gs ks js
-added-all i gs h w =
-    let z : i ≡ 0 = omega arith in
-    rw z at w
+pub group-added : {ks js is : List ℕ} (a : ℕ) (g : Mod) → RowAtoms g.row a → is ≡ set js g.pos (max (get_or js g.pos 0) 1 + a) → (gs : List Mod) → Added gs ks js
+    → Added (g ∷ gs) ks is
+group-added a g r f gs w = rw f (added-one g a r.is w)
 
 pub added-length : {gs : List Mod} {ks js : List ℕ} → Added gs ks js → length js ≡ length ks
 added-length s = s.size
 
 -- room for one group more
-pub added-room : {room n : ℕ} {gs : List Mod} {ks js : List ℕ} (i p a row : ℕ) → ((k : ℕ) → get_or ks k 0 ≤ 2) → room ≤ 18 → Length room gs n → Added (drop i gs) ks js
+pub added-room : {gs front : List Mod} {ks js : List ℕ} (p a row : ℕ) (rest : List Mod) (g : Mod) → ((k : ℕ) → get_or ks k 0 ≤ 2) → length gs ≤ 18 → front ≡ rest ++ (g ∷ []) → Behind (λ l. Added l ks js) gs front
     → RowAtoms row a → get_or js p 0 + a ≤ 254
-added-room {gs = gs} {ks} {js} i p a row t h s w r = go (leb (suc p) (length ks)) refl
+added-room {gs} {front} {ks} {js} p a row rest g t h f w r = go (leb (suc p) (length ks)) refl
   where
-    few : group_atoms (drop i gs) p ≤ 90
-    few = omega (arith, atoms-few (drop i gs) p, length-drop i gs, s.is, s.fits)
+    few : group_atoms w.passed p ≤ 85
+    few = omega (arith, atoms-few w.passed p, ap length w.joined, length-append front w.passed, ap length f, length-append rest (g ∷ []))
 
-    own : (o : Bool) → get_or js p 0 ≡ cond o (max (get_or ks p 0) 1 + group_atoms (drop i gs) p) (get_or ks p 0) → get_or js p 0 + a ≤ 254
+    own : (o : Bool) → get_or js p 0 ≡ cond o (max (get_or ks p 0) 1 + group_atoms w.passed p) (get_or ks p 0) → get_or js p 0 + a ≤ 254
     own true e = omega (arith, few, t p, r.few)
     own false e = omega (arith, t p, r.few)
 
     go : (b : Bool) → leb (suc p) (length ks) ≡ b → get_or js p 0 + a ≤ 254
-    go true e = own (group_on (drop i gs) p) (w.at p (leb-true (suc p) (length ks) e))
-    go false e = rw (past 0 js p (omega (arith, w.size, leb-false (suc p) (length ks) e))) (omega (arith, r.few))
+    go true e = own (group_on w.passed p) (w.holds.at p (leb-true (suc p) (length ks) e))
+    go false e = rw (past 0 js p (omega (arith, w.holds.size, leb-false (suc p) (length ks) e))) (omega (arith, r.few))
 
 -- ---- what all of it comes to
-
-pub groups-held : (n : ℕ) (l : List Mod) → length l ≤ 18 → length (groups_in n l) ≤ 18
-groups-held n l h = omega (arith, length-take n l)
 
 -- a carbon with a ring's end, then with the O of a carbonyl, then with its groups
 pub load_is : (acyl : Bool) (gs : List Mod) (rs : List Ring) (k : ℕ)

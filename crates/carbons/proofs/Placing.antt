@@ -14,10 +14,9 @@ use Rattle.chain_record.specs.declared.plain.Geometry.TheVariants.{Unstated, Cis
 use Rattle.chain_record.specs.declared.plain.DbPos.{DbPos}
 use Rattle.chain_rules.specs.chain.Lists.{any_of}
 use Rattle.chain_rules.specs.chain.Bonds.{open_mark, opens_down, close_mark, close_byte, mark_bond, mark_from}
-use Rattle.drawn_chain.specs.drawable.Drawn.{Length, no_bond}
+use Rattle.drawn_chain.specs.drawable.Drawn.{no_bond}
 use Rattle.carbons.specs.ByCarbon.{double_at, rises_from, SetWhere, Noughts, DoublesPut}
-use Rattle.carbons.proofs.Fronts.{next_of, none_left}
-use Rattle.carbons.proofs.Loads.{past}
+use Rattle.drawn_chain.proofs.drawable.Turns.{left_here, left-none}
 use Rattle.carbons.proofs.BondLaws.{stored, length-mark, marks-before, marks-first, rises-past, rises-rest, rises-back}
 
 -- ---- a mark, and a store further on
@@ -125,28 +124,28 @@ pub record PassLeft (c : ℕ) (bs : List DbPos) (before now : List ℕ) (m i : �
 pub pass_all : (c : ℕ) (bs : List DbPos) (ks : List ℕ) → PassLeft c bs ks ks 0 0
 pass_all c bs ks = record { size = refl; are = λ e. refl }
 
-module _ {room n c : ℕ} {bs : List DbPos} {ks js : List ℕ} (s : Length room bs n) (m i : ℕ) (w : PassLeft c bs ks js m i) where
-  pub pass-end : n ≤ i → DoublesPut c bs ks js
+module _ {c : ℕ} {bs : List DbPos} {ks js : List ℕ} (m i : ℕ) (w : PassLeft c bs ks js m i) where
+  pub pass-end : length bs ≤ i → DoublesPut c bs ks js
   unfolding rises_from doubles_set
   pass-end h =
-      let e : rises_from m (drop i bs) ≡ true = rw (none_left s i h) refl in
+      let e : rises_from m (drop i bs) ≡ true = rw (left-none bs i h) refl in
       record {
         plain = doubles_set bs ks;
         set = doubles-where bs ks;
-        marked = sym (w.are e ∙ (rw (none_left s i h) (marks-before c (suc c) 1 c [] js (omega arith) refl)));
+        marked = sym (w.are e ∙ (rw (left-none bs i h) (marks-before c (suc c) 1 c [] js (omega arith) refl)));
       }
 
-  pub pass-more : {is : List ℕ} (b : DbPos) → b ≡ get_or bs i no_bond → i < n → m < b.pos → b.pos ≤ c → is ≡ mark_bond c b.geom b.pos (set js b.pos 61)
+  pub pass-more : {is : List ℕ} (b : DbPos) → b ≡ get_or bs i no_bond → i < length bs → m < b.pos → b.pos ≤ c → is ≡ mark_bond c b.geom b.pos (set js b.pos 61)
       → PassLeft c bs ks is b.pos (i + 1)
   unfolding rises_from doubles_set
   pass-more {is} b e h l q f =
       record {
         size = rw f (length-mark c b.geom b.pos (set js b.pos 61) ∙ (length-set js b.pos 61 ∙ w.size));
         are = λ r.
-            let t : rises_from m (drop i bs) ≡ true = rw (next_of s no_bond b i e h, lt-ltb m b.pos l) r in
+            let t : rises_from m (drop i bs) ≡ true = rw (left_here bs i no_bond b h e, lt-ltb m b.pos l) r in
             let u = w.are t in
             let v : mark_from c (drop i bs) 1 c (doubles_set (drop i bs) js) ≡ mark_from c (drop (i + 1) bs) 1 c (doubles_set (drop (i + 1) bs) is)
-            = rw (next_of s no_bond b i e h, f)
+            = rw (left_here bs i no_bond b h e, f)
             (marks-first c 1 c b (drop (i + 1) bs) (doubles_set (drop (i + 1) bs) (set js b.pos 61)) r (omega arith) (omega arith)
             ∙ ap (mark_from c (drop (i + 1) bs) 1 c) (marks-over c b.geom b.pos (drop (i + 1) bs) (set js b.pos 61) r)) in
             u ∙ v;
@@ -156,27 +155,3 @@ pub pass-room : (js : List ℕ) {is : List ℕ} {c : ℕ} (b : DbPos) → c < le
 pass-room js {is} {c} b h f =
     let z : length is ≡ length js = rw f (length-mark c b.geom b.pos (set js b.pos 61) ∙ length-set js b.pos 61) in
     omega arith
-
--- ---- noughts again
-
-pub record Cleared (ks : List ℕ) (i : ℕ) : Type 0 where
-  pub at : (k : ℕ) → k < i → get_or ks k 0 ≡ 0
-
-pub cleared-none : (ks : List ℕ) → Cleared ks 0
-cleared-none ks = record { at = λ k h. absurd (omega arith) }
-
-pub cleared_more : (ks : List ℕ) (i : ℕ) → Cleared ks i → i < length ks → Cleared (set ks i 0) (i + 1)
-cleared_more ks i w h = record { at = λ k l. go k (eqb k i) refl l }
-  where
-    go : (k : ℕ) (b : Bool) → eqb k i ≡ b → k < i + 1 → get_or (set ks i 0) k 0 ≡ 0
-    go k true e l = let z : k ≡ i = eqb-true k i e in rw z (get_or-set_same ks i 0 0 h)
-    go k false e l =
-        let n : k ≡ i → ⊥ = eqb-false k i e in
-        get_or-set_other ks i k 0 0 n ∙ w.at k (omega arith)
-
-pub cleared-all : (ks : List ℕ) (i n : ℕ) → n ≡ length ks → n ≤ i → Cleared ks i → Noughts ks
-cleared-all ks i n e h w = record { at = λ k. go k (ltb k (length ks)) refl }
-  where
-    go : (k : ℕ) (b : Bool) → ltb k (length ks) ≡ b → get_or ks k 0 ≡ 0
-    go k true f = w.at k (omega (arith, ltb-true k (length ks) f))
-    go k false f = past 0 ks k (ltb-false k (length ks) f)

@@ -20,12 +20,12 @@ use Rattle.chain_rules.specs.chain.Features.{literal_end}
 use Rattle.chain_rules.specs.chain.Bonds.{open_mark, opens_down, close_mark, close_byte, mark_bond, mark_from, geometry_at, plain_bond, plain_bonds}
 use Rattle.drawn_chain.specs.declared.drawable.Shape.{Shape}
 use Rattle.drawn_chain.specs.declared.rooms.Lists.{Lists}
-use Rattle.drawn_chain.specs.drawable.Drawn.{Drawn, groups_in, drawn_of, bonds_drawn, groups_drawn, rings_drawn, SaysUpTo}
+use Rattle.drawn_chain.specs.drawable.Drawn.{Drawn, drawn_of, bonds_drawn, groups_drawn, rings_drawn, SaysUpTo}
 use Rattle.drawn_chain.proofs.reach.Ends.{literal-whole}
 use Rattle.carbons.specs.Tokens.{tokens, TokensOf, Grouped}
 use Rattle.carbons.specs.ByCarbon.{double_at, bridge_at, ring_on, carbonyl_on, load_at, Noughts, SetWhere, Added, DoublesPut, PlainBonds, BondsBy, Busy}
 use Rattle.carbons.proofs.BondLaws.{where-none, where-one, length-marks}
-use Rattle.carbons.proofs.Loads.{past, groups-held, load_is, load-few}
+use Rattle.carbons.proofs.Loads.{past, load_is, load-few}
 
 -- ---- values
 
@@ -167,33 +167,33 @@ ends-small acyl rs {zs} {ks} {js} e u v k = go (leb (suc k) (length js)) refl
         rw (ends_at acyl rs e u v k h) (own (carbonyl_on acyl k) (ring_on rs k))
     go false f = rw (past 0 js k (omega (arith, leb-false (suc k) (length js) f))) (omega arith)
 
-pub busy-all : {acyl : Bool} {rs : List Ring} {zs ks js is : List ℕ} (n : ℕ) (l : List Mod) → Noughts zs → length l ≤ 18 → SetWhere (ring_on rs) 1 zs ks
-    → SetWhere (carbonyl_on acyl) 2 ks js → Added (groups_in n l) js is → Busy acyl (groups_in n l) rs is
-busy-all {acyl} {rs} {zs} {ks} {js} {is} n l e f u v w =
+pub busy-all : {acyl : Bool} {rs : List Ring} {zs ks js is : List ℕ} (l : List Mod) → Noughts zs → length l ≤ 18 → SetWhere (ring_on rs) 1 zs ks
+    → SetWhere (carbonyl_on acyl) 2 ks js → Added l js is → Busy acyl l rs is
+busy-all {acyl} {rs} {zs} {ks} {js} {is} l e f u v w =
     record {
       at = at;
-      few = λ k h. rw (at k h) (load-few acyl (groups_in n l) rs k (groups-held n l f));
+      few = λ k h. rw (at k h) (load-few acyl l rs k f);
     }
   where
-    at : (k : ℕ) → k < length is → get_or is k 0 ≡ load_at acyl (groups_in n l) rs k
+    at : (k : ℕ) → k < length is → get_or is k 0 ≡ load_at acyl l rs k
     at k h =
         let m : k < length js = omega (arith, w.size) in
-        w.at k m ∙ (rw (ends_at acyl rs e u v k m) (load_is acyl (groups_in n l) rs k))
+        w.at k m ∙ (rw (ends_at acyl rs e u v k m) (load_is acyl l rs k))
 
 -- ---- all of it
 
-pub tokens-say : {x : Drawn} {bs us : List ℕ} {f e l : ℕ} → min x.carbon 255 < length us → BondsBy (bonds_drawn x) (rings_drawn x) x.carbon bs
-    → Busy x.acyl (groups_drawn x) (rings_drawn x) us → f ≡ max x.first 1 → SaysUpTo x e literal_end → l ≡ min e 255
+pub tokens-say : {x : Drawn} {ds : List DbPos} {gs : List Mod} {rs : List Ring} {bs us : List ℕ} {f e l : ℕ} → min x.carbon 255 < length us
+    → ds ≡ bonds_drawn x → gs ≡ groups_drawn x → rs ≡ rings_drawn x → BondsBy ds rs x.carbon bs → Busy x.acyl gs rs us → f ≡ max x.first 1 → SaysUpTo x e literal_end → l ≡ min e 255
     → TokensOf x (tokens f l bs us)
-tokens-say {x} {e = e} {l} h b u f s m =
+tokens-say {x} {e = e} {l} h p q r b u f s m =
     record {
       first = f;
       room = omega arith;
       bonded = omega (arith, s.fits, b.size);
       laden = omega (arith, s.fits);
       last = λ h. record { is = λ r d w. let z : l ≡ e = omega (arith, s.fits) in z ∙ s.says.is r d w };
-      bonds = b;
-      busy = u;
+      bonds = rw (p, r) at b;
+      busy = rw (q, r) at u;
     }
 
 -- ---- a chain without rings
@@ -237,13 +237,14 @@ ringless-plain {zs = zs} e w = bonds-plain e (where-none 79 zs (λ k. refl)) w
 pub ringless-size : {zs ks : List ℕ} {test : ℕ → Bool} {v : ℕ} (c : ℕ) → c < length zs → SetWhere test v zs ks → c < length ks
 ringless-size c h w = omega (arith, w.size)
 
-pub ringless-marked : (x : Shape) (l : Lists) {zs ks js : List ℕ} → Noughts zs → x.carbon < length zs → x.carbon ≤ 255 → rings_drawn (drawn_of x l) ≡ [] → SetWhere (double_at (bonds_drawn (drawn_of x l))) 61 zs ks
-    → js ≡ mark_from x.carbon (bonds_drawn (drawn_of x l)) 1 x.carbon ks → BondsBy (bonds_drawn (drawn_of x l)) (rings_drawn (drawn_of x l)) x.carbon js
-ringless-marked x l z h room e w v =
-    rw e (bonds-marked x.carbon x.carbon (ringless-plain z w) (omega arith) (ringless-size x.carbon h w) v)
+pub ringless-marked : (x : Shape) (l : Lists) {ds : List DbPos} {zs ks js : List ℕ} → Noughts zs → x.carbon < length zs → x.carbon ≤ 255 → rings_drawn (drawn_of x l) ≡ []
+    → ds ≡ bonds_drawn (drawn_of x l) → SetWhere (double_at ds) 61 zs ks → js ≡ mark_from x.carbon ds 1 x.carbon ks
+    → BondsBy (bonds_drawn (drawn_of x l)) (rings_drawn (drawn_of x l)) x.carbon js
+ringless-marked x l z h room e p w v =
+    rw (e, ← p) (bonds-marked x.carbon x.carbon (ringless-plain z w) (omega arith) (ringless-size x.carbon h w) v)
 
-pub ringless-put : (x : Shape) (l : Lists) {zs js : List ℕ} (t : Bool) → Noughts zs → x.carbon < length zs → x.carbon ≤ 255 → rings_drawn (drawn_of x l) ≡ []
-    → (t ≡ true → DoublesPut x.carbon (bonds_drawn (drawn_of x l)) zs js) → t ≡ true → BondsBy (bonds_drawn (drawn_of x l)) (rings_drawn (drawn_of x l)) x.carbon js
-ringless-put x l t z h room e p f =
+pub ringless-put : (x : Shape) (l : Lists) {ds : List DbPos} {zs js : List ℕ} (t : Bool) → Noughts zs → x.carbon < length zs → x.carbon ≤ 255 → rings_drawn (drawn_of x l) ≡ []
+    → ds ≡ bonds_drawn (drawn_of x l) → (t ≡ true → DoublesPut x.carbon ds zs js) → t ≡ true → BondsBy (bonds_drawn (drawn_of x l)) (rings_drawn (drawn_of x l)) x.carbon js
+ringless-put x l t z h room e q p f =
     let w = p f in
-    ringless-marked x l z h room e w.set w.marked
+    ringless-marked x l z h room e q w.set w.marked

@@ -1,7 +1,7 @@
 // The groups of a chain, written at a place of a lent slice: those on a carbon, the carbonyl's O, and those without a position.
 ghost use Rattle.std.specs.Prelude.{[], ◌∷◌};
 ghost use Rattle.writer.specs.emit.Text.{Written};
-ghost use Rattle.drawn_chain.specs.drawable.Drawn.{groups_in, drawn_of, DrawsSome};
+ghost use Rattle.drawn_chain.specs.drawable.Drawn.{drawn_of, DrawsSome};
 ghost use Rattle.chain_pieces.specs.branches.Text.{branch_text, group_text, sitting, groups_text, float_text, floats_text, carbonyl_text, rows_in, RowsPut};
 
 use chain_record::Mod;
@@ -53,51 +53,37 @@ fn put_float(out: &mut [u8], at: usize, row: u8) -> usize
 }
 
 // The groups of carbon k, in token order.
-pub fn put_groups(out: &mut [u8], at: usize, groups: &[Mod], count: usize, k: u32) -> usize
-    ensures { Written out.old at (groups_text (sitting k (groups_in count groups.now))) out.new result }
+pub fn put_groups(out: &mut [u8], at: usize, groups: &[Mod], k: u32) -> usize
+    ensures { Written out.old at (groups_text (sitting k groups.now)) out.new result }
 {
-    let n = drawn_chain::groups_len(groups, count);
     let mut p = at;
-    let mut i = 0;
-    while i < n {
-        let g = drawn_chain::nth_group(groups, count, i);
-        if g.pos == k {
-            let row = g.row;
-            p = put_group(out, p, row);
-            i += 1;
+    for group in groups {
+        if group.pos == k {
+            p = put_group(out, p, group.row);
             continue;
         }
-        i += 1;
     }
     p
 }
 
 // The groups without a position.
-pub fn put_floats(out: &mut [u8], at: usize, floats: &[Mod], count: usize) -> usize
-    ensures { Written out.old at (floats_text (groups_in count floats.now)) out.new result }
+pub fn put_floats(out: &mut [u8], at: usize, floats: &[Mod]) -> usize
+    ensures { Written out.old at (floats_text floats.now) out.new result }
 {
-    let n = drawn_chain::groups_len(floats, count);
     let mut p = at;
-    let mut i = 0;
-    while i < n {
-        let g = drawn_chain::nth_group(floats, count, i);
-        p = put_float(out, p, g.row);
-        i += 1;
+    for group in floats {
+        p = put_float(out, p, group.row);
     }
     p
 }
 
 // The rows of groups, one number for each.
-fn write_rows(rows: &mut [u8], at: usize, groups: &[Mod], count: usize) -> usize
-    ensures { Written rows.old at (rows_in (groups_in count groups.now)) rows.new result }
+fn write_rows(rows: &mut [u8], at: usize, groups: &[Mod]) -> usize
+    ensures { Written rows.old at (rows_in groups.now) rows.new result }
 {
-    let n = drawn_chain::groups_len(groups, count);
     let mut p = at;
-    let mut i = 0;
-    while i < n {
-        let g = drawn_chain::nth_group(groups, count, i);
-        p = writer::put_byte(rows, p, g.row);
-        i += 1;
+    for group in groups {
+        p = writer::put_byte(rows, p, group.row);
     }
     p
 }
@@ -107,7 +93,7 @@ pub fn put_rows(rows: &mut [u8], at: usize, x: Shape, part: &Lists) -> usize
     requires { DrawsSome (drawn_of x part.now) }
     ensures { RowsPut (drawn_of x part.now) rows.old at rows.new result }
 {
-    write_rows(rows, at, &part.floats, x.float_count)
+    write_rows(rows, at, x.floats(part))
 }
 
 // The O of a carbonyl on its carbon; where there is room for it, without a look at the end of the slice for each byte.

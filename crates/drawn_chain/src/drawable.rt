@@ -2,7 +2,7 @@
 // lent; what is counted of them goes by value. Every function is defined for every slice and count: a count past the slice counts as its
 // length, and past the last element nothing stands. Which lists a drawn chain holds is said by specs/drawable/Drawn.antt, from the definitions
 // of `chain_rules::chain`.
-ghost use Rattle.std.specs.Prelude.{◌≡◌, length, take, get_or};
+ghost use Rattle.std.specs.Prelude.{◌≡◌, ◌≤◌, length, take, get_or};
 ghost use Rattle.drawn_chain.specs.drawable.Drawn.{bonds_in, groups_in, rings_in, no_bond, no_group, no_ring, Length, drawn_of, bonds_drawn, groups_drawn, floats_drawn, rings_drawn};
 
 use super::rooms::Lists;
@@ -62,21 +62,24 @@ impl Shape {
 
     // Its groups with a position.
     pub fn groups<'a>(self, part: &'a Lists) -> &'a [Mod]
-        ensures { result.now ≡ groups_drawn (drawn_of self part.now) }
+        ensures are { result.now ≡ groups_drawn (drawn_of self part.now) }
+        ensures fit { length result.now ≤ 18 }
     {
         counted(&part.groups, self.group_count)
     }
 
     // Its groups without one.
     pub fn floats<'a>(self, part: &'a Lists) -> &'a [Mod]
-        ensures { result.now ≡ floats_drawn (drawn_of self part.now) }
+        ensures are { result.now ≡ floats_drawn (drawn_of self part.now) }
+        ensures fit { length result.now ≤ 18 }
     {
         counted(&part.floats, self.float_count)
     }
 
     // Its rings.
     pub fn rings<'a>(self, part: &'a Lists) -> &'a [Ring]
-        ensures { result.now ≡ rings_drawn (drawn_of self part.now) }
+        ensures are { result.now ≡ rings_drawn (drawn_of self part.now) }
+        ensures fit { length result.now ≤ 8 }
     {
         counted(&part.rings, self.ring_count)
     }

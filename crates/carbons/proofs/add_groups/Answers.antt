@@ -1,19 +1,17 @@
-use borrow.Author.Rules.{rules}
-use native.Mathlib.Omega.{arith}
-use Rattle.carbons.proofs.Loads.{added_none, group-added, added-all, added-length, added-room}
+use Rattle.carbons.proofs.Fronts.{behind-start, behind-turn, behind-end}
+use Rattle.carbons.proofs.Loads.{added_none, group-added, added-room}
 use Rattle.carbons.proofs.add_groups.Goals as goal
 
-pub loop-i-init : goal.loop-i-init
-loop-i-init c = (omega arith, search rules, search added_none)
+pub loop-group-init : goal.loop-group-init
+loop-group-init c = behind-start c.args.groups.now c.into_iter-group-iterator.result.iter.rest.now (cc) (added_none c.args.busy.now)
 
 pub add_at-requires : goal.add_at-requires
-add_at-requires c = search added-room
+add_at-requires c =
+    added-room c.in-Some.group.now.pos c.row_atoms.result c.in-Some.group.now.row _ c.in-Some.group.now c.requires.0 c.requires.1 c.in-Some.ensures.steps c.loop-group.invariant c.row_atoms.ensures
 
-pub loop-i-preserved : goal.loop-i-preserved
-loop-i-preserved c = (omega arith, search rules, search (group-added, arith))
-
-pub shape_of-busy : goal.shape_of-busy
-shape_of-busy c = search added-length
+pub loop-group-preserved : goal.loop-group-preserved
+loop-group-preserved c =
+    behind-turn c.args.groups.now c.loop-group.group-iterator.iter.rest.now c.next.new.self.iter.rest.now c.in-Some.group.now c.in-Some.ensures.steps (group-added c.row_atoms.result c.in-Some.group.now c.row_atoms.ensures c.add_at.ensures) c.loop-group.invariant
 
 pub returns : goal.returns
-returns c = search (added-all, arith)
+returns c = behind-end c.args.groups.now c.loop-group.group-iterator.iter.rest.now c.in-None.ensures.steps.0 c.loop-group.invariant

@@ -7,4 +7,4 @@ add_groups-requires c =
     (ends-small _ _ c.requires.noughts c.set_rings.ensures c.set_carbonyl.ensures, search rules)
 
 pub returns : goal.returns
-returns c = search busy-all
+returns c = busy-all c.args.groups.now c.requires.noughts c.requires.groups_len_bound c.set_rings.ensures c.set_carbonyl.ensures c.add_groups.ensures

@@ -1,10 +1,9 @@
 use borrow.Author.Rules.{rules}
-use native.Mathlib.Omega.{arith}
 use Rattle.carbons.proofs.BondLaws.{rising-all, rising-end, rising-one, rising-past, rising-less}
 use Rattle.carbons.proofs.mark_rising.Goals as goal
 
-pub loop-i-init : goal.loop-i-init
-loop-i-init c = (omega arith, search rules, search rising-all)
+pub loop-bond-init : goal.loop-bond-init
+loop-bond-init c = search rising-all
 
 pub returns-then-carbon-p : goal.returns-then-carbon-p
 returns-then-carbon-p c = search rising-past
@@ -12,8 +11,8 @@ returns-then-carbon-p c = search rising-past
 pub mark_bond-requires : goal.mark_bond-requires
 mark_bond-requires c = (search rising-one, search rules, search rules)
 
-pub loop-i-preserved : goal.loop-i-preserved
-loop-i-preserved c = (omega arith, search rules, search rising-less)
+pub loop-bond-preserved : goal.loop-bond-preserved
+loop-bond-preserved c = search rising-less
 
 pub returns : goal.returns
 returns c = search rising-end

@@ -8,9 +8,7 @@ pub mark_rising-requires : goal.mark_rising-requires
 mark_rising-requires c = record { doubles_value = search rises-so; carbon_in_bounds = search rules }
 
 pub returns-then-rises : goal.returns-then-rises
-returns-then-rises c =
-    bonds-marked _ _ c.plain_bonds.ensures c.in_room-last.ensures (omega arith) c.mark_rising.ensures
+returns-then-rises c = bonds-marked _ _ c.plain_bonds.ensures (search rules) (omega arith) c.mark_rising.ensures
 
 pub returns : goal.returns
-returns c =
-    bonds-marked _ _ c.plain_bonds.ensures c.in_room-last.ensures (omega arith) c.mark_any.ensures
+returns c = bonds-marked _ _ c.plain_bonds.ensures (search rules) (omega arith) c.mark_any.ensures

@@ -5,11 +5,11 @@ use mathlib.Core.Bool.{false≢true}
 use Rattle.carbons.proofs.Placing.{pass_all, pass-more, pass-room, pass-end}
 use Rattle.carbons.proofs.put_rising.Goals as goal
 
-pub loop-i-init : goal.loop-i-init
-loop-i-init c = (omega arith, search rules, search rules, search pass_all)
+pub loop-bond-init : goal.loop-bond-init
+loop-bond-init c = (search rules, search pass_all)
 
-pub returns-then-b-last : goal.returns-then-b-last
-returns-then-b-last c = λ e. absurd (false≢true e)
+pub returns-then-bond-last : goal.returns-then-bond-last
+returns-then-bond-last c = λ e. absurd (false≢true e)
 
 pub returns-then-carbon-p : goal.returns-then-carbon-p
 returns-then-carbon-p c = λ e. absurd (false≢true e)
@@ -17,8 +17,8 @@ returns-then-carbon-p c = λ e. absurd (false≢true e)
 pub mark_bond-requires : goal.mark_bond-requires
 mark_bond-requires c = (omega arith, search rules, simp length-set (omega arith))
 
-pub loop-i-preserved : goal.loop-i-preserved
-loop-i-preserved c = (omega arith, search pass-room, search rules, search (pass-more, arith))
+pub loop-bond-preserved : goal.loop-bond-preserved
+loop-bond-preserved c = (search pass-room, search (pass-more, arith))
 
 pub returns : goal.returns
 returns c = λ e. search (pass-end, arith)

@@ -7,4 +7,4 @@ returns-then-put_rising c = search ringless-put
 
 pub returns : goal.returns
 returns c =
-    ringless-marked c.args.x c.args.part.now c.clear.ensures (omega arith) (omega arith) c.requires.part_value c.set_doubles.ensures c.mark_any.ensures
+    ringless-marked c.args.x c.args.part.now c.clear.ensures (omega arith) (omega arith) c.requires.part_value c.bonds-doubles.ensures c.set_doubles.ensures c.mark_any.ensures

@@ -1,16 +1,13 @@
-use borrow.Author.Rules.{rules}
-use native.Mathlib.Omega.{arith}
-use Rattle.carbons.proofs.BondLaws.{doubles-none, double-set, doubles-all, where-length}
+use Rattle.carbons.proofs.Fronts.{behind-start, behind-turn, behind-end}
+use Rattle.carbons.proofs.BondLaws.{doubles-none, double-set}
 use Rattle.carbons.proofs.set_doubles.Goals as goal
 
-pub loop-i-init : goal.loop-i-init
-loop-i-init c = (omega arith, search rules, search doubles-none)
+pub loop-bond-init : goal.loop-bond-init
+loop-bond-init c = behind-start c.args.doubles.now c.into_iter-bond-iterator.result.iter.rest.now (cc) (doubles-none c.args.bonds.now)
 
-pub loop-i-preserved : goal.loop-i-preserved
-loop-i-preserved c = (omega arith, search rules, search (double-set, arith))
-
-pub shape_of-bonds : goal.shape_of-bonds
-shape_of-bonds c = search where-length
+pub loop-bond-preserved : goal.loop-bond-preserved
+loop-bond-preserved c =
+    behind-turn c.args.doubles.now c.loop-bond.bond-iterator.iter.rest.now c.next.new.self.iter.rest.now c.in-Some.bond.now c.in-Some.ensures.steps (double-set c.in-Some.bond.now c.set_at.ensures) c.loop-bond.invariant
 
 pub returns : goal.returns
-returns c = search (doubles-all, arith)
+returns c = behind-end c.args.doubles.now c.loop-bond.bond-iterator.iter.rest.now c.in-None.ensures.steps.0 c.loop-bond.invariant

@@ -1,11 +1,6 @@
-use Prim.Native.Nat.{◌≤◌}
-use lib.ListN.{length, drop}
-use Rattle.drawn_chain.specs.drawable.Drawn.{Length, bonds_in}
 use Rattle.carbons.specs.ByCarbon.{Geometries}
+use Rattle.carbons.proofs.Fronts.{Behind}
 use Rattle.carbons.proofs.set_geometries.Given as goal
 
-abbrev pub invariant-loop-i : goal.invariant-loop-i
-invariant-loop-i l = (l.i ≤ l.initial.i) × Length (length l.doubles) (bonds_in l.count l.doubles) l.initial.i × Geometries (drop l.i (bonds_in l.count l.doubles)) l.geoms
-
-abbrev pub decreases-loop-i : goal.decreases-loop-i
-decreases-loop-i l = l.i
+abbrev pub invariant-loop-bond : goal.invariant-loop-bond
+invariant-loop-bond l = Behind (λ passed. Geometries passed l.geoms) l.doubles l.bond-iterator.iter.rest.now

@@ -1,16 +1,13 @@
-use borrow.Author.Rules.{rules}
-use native.Mathlib.Omega.{arith}
-use Rattle.carbons.proofs.BondLaws.{rings-none, ring-set, rings-all, where-length}
+use Rattle.carbons.proofs.Fronts.{behind-start, behind-turn, behind-end}
+use Rattle.carbons.proofs.BondLaws.{rings-none, ring-set}
 use Rattle.carbons.proofs.set_rings.Goals as goal
 
-pub loop-i-init : goal.loop-i-init
-loop-i-init c = (omega arith, search rules, search rings-none)
+pub loop-ring-init : goal.loop-ring-init
+loop-ring-init c = behind-start c.args.rings.now c.into_iter-ring-iterator.result.iter.rest.now (cc) (rings-none c.args.busy.now)
 
-pub loop-i-preserved : goal.loop-i-preserved
-loop-i-preserved c = (omega arith, search rules, search (ring-set, arith))
-
-pub shape_of-busy : goal.shape_of-busy
-shape_of-busy c = search where-length
+pub loop-ring-preserved : goal.loop-ring-preserved
+loop-ring-preserved c =
+    behind-turn c.args.rings.now c.loop-ring.ring-iterator.iter.rest.now c.next.new.self.iter.rest.now c.in-Some.ring.now c.in-Some.ensures.steps (ring-set c.in-Some.ring.now c.set_at.ensures c.set_at-in-loop-ring.ensures) c.loop-ring.invariant
 
 pub returns : goal.returns
-returns c = search (rings-all, arith)
+returns c = behind-end c.args.rings.now c.loop-ring.ring-iterator.iter.rest.now c.in-None.ensures.steps.0 c.loop-ring.invariant

@@ -25,9 +25,10 @@ use Rattle.chain_rules.specs.chain.Drawing.{or_none, branch_part, branches}
 use Rattle.chain_pieces.specs.branches.Text.{branch_text, group_text, sitting, groups_text, float_text, floats_text, carbonyl_of, carbonyl_text, rows_in, RowsPut}
 use Rattle.drawn_chain.specs.declared.drawable.Shape.{Shape}
 use Rattle.drawn_chain.specs.declared.rooms.Lists.{Lists}
-use Rattle.drawn_chain.specs.drawable.Drawn.{Length, no_group, floats_drawn, drawn_of}
+use Rattle.drawn_chain.specs.drawable.Drawn.{no_group, floats_drawn, drawn_of}
 use Rattle.carbons.specs.Tokens.{Rising}
-use Rattle.carbons.proofs.Fronts.{next_of, none_left}
+use Rattle.drawn_chain.proofs.drawable.Turns.{left_here}
+use Rattle.drawn_chain.proofs.drawable.Turns as turns
 use Rattle.carbons.proofs.Loads.{past}
 use Rattle.carbons.proofs.Left.{Left, left_less, left-same, left-none, written-three}
 
@@ -133,18 +134,18 @@ unfolding groups_text sitting only branches part_pieces show
 sitting-none k = refl
 
 -- a turn of the loop through the groups, and its end
-module _ {xs ys ts : List ℕ} {at p room n : ℕ} {gs : List Mod} (i k : ℕ) (s : Length room gs n) (v : Left xs at ts ys p (groups_text (sitting k (drop i gs)))) where
-  pub group-here : {zs : List ℕ} {q : ℕ} (g : Mod) → length xs < 2 ^ 64 → i < n → g ≡ get_or gs i no_group → g.pos ≡ k → Written ys p (group_text g.row) zs q
+module _ {xs ys ts : List ℕ} {at p : ℕ} {gs : List Mod} (i k : ℕ) (v : Left xs at ts ys p (groups_text (sitting k (drop i gs)))) where
+  pub group-here : {zs : List ℕ} {q : ℕ} (g : Mod) → length xs < 2 ^ 64 → i < length gs → g ≡ get_or gs i no_group → g.pos ≡ k → Written ys p (group_text g.row) zs q
       → Left xs at ts zs q (groups_text (sitting k (drop (i + 1) gs)))
   group-here g h t e f w =
-      left_less _ h v (ap (λ (us : List Mod). groups_text (sitting k us)) (next_of s no_group g i e t) ∙ sitting-here k g (drop (i + 1) gs) f) w
+      left_less _ h v (ap (λ (us : List Mod). groups_text (sitting k us)) (left_here gs i no_group g t e) ∙ sitting-here k g (drop (i + 1) gs) f) w
 
-  pub group-past : (g : Mod) → i < n → g ≡ get_or gs i no_group → (g.pos ≡ k → ⊥) → Left xs at ts ys p (groups_text (sitting k (drop (i + 1) gs)))
+  pub group-past : (g : Mod) → i < length gs → g ≡ get_or gs i no_group → (g.pos ≡ k → ⊥) → Left xs at ts ys p (groups_text (sitting k (drop (i + 1) gs)))
   group-past g t e f =
-      left-same v (ap (λ (us : List Mod). groups_text (sitting k us)) (next_of s no_group g i e t) ∙ ap groups_text (sitting-past k g (drop (i + 1) gs) f))
+      left-same v (ap (λ (us : List Mod). groups_text (sitting k us)) (left_here gs i no_group g t e) ∙ ap groups_text (sitting-past k g (drop (i + 1) gs) f))
 
-  pub groups-end : n ≤ i → Written xs at ts ys p
-  groups-end t = left-none v (ap (λ (us : List Mod). groups_text (sitting k us)) (none_left s i t) ∙ sitting-none k)
+  pub groups-end : length gs ≤ i → Written xs at ts ys p
+  groups-end t = left-none v (ap (λ (us : List Mod). groups_text (sitting k us)) (turns.left-none gs i t) ∙ sitting-none k)
 
 -- ---- the groups without a position
 
@@ -156,29 +157,29 @@ floats-next : (g : Mod) (gs : List Mod) → floats_text (g ∷ gs) ≡ float_tex
 unfolding floats_text float_text branches
 floats-next g gs = floats-cons (branch_part g.row) (branches gs)
 
-module _ {xs ys ts : List ℕ} {at p room n : ℕ} {gs : List Mod} (i : ℕ) (s : Length room gs n) (v : Left xs at ts ys p (floats_text (drop i gs))) where
-  pub float-next : {zs : List ℕ} {q : ℕ} (g : Mod) → length xs < 2 ^ 64 → i < n → g ≡ get_or gs i no_group → Written ys p (float_text g.row) zs q
+module _ {xs ys ts : List ℕ} {at p : ℕ} {gs : List Mod} (i : ℕ) (v : Left xs at ts ys p (floats_text (drop i gs))) where
+  pub float-next : {zs : List ℕ} {q : ℕ} (g : Mod) → length xs < 2 ^ 64 → i < length gs → g ≡ get_or gs i no_group → Written ys p (float_text g.row) zs q
       → Left xs at ts zs q (floats_text (drop (i + 1) gs))
-  float-next g h t e w = left_less _ h v (ap floats_text (next_of s no_group g i e t) ∙ floats-next g (drop (i + 1) gs)) w
+  float-next g h t e w = left_less _ h v (ap floats_text (left_here gs i no_group g t e) ∙ floats-next g (drop (i + 1) gs)) w
 
-  pub floats-end : n ≤ i → Written xs at ts ys p
-  floats-end t = left-none v (ap floats_text (none_left s i t) ∙ floats-none)
+  pub floats-end : length gs ≤ i → Written xs at ts ys p
+  floats-end t = left-none v (ap floats_text (turns.left-none gs i t) ∙ floats-none)
 
 -- ---- their rows
 
-module _ {xs ys ts : List ℕ} {at p room n : ℕ} {gs : List Mod} (i : ℕ) (s : Length room gs n) (v : Left xs at ts ys p (rows_in (drop i gs))) where
-  pub row_next : {zs : List ℕ} {q : ℕ} (g : Mod) → length xs < 2 ^ 64 → i < n → g ≡ get_or gs i no_group → Written ys p (g.row ∷ []) zs q
+module _ {xs ys ts : List ℕ} {at p : ℕ} {gs : List Mod} (i : ℕ) (v : Left xs at ts ys p (rows_in (drop i gs))) where
+  pub row_next : {zs : List ℕ} {q : ℕ} (g : Mod) → length xs < 2 ^ 64 → i < length gs → g ≡ get_or gs i no_group → Written ys p (g.row ∷ []) zs q
       → Left xs at ts zs q (rows_in (drop (i + 1) gs))
   unfolding rows_in
-  row_next g h t e w = left_less _ h v (ap rows_in (next_of s no_group g i e t)) w
+  row_next g h t e w = left_less _ h v (ap rows_in (left_here gs i no_group g t e)) w
 
-  pub rows_end : n ≤ i → Written xs at ts ys p
+  pub rows_end : length gs ≤ i → Written xs at ts ys p
   unfolding rows_in
-  rows_end t = left-none v (ap rows_in (none_left s i t))
+  rows_end t = left-none v (ap rows_in (turns.left-none gs i t))
 
 -- those of the floating groups
-pub rows-put : {xs ys : List ℕ} {at p : ℕ} (x : Shape) (l : Lists) → Written xs at (rows_in (floats_drawn (drawn_of x l))) ys p → RowsPut (drawn_of x l) xs at ys p
-rows-put x l w = record { rows = λ ρ d k. rw (ap rows_in k.floats) at w; size = written-length w }
+pub rows-put : {xs ys : List ℕ} {at p : ℕ} (x : Shape) (l : Lists) {fs : List Mod} → fs ≡ floats_drawn (drawn_of x l) → Written xs at (rows_in fs) ys p → RowsPut (drawn_of x l) xs at ys p
+rows-put x l e w = record { rows = λ ρ d k. rw (ap rows_in (e ∙ k.floats)) at w; size = written-length w }
 
 -- ---- the carbonyl
 

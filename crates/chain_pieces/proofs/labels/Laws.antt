@@ -15,8 +15,9 @@ use Rattle.reading_rules.specs.reading.Piece.{show_label, show_labels}
 use Rattle.reading_rules.specs.reading.Chain.{labels_at}
 use Rattle.chain_rules.specs.chain.Drawing.{ring_pairs}
 use Rattle.chain_pieces.specs.labels.Text.{labels_text}
-use Rattle.drawn_chain.specs.drawable.Drawn.{Length, no_ring}
-use Rattle.carbons.proofs.Fronts.{next_of, none_left}
+use Rattle.drawn_chain.specs.drawable.Drawn.{no_ring}
+use Rattle.drawn_chain.proofs.drawable.Turns.{left_here}
+use Rattle.drawn_chain.proofs.drawable.Turns as turns
 use Rattle.carbons.proofs.Left.{Left, left_less, left-none, written-three}
 
 module _ {xs ys : List ℕ} {at p : ℕ} (l : ℕ) where
@@ -58,12 +59,12 @@ unfolding labels_text labels_at ring_pairs show_labels
 end_none xs at k l x h n e = rw (ne_eqb x.start k n, ne_eqb x.end k e) (written-nil xs at h)
 
 -- a turn of the loop through the rings, and its end
-module _ {xs ys ts : List ℕ} {at p room n : ℕ} {rs : List Closed} (i k l : ℕ) (s : Length room rs n)
+module _ {xs ys ts : List ℕ} {at p : ℕ} {rs : List Closed} (i k l : ℕ)
     (v : Left xs at ts ys p (labels_text k l (ring_pairs (drop i rs)))) where
-  pub label-next : {zs : List ℕ} {q : ℕ} (x : Closed) → length xs < 2 ^ 64 → i < n → x ≡ get_or rs i no_ring → Written ys p (labels_text k l (ring_pairs (x ∷ []))) zs q
+  pub label-next : {zs : List ℕ} {q : ℕ} (x : Closed) → length xs < 2 ^ 64 → i < length rs → x ≡ get_or rs i no_ring → Written ys p (labels_text k l (ring_pairs (x ∷ []))) zs q
       → Left xs at ts zs q (labels_text k (l + 1) (ring_pairs (drop (i + 1) rs)))
   label-next x h t e w =
-      left_less _ h v (ap (λ (us : List Closed). labels_text k l (ring_pairs us)) (next_of s no_ring x i e t) ∙ labels-cons k l x (drop (i + 1) rs)) w
+      left_less _ h v (ap (λ (us : List Closed). labels_text k l (ring_pairs us)) (left_here rs i no_ring x t e) ∙ labels-cons k l x (drop (i + 1) rs)) w
 
-  pub labels-end : n ≤ i → Written xs at ts ys p
-  labels-end t = left-none v (ap (λ (us : List Closed). labels_text k l (ring_pairs us)) (none_left s i t) ∙ labels-none k l)
+  pub labels-end : length rs ≤ i → Written xs at ts ys p
+  labels-end t = left-none v (ap (λ (us : List Closed). labels_text k l (ring_pairs us)) (turns.left-none rs i t) ∙ labels-none k l)

@@ -1,12 +1,7 @@
-use Prim.Native.Nat.{◌-◌}
-use lib.ListN.{length, drop}
-use Rattle.drawn_chain.specs.drawable.Drawn.{Length, groups_in}
+use lib.ListN.{drop}
 use Rattle.chain_pieces.specs.branches.Text.{sitting, groups_text}
 use Rattle.carbons.proofs.Left.{Left}
 use Rattle.chain_pieces.proofs.branches.put_groups.Given as goal
 
-abbrev pub invariant-loop-i : goal.invariant-loop-i
-invariant-loop-i l = Length (length l.groups) (groups_in l.count l.groups) l.n × Left l.initial.out l.at (groups_text (sitting l.k (groups_in l.count l.groups))) l.out l.p (groups_text (sitting l.k (drop l.i (groups_in l.count l.groups))))
-
-abbrev pub decreases-loop-i : goal.decreases-loop-i
-decreases-loop-i l = l.n - l.i
+abbrev pub invariant-loop-group : goal.invariant-loop-group
+invariant-loop-group l = Left l.initial.out l.at (groups_text (sitting l.k l.groups)) l.out l.p (groups_text (sitting l.k (drop l.group-index l.groups)))
