@@ -4,7 +4,7 @@ ghost use Rattle.std.specs.Prelude.{◌≡◌, true, ◌+◌, ◌*◌, ◌≤◌
 ghost use Rattle.writer.specs.emit.Text.{Written};
 ghost use Rattle.reading_rules.specs.reading.Chain.{bridge_end, float_end};
 ghost use Rattle.chain_rules.specs.chain.Drawing.{branches};
-ghost use Rattle.drawn_chain.specs.drawable.Drawn.{groups_in, drawn_of, groups_drawn};
+ghost use Rattle.drawn_chain.specs.drawable.Drawn.{drawn_of, groups_drawn};
 ghost use Rattle.carbons.specs.Tokens.{tokens, TokensOf};
 ghost use Rattle.writer.specs.index_runs.Index.{ups};
 ghost use Rattle.chain_indices.specs.carried_atoms.Counts.{Counts};
@@ -99,7 +99,7 @@ fn put_four(index: &mut [u16], at: usize, n: u16) -> usize
 }
 
 // The literal carbons where there is room for all of them. A bridge is a ring's, and its first carbon is busy: so a carbon that carries nothing
-// is one atom, and four such carbons are numbered at once.
+// is one atom, and four such carbons are numbered at once: the step varies, so that it is no range that is gone through.
 fn number_within<'a>(
     index: &mut [u16],
     at: usize,
@@ -207,11 +207,7 @@ fn tail_end(count: usize, n: u16) -> usize
     if n == 0 {
         return count;
     }
-    let end = count + 2 * (n as usize) + 2;
-    if end < CARBON_ROOM {
-        return end;
-    }
-    CARBON_ROOM
+    (count + 2 * (n as usize) + 2).min(CARBON_ROOM)
 }
 
 // The carbons of the flexible tail: each is one atom.
@@ -233,17 +229,13 @@ fn number_tail(index: &mut [u16], first: u32, numbers: Numbers, n: u16) -> Numbe
 }
 
 // The atom after the floating groups, the first of which is the atom given.
-fn float_end(floats: &[Mod], count: usize, first: u16) -> u16
+fn float_end(floats: &[Mod], first: u16) -> u16
     requires { (first ≤ 23971) × (length floats.now ≤ 18) }
-    ensures { Counts (first + 108) (float_end first (branches (groups_in count floats.now))) result }
+    ensures { Counts (first + 108) (float_end first (branches floats.now)) result }
 {
-    let n = drawn_chain::groups_len(floats, count);
     let mut end = first;
-    let mut i = 0;
-    while i < n {
-        let g = drawn_chain::nth_group(floats, count, i);
-        end += 1 + carried_atoms::branch_atoms(g.row);
-        i += 1;
+    for group in floats {
+        end += 1 + carried_atoms::branch_atoms(group.row);
     }
     end
 }
@@ -279,7 +271,7 @@ pub fn number_chain<'a>(
     let literal = number_range(index, at, first, x, part, from, last, bonds, busy);
     let all = number_tail(index, first, literal, x.unlocated);
     let next = all.next;
-    let end = float_end(&part.floats, x.float_count, next);
+    let end = float_end(x.floats(part), next);
     ChainAtoms {
         at: all.at,
         count: all.count as u16,

@@ -2,7 +2,7 @@
 // has no ring: they follow one another up to the next group.
 ghost use Rattle.std.specs.Prelude.{◌≡◌, [], ◌∷◌, ◌+◌, ◌≤◌, ◌<◌, length};
 ghost use Rattle.writer.specs.emit.Text.{Written};
-ghost use Rattle.drawn_chain.specs.drawable.Drawn.{groups_in, drawn_of, bonds_drawn, rings_drawn};
+ghost use Rattle.drawn_chain.specs.drawable.Drawn.{drawn_of, bonds_drawn, rings_drawn};
 ghost use Rattle.carbons.specs.ByCarbon.{BondsBy};
 ghost use Rattle.carbons.specs.Tokens.{Grouped};
 ghost use Rattle.chain_indices.specs.atoms.Atoms.{DrawsFew, AtomsOf};
@@ -31,29 +31,18 @@ fn put_one(index: &mut [u16], at: usize, n: u16) -> usize
 }
 
 // The carbons from C k on up to that of the last group, and the atoms of the groups.
-fn number_groups(
-    index: &mut [u16],
-    at: usize,
-    next: u16,
-    k: usize,
-    groups: &[Mod],
-    count: usize,
-) -> Reached
-    requires { Fits (length index.old) at next k (groups_in count groups.now) }
-    ensures { GroupsNumbered next k (groups_in count groups.now) index.old at index.new result }
+fn number_groups(index: &mut [u16], at: usize, next: u16, k: usize, groups: &[Mod]) -> Reached
+    requires { Fits (length index.old) at next k groups.now }
+    ensures { GroupsNumbered next k groups.now index.old at index.new result }
 {
-    let n = drawn_chain::groups_len(groups, count);
     let mut p = at;
     let mut a = next;
     let mut j = k;
-    let mut i = 0;
-    while i < n {
-        let g = drawn_chain::nth_group(groups, count, i);
-        let m = g.pos as usize + 1 - j;
+    for group in groups {
+        let m = group.pos as usize + 1 - j;
         p = writer::fill(index, p, a, m);
-        a += m as u16 + carried_atoms::branch_atoms(g.row);
+        a += m as u16 + carried_atoms::branch_atoms(group.row);
         j += m;
-        i += 1;
     }
     Reached {
         at: p,
@@ -85,8 +74,7 @@ pub fn number_grouped<'a>(
         p,
         low + 1 + lead,
         x.first as usize + 1,
-        &part.groups,
-        x.group_count,
+        x.groups(part),
     );
     let rest = x.carbon as usize + 1 - r.carbon;
     let end = writer::fill(index, r.at, r.next, rest);

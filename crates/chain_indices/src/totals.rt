@@ -37,8 +37,8 @@ pub fn figures_of(x: Shape, part: &Lists) -> Figures
     ensures { FiguresOf (drawn_of x part.now) result }
 {
     let total = sum(x, part);
-    let float_count = drawn_chain::groups_len(&part.floats, x.float_count) as u16;
-    let rings = drawn_chain::rings_len(&part.rings, x.ring_count) as u16;
+    let float_count = x.floats(part).len() as u16;
+    let rings = x.rings(part).len() as u16;
     Figures {
         acyl: x.acyl,
         unlocated: x.unlocated,

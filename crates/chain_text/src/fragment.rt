@@ -1,87 +1,60 @@
 // The text of a chain, written at a place of a lent slice: its carbons, labels and groups by the crates below. The groups and rings are gone
 // through only at carbons that carry one, and the carbons between them are written in runs. On an empty slice the same functions measure.
-ghost use Rattle.std.specs.Prelude.{◌++◌, suc, ◌+◌, ◌-◌, ◌≤◌, ◌<◌, length};
+ghost use Rattle.std.specs.Prelude.{◌++◌, suc, ◌-◌, ◌≤◌, ◌<◌, length};
 ghost use Rattle.writer.specs.emit.Text.{Written};
-ghost use Rattle.drawn_chain.specs.drawable.Drawn.{groups_in, rings_in, drawn_of};
+ghost use Rattle.drawn_chain.specs.drawable.Drawn.{groups_drawn, rings_drawn, drawn_of};
 ghost use Rattle.carbons.specs.Tokens.{tokens, TokensOf};
 ghost use Rattle.carbons.specs.ByCarbon.{Busy};
 ghost use Rattle.chain_pieces.specs.backbone.Text.{carbon_text, bridge_text};
 ghost use Rattle.chain_text.specs.fragment.Text.{features_text, carbons_text};
 ghost use Rattle.chain_text.specs.fragment.Segment.{DrawsRead, Segment};
 
-use chain_record::{Mod, Ring};
 use drawn_chain::{Lists, Shape};
 
 // What follows the C of carbon k: its labels, its carbonyl and its groups.
-fn put_features<'a>(
-    out: &mut [u8],
-    at: usize,
-    acyl: bool,
-    groups: &'a [Mod],
-    group_count: usize,
-    rings: &'a [Ring],
-    ring_count: usize,
-    k: u16,
-    label: u8,
-) -> usize
-    requires { label + length rings.now ≤ 255 }
-    ensures { Written out.old at (features_text acyl (groups_in group_count groups.now) (rings_in ring_count rings.now) label k) out.new result }
+fn put_features(out: &mut [u8], at: usize, x: Shape, part: &Lists, k: u16, label: u8) -> usize
+    requires { label ≤ 247 }
+    ensures { Written out.old at (features_text x.acyl (groups_drawn (drawn_of x part.now)) (rings_drawn (drawn_of x part.now)) label k) out.new result }
 {
-    let p = chain_pieces::put_labels(out, at, rings, ring_count, k, label);
-    let q = chain_pieces::put_carbonyl(out, p, acyl, k);
-    chain_pieces::put_groups(out, q, groups, group_count, k as u32)
+    let p = chain_pieces::put_labels(out, at, x.rings(part), k, label);
+    let q = chain_pieces::put_carbonyl(out, p, x.acyl, k);
+    chain_pieces::put_groups(out, q, x.groups(part), k as u32)
 }
 
 // A carbon with what it carries.
-fn put_busy<'a>(
+fn put_busy(
     out: &mut [u8],
     at: usize,
-    acyl: bool,
-    groups: &'a [Mod],
-    group_count: usize,
-    rings: &'a [Ring],
-    ring_count: usize,
+    x: Shape,
+    part: &Lists,
     k: u16,
     label: u8,
     before: u8,
     bond: u8,
 ) -> usize
-    requires { label + length rings.now ≤ 255 }
-    ensures { Written out.old at (carbon_text before ++ (features_text acyl (groups_in group_count groups.now) (rings_in ring_count rings.now) label k ++ bridge_text bond)) out.new result }
+    requires { label ≤ 247 }
+    ensures { Written out.old at (carbon_text before ++ (features_text x.acyl (groups_drawn (drawn_of x part.now)) (rings_drawn (drawn_of x part.now)) label k ++ bridge_text bond)) out.new result }
 {
     let p = chain_pieces::put_carbon(out, at, before);
-    let q = put_features(
-        out,
-        p,
-        acyl,
-        groups,
-        group_count,
-        rings,
-        ring_count,
-        k,
-        label,
-    );
+    let q = put_features(out, p, x, part, k, label);
     chain_pieces::put_bridge(out, q, bond)
 }
 
 // The carbons from the first drawn one to the last literal one, those that carry nothing in runs: the bonds by carbon and whether a carbon is
-// busy are lent.
+// busy are lent. The step varies, so that it is no range that is gone through.
 fn assemble_range<'a>(
     out: &mut [u8],
     at: usize,
-    acyl: bool,
-    groups: &'a [Mod],
-    group_count: usize,
-    rings: &'a [Ring],
-    ring_count: usize,
+    x: Shape,
+    part: &'a Lists,
     first: u16,
     last: u16,
     bonds: &'a [u8],
     busy: &'a [u8],
     label: u8,
 ) -> usize
-    requires { (1 ≤ first) × (last ≤ 255) × (last < length bonds.now) × (last < length busy.now) × Busy acyl (groups_in group_count groups.now) (rings_in ring_count rings.now) busy.now × (label + length rings.now ≤ 255) }
-    ensures { Written out.old at (carbons_text acyl bonds.now (groups_in group_count groups.now) (rings_in ring_count rings.now) label first (suc last - first)) out.new result }
+    requires { (1 ≤ first) × (last ≤ 255) × (last < length bonds.now) × (last < length busy.now) × Busy x.acyl (groups_drawn (drawn_of x part.now)) (rings_drawn (drawn_of x part.now)) busy.now × (label ≤ 247) }
+    ensures { Written out.old at (carbons_text x.acyl bonds.now (groups_drawn (drawn_of x part.now)) (rings_drawn (drawn_of x part.now)) label first (suc last - first)) out.new result }
 {
     let mut p = at;
     let mut k = first as usize;
@@ -93,19 +66,7 @@ fn assemble_range<'a>(
             k = r.carbon;
             continue;
         }
-        p = put_busy(
-            out,
-            p,
-            acyl,
-            groups,
-            group_count,
-            rings,
-            ring_count,
-            k as u16,
-            label,
-            bonds[k - 1],
-            bonds[k],
-        );
+        p = put_busy(out, p, x, part, k as u16, label, bonds[k - 1], bonds[k]);
         k += 1;
     }
     p
@@ -131,20 +92,7 @@ pub fn build_chain_segment<'a>(
 {
     let end = last as usize;
     let bond = bonds[end];
-    let p = assemble_range(
-        out,
-        at,
-        x.acyl,
-        &part.groups,
-        x.group_count,
-        &part.rings,
-        x.ring_count,
-        first,
-        last,
-        bonds,
-        busy,
-        label,
-    );
+    let p = assemble_range(out, at, x, part, first, last, bonds, busy, label);
     let q = chain_pieces::put_flexible(out, p, bond, x.unlocated);
-    chain_pieces::put_floats(out, q, &part.floats, x.float_count)
+    chain_pieces::put_floats(out, q, x.floats(part))
 }

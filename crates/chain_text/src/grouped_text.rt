@@ -2,7 +2,7 @@
 // carbons are written in runs, each up to the next group.
 ghost use Rattle.std.specs.Prelude.{◌≡◌, ℕ, ◌+◌, ◌-◌, ◌*◌, ◌≤◌, ◌<◌, length, drop};
 ghost use Rattle.writer.specs.emit.Text.{Written};
-ghost use Rattle.drawn_chain.specs.drawable.Drawn.{groups_in, drawn_of, bonds_drawn, rings_drawn};
+ghost use Rattle.drawn_chain.specs.drawable.Drawn.{drawn_of, bonds_drawn, rings_drawn};
 ghost use Rattle.carbons.specs.Tokens.{Rising, Grouped};
 ghost use Rattle.carbons.specs.ByCarbon.{BondsBy};
 ghost use Rattle.chain_pieces.specs.runs.Links.{links_text};
@@ -13,66 +13,42 @@ use chain_record::{DbPos, Mod};
 use drawn_chain::{Lists, Shape};
 
 // The carbon of the group at a place; past the last group the last carbon.
-fn stop(groups: &[Mod], count: usize, i: usize, last: usize) -> usize
-    ensures { result ≡ stop_of (drop i (groups_in count groups.now)) last }
+fn stop(groups: &[Mod], i: usize, last: usize) -> usize
+    ensures { result ≡ stop_of (drop i groups.now) last }
 {
-    let n = drawn_chain::groups_len(groups, count);
-    if i < n {
-        let g = drawn_chain::nth_group(groups, count, i);
-        return g.pos as usize;
+    if i < groups.len() {
+        return groups[i].pos as usize;
     }
     last
 }
 
 // The group at a place; past the last nothing.
-fn put_nth(out: &mut [u8], at: usize, groups: &[Mod], count: usize, i: usize) -> usize
-    ensures { Written out.old at (next_text (drop i (groups_in count groups.now))) out.new result }
+fn put_nth(out: &mut [u8], at: usize, groups: &[Mod], i: usize) -> usize
+    ensures { Written out.old at (next_text (drop i groups.now)) out.new result }
 {
-    let n = drawn_chain::groups_len(groups, count);
-    if i < n {
-        let g = drawn_chain::nth_group(groups, count, i);
-        return chain_pieces::put_group(out, at, g.row);
+    if i < groups.len() {
+        return chain_pieces::put_group(out, at, groups[i].row);
     }
     at
 }
 
-// The carbon at which the double bond at a place starts; past the last of them, and where it would stand off the chain, the carbon after the last.
-fn next_double(doubles: &[DbPos], count: usize, i: usize, last: usize) -> usize
-    requires { last ≤ 255 }
-    ensures { result ≤ last + 1 }
-{
-    let n = drawn_chain::bonds_len(doubles, count);
-    if i < n {
-        let b = drawn_chain::nth_bond(doubles, count, i);
-        let c = b.pos as usize;
-        if c <= last {
-            return c;
-        }
-        return last + 1;
-    }
-    last + 1
-}
-
-// All carbons from C k to the last, in parts: those before a double bond, which have empty bonds before them, and the three at it. What is written
-// is the same wherever they are parted.
+// All carbons from C k to the last, in parts: those before a double bond, which have empty bonds before them, and the three at it; a double bond
+// off the chain counts as one after its last carbon. What is written is the same wherever they are parted.
 fn put_doubles<'a>(
     out: &mut [u8],
     at: usize,
     bonds: &'a [u8],
     doubles: &'a [DbPos],
-    count: usize,
     k: usize,
     last: usize,
 ) -> usize
     requires { (1 ≤ k) × (k ≤ last + 1) × (last ≤ 255) × (last < length bonds.now) × (at + (last + 1 - k) * 2 ≤ length out.old) }
     ensures { Written out.old at (links_text bonds.now k (last + 1 - k)) out.new result }
 {
-    let n = drawn_chain::bonds_len(doubles, count);
     let mut p = at;
     let mut j = k;
-    let mut i = 0;
-    while i < n {
-        let c = next_double(doubles, count, i, last);
+    for double in doubles {
+        let c = (double.pos as usize).min(last + 1);
         if j < c {
             p = chain_pieces::put_span(out, p, bonds, j, c - 1);
             j = c;
@@ -80,7 +56,6 @@ fn put_doubles<'a>(
         let r = chain_pieces::put_near(out, p, bonds, j, last);
         p = r.at;
         j = r.carbon;
-        i += 1;
     }
     chain_pieces::put_span(out, p, bonds, j, last)
 }
@@ -92,25 +67,21 @@ fn put_stretches<'a>(
     at: usize,
     bonds: &'a [u8],
     groups: &'a [Mod],
-    count: usize,
     k: usize,
     last: usize,
 ) -> usize
-    requires rising { Rising (k - 1) last (groups_in count groups.now) }
+    requires rising { Rising (k - 1) last groups.now }
     requires le_k { (1 ≤ k) × (k ≤ last + 1) × (last ≤ 255) × (last < length bonds.now) }
-    requires groups_in_bounds { at + ((last + 1 - k) * 2 + 14 * length (groups_in count groups.now)) ≤ length out.old }
-    ensures { Written out.old at (rest_text bonds.now k last (groups_in count groups.now)) out.new result }
+    requires groups_in_bounds { at + ((last + 1 - k) * 2 + 14 * length groups.now) ≤ length out.old }
+    ensures { Written out.old at (rest_text bonds.now k last groups.now) out.new result }
 {
-    let n = drawn_chain::groups_len(groups, count);
     let mut p = at;
     let mut j = k;
-    let mut i = 0;
-    while i <= n {
-        let to = stop(groups, count, i, last);
+    for i in 0..groups.len() + 1 {
+        let to = stop(groups, i, last);
         p = chain_pieces::put_through(out, p, bonds, j, to);
-        p = put_nth(out, p, groups, count, i);
+        p = put_nth(out, p, groups, i);
         j = to + 1;
-        i += 1;
     }
     p
 }
@@ -134,9 +105,9 @@ pub fn build_grouped<'a>(
     let p = chain_pieces::put_carbon(out, at, bonds[k - 1]);
     let q = chain_pieces::put_carbonyl(out, p, x.acyl, x.first);
     if x.group_count == 0 {
-        return put_doubles(out, q, bonds, &part.bonds, x.bond_count, k + 1, last);
+        return put_doubles(out, q, bonds, x.bonds(part), k + 1, last);
     }
-    put_stretches(out, q, bonds, &part.groups, x.group_count, k + 1, last)
+    put_stretches(out, q, bonds, x.groups(part), k + 1, last)
 }
 
 // The text of such a chain that carries nothing, where there is room for it: carbons between empty bonds, and the O of an acyl C1.

@@ -17,14 +17,15 @@ use Rattle.chain_rules.specs.chain.Features.{first_drawn, literal_end, flexible_
 use Rattle.chain_rules.specs.chain.Bonds.{bond_at, mark_of}
 use Rattle.chain_rules.specs.chain.Drawing.{branch_part, branches, bare, pairs, flexible, literal, carbons, floats, carbon_atoms, flexible_atom, atoms_end}
 use Rattle.drawn_chain.specs.declared.drawable.Shape.{Shape}
-use Rattle.drawn_chain.specs.drawable.Drawn.{Drawn, Length, no_group, floats_drawn, Draws}
+use Rattle.drawn_chain.specs.drawable.Drawn.{Drawn, no_group, floats_drawn, Draws}
 use Rattle.chain_indices.specs.declared.atoms.Numbers.{Numbers}
 use Rattle.carbons.specs.Tokens.{ChainTokens, TokensOf}
 use Rattle.chain_text.specs.fragment.Segment.{Readable}
 use Rattle.writer.specs.index_runs.Index.{index_from, indices, ups}
 use Rattle.chain_indices.specs.carried_atoms.Counts.{Counts}
 use Rattle.chain_indices.specs.atoms.Atoms.{starts, tail_count, literal_of, Numbered, LiteralNumbers, TailNumbers, AtomsOf}
-use Rattle.carbons.proofs.Fronts.{next_of, none_left}
+use Rattle.drawn_chain.proofs.drawable.Turns.{left_here}
+use Rattle.drawn_chain.proofs.drawable.Turns as turns
 use Rattle.chain_indices.proofs.atoms.AtomLaws.{carbon-shift, chain-shift, float-shift}
 use Rattle.chain_indices.proofs.atoms.Runs.{Bares, bares-starts, bares-end, starts-append, end-append}
 use Rattle.chain_text.proofs.fragment.SegmentLaws.{literal-is, literal-length}
@@ -101,22 +102,23 @@ pub record FloatSum (gs : List Mod) (first end i : ℕ) : Type 0 where
 pub floats-start : (gs : List Mod) (first : ℕ) → FloatSum gs first first 0
 floats-start gs first = record { is = refl; few = omega arith }
 
-module _ {room n first end : ℕ} {gs : List Mod} (i : ℕ) (s : Length room gs n) (v : FloatSum gs first end i) where
-  pub float-counted : (g : Mod) (m : ℕ) → i < n → g ≡ get_or gs i no_group → Counts 5 (branch_part g.row).size m → FloatSum gs first (end + (1 + m)) (i + 1)
+module _ {first end : ℕ} {gs : List Mod} (i : ℕ) (v : FloatSum gs first end i) where
+  pub float-counted : (m : ℕ) → i < length gs → Counts 5 (branch_part (get_or gs i no_group).row).size m → FloatSum gs first (end + (1 + m)) (i + 1)
   unfolding branches float_end
-  float-counted g m h e c =
+  float-counted m h c =
+      let g : Mod = get_or gs i no_group in
       let z : suc end + (branch_part g.row).size ≡ end + (1 + m) = omega (arith, c.is) in
       record {
-        is = v.is ∙ (ap (λ (us : List Mod). float_end end (branches us)) (next_of s no_group g i e h) ∙ ap (λ (q : ℕ). float_end q (branches (drop (i + 1) gs))) z);
+        is = v.is ∙ (ap (λ (us : List Mod). float_end end (branches us)) (left_here gs i no_group g h refl) ∙ ap (λ (q : ℕ). float_end q (branches (drop (i + 1) gs))) z);
         few = omega (arith, v.few, c.few);
       }
 
-  pub floats-counted : room ≤ 18 → i ≤ n → n ≤ i → Counts (first + 108) (float_end first (branches gs)) end
+  pub floats-counted : length gs ≤ 18 → i ≤ length gs → length gs ≤ i → Counts (first + 108) (float_end first (branches gs)) end
   unfolding branches float_end
   floats-counted f g h =
       record {
-        is = sym (v.is ∙ ap (λ (us : List Mod). float_end end (branches us)) (none_left s i h));
-        few = omega (arith, v.few, s.fits);
+        is = sym (v.is ∙ ap (λ (us : List Mod). float_end end (branches us)) (turns.left-none gs i h));
+        few = omega (arith, v.few);
       }
 
 -- ---- the atoms of the drawing
@@ -190,12 +192,12 @@ module _ (r : Role) (d : read.Chain) (x : Drawn) (t : ChainTokens) (w : Draws r 
       = tail-after (literal_of x t) (mark_of (bond_at r d (literal_end r d))) x.unlocated g n v (fits l n h) in
       rw (literal-same, w.unlocated) at q
 
-pub chain-numbered : {first : ℕ} {xs ys zs : List ℕ} {at : ℕ} (x : Drawn) (t : ChainTokens) (l a : Numbers) (e : ℕ) → length xs < 2 ^ 64 → TokensOf x t
+pub chain-numbered : {first : ℕ} {xs ys zs : List ℕ} {at : ℕ} (x : Drawn) (t : ChainTokens) (l a : Numbers) (e : ℕ) {fs : List Mod} → length xs < 2 ^ 64 → TokensOf x t
     → LiteralNumbers first x t xs at ys l → TailNumbers first x.unlocated ys l zs a
-    → Counts (a.next + 108) (float_end a.next (branches (floats_drawn x))) e
+    → fs ≡ floats_drawn x → Counts (a.next + 108) (float_end a.next (branches fs)) e
     → AtomsOf first x xs at zs (record { at = a.at; count = a.count; flexible = l.next; floats = a.next; end = e })
 unfolding flexible_atom atoms_end floats
-chain-numbered {first} {xs} {ys} {zs} {at} x t l a e g k u v c =
+chain-numbered {first} {xs} {ys} {zs} {at} x t l a e g k u v f c =
     record {
       are =
           λ r d w s h.
@@ -204,7 +206,7 @@ chain-numbered {first} {xs} {ys} {zs} {at} x t l a e g k u v c =
             count = q.count ∙ (sym (length-starts 0 (carbons r d)) ∙ ap length (sym (carbon-atoms r d 0)));
             flexible = u.numbered.next ∙ ap (chain_end 0) (literal-same r d x t w k s);
             floats = q.next;
-            end = c.is ∙ (rw (q.next, w.floats));
+            end = c.is ∙ (rw (q.next, f, w.floats));
           };
       written =
           λ r d w s h.
@@ -227,4 +229,4 @@ pub literal-alone : {first : ℕ} {xs ys : List ℕ} {at : ℕ} (x : Drawn) (t :
 literal-alone {first} {xs} {ys} {at} x t p count next g o k u f w m n room few =
     let l : Numbers = record { at = p; count = count; next = next } in
     let v : LiteralNumbers first x t xs at ys l = record { numbered = record { written = w; count = m; next = n }; room = room; few = few } in
-    chain-numbered x t l l next g k v (tail-empty first x.unlocated ys l u o room) (no_floats x next f)
+    chain-numbered x t l l next g k v (tail-empty first x.unlocated ys l u o room) refl (no_floats x next f)

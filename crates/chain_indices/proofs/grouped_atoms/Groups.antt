@@ -7,8 +7,9 @@ use lib.ListN.{length, drop, get_or}
 use Rattle.writer.specs.emit.Text.{Written}
 use Rattle.chain_record.specs.declared.plain.Mod.{Mod}
 use Rattle.chain_rules.specs.chain.Drawing.{branch_part}
-use Rattle.drawn_chain.specs.drawable.Drawn.{Length, no_group}
-use Rattle.carbons.proofs.Fronts.{next_of, none_left}
+use Rattle.drawn_chain.specs.drawable.Drawn.{no_group}
+use Rattle.drawn_chain.proofs.drawable.Turns.{left_here}
+use Rattle.drawn_chain.proofs.drawable.Turns as turns
 use Rattle.carbons.proofs.Left.{Left, left-all, left_less, left-none, left-length}
 use Rattle.writer.specs.index_runs.Index.{ups}
 use Rattle.chain_indices.specs.carried_atoms.Counts.{Counts}
@@ -75,10 +76,13 @@ module _ {next k at p a j : ℕ} {gs rest : List Mod} {xs ys : List ℕ} (g : Mo
       })
 
 -- the same by the places of the list
-module _ {next k at p a j room n : ℕ} {gs : List Mod} {xs ys : List ℕ} (i : ℕ) (g : Mod) (s : Length room gs n) (e : g ≡ get_or gs i no_group) (h : i < n)
+module _ {next k at p a j : ℕ} {gs : List Mod} {xs ys : List ℕ} (i : ℕ) (h : i < length gs)
     (v : Going next k gs xs at ys p a j (drop i gs)) where
+  abbrev g : Mod
+  g = get_or gs i no_group
+
   here : Going next k gs xs at ys p a j (g ∷ drop (i + 1) gs)
-  here = rw (next_of s no_group g i e h) at v
+  here = rw (left_here gs i no_group g h refl) at v
 
   pub group-reaches : j ≤ g.pos + 1
   group-reaches = reaches g here
@@ -105,17 +109,14 @@ module _ {next k at p a j room n : ℕ} {gs : List Mod} {xs ys : List ℕ} (i : 
       → Going next k gs xs at zs q (a + (m + b)) (j + m) (drop (i + 1) gs)
   group-numbered m b l f w c = going_more g here m b l f w c
 
-pub fewer : (n i : ℕ) → i < n → n - (i + 1) < n - i
-fewer n i h = omega arith
-
 pub going-size : {next k at p a j : ℕ} {gs rest : List Mod} {xs ys : List ℕ} → Going next k gs xs at ys p a j rest → length ys ≡ length xs
 going-size v = left-length v.left
 
-pub groups-numbered : {next k at p a j room n : ℕ} {gs : List Mod} {xs ys : List ℕ} (i : ℕ) → Length room gs n → n ≤ i → Going next k gs xs at ys p a j (drop i gs)
+pub groups-numbered : {next k at p a j : ℕ} {gs : List Mod} {xs ys : List ℕ} (i : ℕ) → length gs ≤ i → Going next k gs xs at ys p a j (drop i gs)
     → GroupsNumbered next k gs xs at ys (record { at = p; next = a; carbon = j })
 unfolding group_starts group_end group_carbon
-groups-numbered {next} {k} {at} {p} {a} {j} {gs = gs} {xs} {ys} i s h v =
-    let w : Going next k gs xs at ys p a j [] = rw (none_left s i h) at v in
+groups-numbered {next} {k} {at} {p} {a} {j} {gs} {xs} {ys} i h v =
+    let w : Going next k gs xs at ys p a j [] = rw (turns.left-none gs i h) at v in
     record {
       written = left-none w.left refl;
       atom = w.ends;

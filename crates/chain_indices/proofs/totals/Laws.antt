@@ -26,9 +26,9 @@ sum-some x m h s = record { is = λ r d w. rw (← s.is r d w, ← w.unlocated, 
 
 -- ---- its floating groups and rings
 
-pub figures-are : {x : Shape} (l : Lists) {a b t f r : ℕ} → Says (drawn_of x l) t sum_of → Length a (floats_drawn (drawn_of x l)) f → Length b (rings_drawn (drawn_of x l)) r
+pub figures-are : {x : Shape} (l : Lists) {t f r : ℕ} {fs : List Mod} {rs : List Ring} → Says (drawn_of x l) t sum_of → fs ≡ floats_drawn (drawn_of x l) → f ≡ length fs → rs ≡ rings_drawn (drawn_of x l) → r ≡ length rs
     → FiguresOf (drawn_of x l) (record { acyl = x.acyl; unlocated = x.unlocated; total = t; float_count = f; rings = r })
-figures-are l s u v =
+figures-are l s e u g v =
     record {
       are =
           λ ρ d w.
@@ -36,7 +36,7 @@ figures-are l s u v =
             acyl = w.acyl;
             unlocated = w.unlocated;
             total = s.is ρ d w;
-            floats = u.is ∙ ap length w.floats;
-            rings = v.is ∙ ap length w.rings;
+            floats = u ∙ ap length (e ∙ w.floats);
+            rings = v ∙ ap length (g ∙ w.rings);
           };
     }

@@ -134,7 +134,7 @@ unfolding groups_text sitting only branches part_pieces show
 sitting-none k = refl
 
 -- a turn of the loop through the groups, and its end
-module _ {xs ys ts : List ℕ} {at p : ℕ} {gs : List Mod} (i k : ℕ) (v : Left xs at ts ys p (groups_text (sitting k (drop i gs)))) where
+module _ {xs ys ts : List ℕ} {at p : ℕ} (gs : List Mod) (i k : ℕ) (v : Left xs at ts ys p (groups_text (sitting k (drop i gs)))) where
   pub group-here : {zs : List ℕ} {q : ℕ} (g : Mod) → length xs < 2 ^ 64 → i < length gs → g ≡ get_or gs i no_group → g.pos ≡ k → Written ys p (group_text g.row) zs q
       → Left xs at ts zs q (groups_text (sitting k (drop (i + 1) gs)))
   group-here g h t e f w =
@@ -157,7 +157,7 @@ floats-next : (g : Mod) (gs : List Mod) → floats_text (g ∷ gs) ≡ float_tex
 unfolding floats_text float_text branches
 floats-next g gs = floats-cons (branch_part g.row) (branches gs)
 
-module _ {xs ys ts : List ℕ} {at p : ℕ} {gs : List Mod} (i : ℕ) (v : Left xs at ts ys p (floats_text (drop i gs))) where
+module _ {xs ys ts : List ℕ} {at p : ℕ} (gs : List Mod) (i : ℕ) (v : Left xs at ts ys p (floats_text (drop i gs))) where
   pub float-next : {zs : List ℕ} {q : ℕ} (g : Mod) → length xs < 2 ^ 64 → i < length gs → g ≡ get_or gs i no_group → Written ys p (float_text g.row) zs q
       → Left xs at ts zs q (floats_text (drop (i + 1) gs))
   float-next g h t e w = left_less _ h v (ap floats_text (left_here gs i no_group g t e) ∙ floats-next g (drop (i + 1) gs)) w
@@ -167,7 +167,7 @@ module _ {xs ys ts : List ℕ} {at p : ℕ} {gs : List Mod} (i : ℕ) (v : Left 
 
 -- ---- their rows
 
-module _ {xs ys ts : List ℕ} {at p : ℕ} {gs : List Mod} (i : ℕ) (v : Left xs at ts ys p (rows_in (drop i gs))) where
+module _ {xs ys ts : List ℕ} {at p : ℕ} (gs : List Mod) (i : ℕ) (v : Left xs at ts ys p (rows_in (drop i gs))) where
   pub row_next : {zs : List ℕ} {q : ℕ} (g : Mod) → length xs < 2 ^ 64 → i < length gs → g ≡ get_or gs i no_group → Written ys p (g.row ∷ []) zs q
       → Left xs at ts zs q (rows_in (drop (i + 1) gs))
   unfolding rows_in

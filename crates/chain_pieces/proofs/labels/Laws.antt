@@ -59,7 +59,7 @@ unfolding labels_text labels_at ring_pairs show_labels
 end_none xs at k l x h n e = rw (ne_eqb x.start k n, ne_eqb x.end k e) (written-nil xs at h)
 
 -- a turn of the loop through the rings, and its end
-module _ {xs ys ts : List ℕ} {at p : ℕ} {rs : List Closed} (i k l : ℕ)
+module _ {xs ys ts : List ℕ} {at p : ℕ} (rs : List Closed) (i k l : ℕ)
     (v : Left xs at ts ys p (labels_text k l (ring_pairs (drop i rs)))) where
   pub label-next : {zs : List ℕ} {q : ℕ} (x : Closed) → length xs < 2 ^ 64 → i < length rs → x ≡ get_or rs i no_ring → Written ys p (labels_text k l (ring_pairs (x ∷ []))) zs q
       → Left xs at ts zs q (labels_text k (l + 1) (ring_pairs (drop (i + 1) rs)))

@@ -32,11 +32,11 @@ use Rattle.chain_pieces.proofs.backbone.Laws.{carbon-shown}
 
 -- ---- what stands on a carbon
 
-pub features-written : {xs ys zs ws : List ℕ} {at p q r : ℕ} (acyl : Bool) (gs : List Mod) (rs : List Closed) (l k : ℕ) → length xs < 2 ^ 64
+pub features-written : {xs ys zs ws : List ℕ} {at p q r : ℕ} (acyl : Bool) {gs hs : List Mod} {rs ss : List Closed} (l k : ℕ) → length xs < 2 ^ 64 → gs ≡ hs → rs ≡ ss
     → Written xs at (labels_text k l (ring_pairs rs)) ys p → Written ys p (carbonyl_text acyl k) zs q → Written zs q (groups_text (sitting k gs)) ws r
-    → Written xs at (features_text acyl gs rs l k) ws r
+    → Written xs at (features_text acyl hs ss l k) ws r
 unfolding features_text
-features-written acyl gs rs l k h u v w = written-three h u v w
+features-written acyl l k h e f u v w = rw (← e, ← f) (written-three h u v w)
 
 -- ---- a carbon that is not busy
 

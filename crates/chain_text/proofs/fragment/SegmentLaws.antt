@@ -190,18 +190,18 @@ segment-written x t l h u v w = written-three h u v w
 pub segment-drawn : {xs ys : List ℕ} {at q : ℕ} (x : Drawn) (t : ChainTokens) (l : ℕ) → TokensOf x t → Written xs at (segment_text x t l) ys q → Segment x l xs at ys q
 segment-drawn x t l k w = record { size = written-length w; text = λ r d g s. rw (segment-is r d x t g k s l) w }
 
--- what the writer of the literal carbons relies on, where there is room for so many rings
-pub range-ready : (x : Drawn) (first last : ℕ) (bs us : List ℕ) (rs : List Closed) (l : ℕ) → TokensOf x (tokens first last bs us) → length rs ≡ 8 → l ≤ 247
-    → (1 ≤ first) × (last ≤ 255) × (last < length bs) × (last < length us) × Busy x.acyl (groups_drawn x) (rings_drawn x) us × (l + length rs ≤ 255)
-range-ready x first last bs us rs l k a e = (omega (arith, k.first), k.room, k.bonded, k.laden, k.busy, omega arith)
+-- what the writer of the literal carbons relies on
+pub range-ready : (x : Drawn) (first last : ℕ) (bs us : List ℕ) (l : ℕ) → TokensOf x (tokens first last bs us) → l ≤ 247
+    → (1 ≤ first) × (last ≤ 255) × (last < length bs) × (last < length us) × Busy x.acyl (groups_drawn x) (rings_drawn x) us × (l ≤ 247)
+range-ready x first last bs us l k e = (omega (arith, k.first), k.room, k.bonded, k.laden, k.busy, e)
 
 -- where what each carbon has is lent
-pub segment-done : {xs ys zs ws : List ℕ} {at p q o : ℕ} (x : Shape) (part : Lists) (first last : ℕ) (bs us : List ℕ) (l : ℕ) → length xs < 2 ^ 64
-    → TokensOf (drawn_of x part) (tokens first last bs us)
+pub segment-done : {xs ys zs ws : List ℕ} {at p q o : ℕ} (x : Shape) (part : Lists) (first last : ℕ) (bs us : List ℕ) (l : ℕ) {fs : List Mod} → length xs < 2 ^ 64
+    → TokensOf (drawn_of x part) (tokens first last bs us) → fs ≡ floats_drawn (drawn_of x part)
     → Written xs at (carbons_text x.acyl bs (groups_drawn (drawn_of x part)) (rings_drawn (drawn_of x part)) l first (suc last - first)) ys p
-    → Written ys p (flexible_text (get_or bs last 0) x.unlocated) zs q → Written zs q (floats_text (floats_drawn (drawn_of x part))) ws o → Segment (drawn_of x part) l xs at ws o
-segment-done x part first last bs us l h k u v w =
-    segment-drawn (drawn_of x part) (tokens first last bs us) l k (segment-written (drawn_of x part) (tokens first last bs us) l h u v w)
+    → Written ys p (flexible_text (get_or bs last 0) x.unlocated) zs q → Written zs q (floats_text fs) ws o → Segment (drawn_of x part) l xs at ws o
+segment-done x part first last bs us l h k e u v w =
+    segment-drawn (drawn_of x part) (tokens first last bs us) l k (segment-written (drawn_of x part) (tokens first last bs us) l h u v (rw e at w))
 
 -- ---- a chain without a tail
 

@@ -2,12 +2,13 @@
 -- Assumes nothing.
 use Prim.Native.Nat.{ℕ, suc, ◌+◌, ◌-◌, ◌*◌, ◌^◌, ◌≤◌, ◌<◌}
 use native.Mathlib.Omega.{arith}
-use mathlib.Core.Path.{◌≡◌, refl}
+use mathlib.Core.Path.{◌≡◌, refl, ap}
 use mathlib.Core.Bool.{Bool}
 use mathlib.Core.List.{List, [], ◌++◌, append-nil}
 use lib.ListN.{length, get_or}
 use Rattle.writer.specs.emit.Text.{Written}
 use Rattle.writer.proofs.emit.Laws.{written-length}
+use Rattle.chain_record.specs.declared.plain.Mod.{Mod}
 use Rattle.drawn_chain.specs.declared.drawable.Shape.{Shape}
 use Rattle.drawn_chain.specs.declared.rooms.Lists.{Lists}
 use Rattle.drawn_chain.specs.drawable.Drawn.{Drawn, drawn_of, bonds_drawn, groups_drawn, rings_drawn}
@@ -56,18 +57,18 @@ module _ (x : Drawn) (bs : List ℕ) (e : Grouped x) (b : BondsBy (bonds_drawn x
 module _ (x : Shape) (part : Lists) (e : Grouped (drawn_of x part)) where
   pub grouped-done : {xs ys zs ws : List ℕ} {at p q r : ℕ} (bs : List ℕ) → BondsBy (bonds_drawn (drawn_of x part)) (rings_drawn (drawn_of x part)) x.carbon bs → length xs < 2 ^ 64
       → Written xs at (carbon_text (get_or bs (x.first - 1) 0)) ys p → Written ys p (carbonyl_text x.acyl x.first) zs q
-      → Written zs q (rest_text bs (x.first + 1) x.carbon (groups_drawn (drawn_of x part))) ws r → (l : ℕ) → Segment (drawn_of x part) l xs at ws r
-  grouped-done bs b g u v w = grouped-segment (drawn_of x part) bs e b g u v w
+      → {gs : List Mod} → gs ≡ groups_drawn (drawn_of x part) → Written zs q (rest_text bs (x.first + 1) x.carbon gs) ws r → (l : ℕ) → Segment (drawn_of x part) l xs at ws r
+  grouped-done bs b g u v s w = grouped-segment (drawn_of x part) bs e b g u v (rw s at w)
 
-  pub grouped-rising : Rising (x.first + 1 - 1) x.carbon (groups_drawn (drawn_of x part))
-  grouped-rising =
+  pub grouped-rising : {gs : List Mod} → gs ≡ groups_drawn (drawn_of x part) → Rising (x.first + 1 - 1) x.carbon gs
+  grouped-rising s =
       let z : x.first + 1 - 1 ≡ x.first = omega arith in
-      rw z e.groups
+      rw (s, z) e.groups
 
-  pub grouped-room : {xs ys zs : List ℕ} {at p q : ℕ} (b : ℕ) (acyl : Bool) → at + (x.carbon * 2 + 260) ≤ length xs → Written xs at (carbon_text b) ys p → Written ys p (carbonyl_text acyl x.first) zs q
-      → q + ((x.carbon + 1 - (x.first + 1)) * 2 + 14 * length (groups_drawn (drawn_of x part))) ≤ length zs
-  grouped-room b acyl h u v =
-      omega (arith, e.first, e.few, e.some, u.next, v.next, carbon-length b, carbonyl-length acyl x.first, written-length u, written-length v)
+  pub grouped-room : {xs ys zs : List ℕ} {at p q : ℕ} (b : ℕ) (acyl : Bool) {gs : List Mod} → gs ≡ groups_drawn (drawn_of x part) → at + (x.carbon * 2 + 260) ≤ length xs → Written xs at (carbon_text b) ys p → Written ys p (carbonyl_text acyl x.first) zs q
+      → q + ((x.carbon + 1 - (x.first + 1)) * 2 + 14 * length gs) ≤ length zs
+  grouped-room b acyl s h u v =
+      omega (arith, ap length s, e.first, e.few, e.some, u.next, v.next, carbon-length b, carbonyl-length acyl x.first, written-length u, written-length v)
 
 -- ---- and where there are none
 
@@ -82,4 +83,4 @@ module _ (x : Shape) (part : Lists) (e : Grouped (drawn_of x part)) where
 
   pub plain-room : {xs ys zs : List ℕ} {at p q : ℕ} (b : ℕ) (acyl : Bool) → at + (x.carbon * 2 + 260) ≤ length xs → Written xs at (carbon_text b) ys p → Written ys p (carbonyl_text acyl x.first) zs q
       → q + (x.carbon + 1 - (x.first + 1)) * 2 ≤ length zs
-  plain-room b acyl h u v = omega (arith, grouped-room x part e b acyl h u v)
+  plain-room b acyl h u v = omega (arith, grouped-room x part e b acyl refl h u v)

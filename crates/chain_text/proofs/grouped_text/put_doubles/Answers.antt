@@ -7,8 +7,8 @@ use Rattle.chain_text.proofs.grouped_text.DoubleLaws.{before-some, before-none, 
 use Rattle.chain_text.proofs.grouped_text.put_doubles.Goals as goal
 use Rattle.chain_text.proofs.grouped_text.put_doubles.Goals.{then-j-c, else-j-c}
 
-pub loop-i-init : goal.loop-i-init
-loop-i-init c = (search rules, search rules, search rules, search rules, search rules, search (links-none, arith))
+pub loop-double-init : goal.loop-double-init
+loop-double-init c = (search rules, search rules, search rules, search rules, search (links-none, arith))
 
 pub put_span-p-requires : goal.put_span-p-requires
 put_span-p-requires c = (omega arith, omega arith, omega arith, omega arith, search (part_room, arith))
@@ -19,19 +19,19 @@ pub put_near-r-requires : goal.put_near-r-requires
 put_near-r-requires c =
     let v : Links c.args.bonds.now [] c.args.k c.args.last c.args.out.now c.args.at c.if-j-c.out c.if-j-c.p c.if-j-c.j =
     elim c.if-j-c.branch [
-      | then-j-c w ↦ before-some _ _ _ c.loop-i.invariant.5 (omega arith) w.if-j-c.true c.next_double-c.ensures w.put_span-p.ensures w.out-is w.p-is w.j-is
-      | else-j-c w ↦ before-none _ _ _ c.loop-i.invariant.5 w.out-is w.p-is w.j-is
+      | then-j-c w ↦ before-some _ _ _ c.loop-double.invariant.4 (omega arith) w.if-j-c.true (omega arith) w.put_span-p.ensures w.out-is w.p-is w.j-is
+      | else-j-c w ↦ before-none _ _ _ c.loop-double.invariant.4 w.out-is w.p-is w.j-is
     ] in
     (omega (arith, v.low), v.high, omega arith, omega arith, links-room _ [] _ _ v (omega arith))
 
-pub loop-i-preserved : goal.loop-i-preserved
-loop-i-preserved c =
+pub loop-double-preserved : goal.loop-double-preserved
+loop-double-preserved c =
     let v : Links c.args.bonds.now [] c.args.k c.args.last c.args.out.now c.args.at c.if-j-c.out c.if-j-c.p c.if-j-c.j =
     elim c.if-j-c.branch [
-      | then-j-c w ↦ before-some _ _ _ c.loop-i.invariant.5 (omega arith) w.if-j-c.true c.next_double-c.ensures w.put_span-p.ensures w.out-is w.p-is w.j-is
-      | else-j-c w ↦ before-none _ _ _ c.loop-i.invariant.5 w.out-is w.p-is w.j-is
+      | then-j-c w ↦ before-some _ _ _ c.loop-double.invariant.4 (omega arith) w.if-j-c.true (omega arith) w.put_span-p.ensures w.out-is w.p-is w.j-is
+      | else-j-c w ↦ before-none _ _ _ c.loop-double.invariant.4 w.out-is w.p-is w.j-is
     ] in
-    (search rules, search rules, search rules, search rules, search rules, links-then _ [] _ _ v (omega arith) c.put_near-r.ensures)
+    (search rules, search rules, search rules, search rules, links-then _ [] _ _ v (omega arith) c.put_near-r.ensures)
 
 pub put_span-requires : goal.put_span-requires
 put_span-requires c = (omega arith, omega arith, omega arith, search rules, search links-room)
