@@ -2,7 +2,7 @@
 // each one after those of the chains before it; and the numbers that are kept of it.
 ghost use Rattle.std.specs.Prelude.{◌≡◌, true, List, [], ◌∷◌, ℕ, ◌+◌, ◌*◌, ◌≤◌, ◌<◌, length};
 ghost use Rattle.writer.specs.emit.Text.{Written};
-ghost use Rattle.drawn_chain.specs.drawable.Drawn.{groups_in, drawn_of, bonds_drawn, rings_drawn};
+ghost use Rattle.drawn_chain.specs.drawable.Drawn.{drawn_of, bonds_drawn, rings_drawn};
 ghost use Rattle.carbons.specs.ByCarbon.{BondsBy};
 ghost use Rattle.carbons.specs.Tokens.{tokens, TokensOf, Rising, Grouped};
 ghost use Rattle.chain_indices.specs.carried_atoms.Counts.{Counts};
@@ -125,23 +125,19 @@ fn put_laden(
 const SHORT_ROOM: usize = 96;
 
 // Whether the groups sit on the carbons from the first drawn one to the last, none before the one named before it.
-fn groups_rise(groups: &[Mod], count: usize, first: u16, carbon: u16) -> bool
-    ensures { result ≡ true → Rising first carbon (groups_in count groups.now) }
+fn groups_rise(groups: &[Mod], first: u16, carbon: u16) -> bool
+    ensures { result ≡ true → Rising first carbon groups.now }
 {
-    let n = drawn_chain::groups_len(groups, count);
     let last = carbon as u32;
     let mut k = first as u32;
-    let mut i = 0;
-    while i < n {
-        let g = drawn_chain::nth_group(groups, count, i);
-        if g.pos < k {
+    for group in groups {
+        if group.pos < k {
             return false;
         }
-        if last < g.pos {
+        if last < group.pos {
             return false;
         }
-        k = g.pos;
-        i += 1;
+        k = group.pos;
     }
     true
 }
@@ -169,7 +165,7 @@ fn is_grouped(x: Shape, part: &Lists) -> bool
     if x.carbon as usize >= SHORT_ROOM {
         return false;
     }
-    groups_rise(&part.groups, x.group_count, x.first, x.carbon)
+    groups_rise(x.groups(part), x.first, x.carbon)
 }
 
 // Room for the first carbon with its O, and for 18 groups of at most 14 bytes.

@@ -37,13 +37,9 @@ pub tail_none : (c n : ℕ) → c ≤ 255 → n ≡ 0 → c ≡ min (c + tail_co
 unfolding tail_count
 tail_none c n h e = rw e (omega arith)
 
-pub tail-short : (c n : ℕ) → (n ≡ 0 → ⊥) → c + 2 * n + 2 < 256 → c + 2 * n + 2 ≡ min (c + tail_count n) 256
+pub tail-some : (c n r : ℕ) → (n ≡ 0 → ⊥) → r ≡ min (c + 2 * n + 2) 256 → r ≡ min (c + tail_count n) 256
 unfolding tail_count
-tail-short c n e h = rw (ne_eqb n 0 e) (omega arith)
-
-pub tail-long : (c n : ℕ) → (n ≡ 0 → ⊥) → 256 ≤ c + 2 * n + 2 → 256 ≡ min (c + tail_count n) 256
-unfolding tail_count
-tail-long c n e h = rw (ne_eqb n 0 e) (omega arith)
+tail-some c n r h e = rw (ne_eqb n 0 h) (omega arith)
 
 pairs-bare : (n : ℕ) (cs : List Carbon) → Bares cs → Bares (pairs n ++ cs)
 unfolding pairs

@@ -5,10 +5,12 @@ use mathlib.Core.Path.{◌≡◌, refl, ap, ◌∙◌}
 use mathlib.Core.List.{List, [], ◌∷◌}
 use lib.ListN.{length}
 use borrow.Author.Tests.{eq-eqb, ne_eqb}
+use Rattle.chain_record.specs.declared.plain.Mod.{Mod}
+use Rattle.chain_record.specs.declared.plain.Ring.{Ring}
 use Rattle.chain_rules.specs.chain.Features.{remaining}
 use Rattle.drawn_chain.specs.declared.drawable.Shape.{Shape}
 use Rattle.drawn_chain.specs.declared.rooms.Lists.{Lists}
-use Rattle.drawn_chain.specs.drawable.Drawn.{Drawn, Length, drawn_of, floats_drawn, rings_drawn, Says}
+use Rattle.drawn_chain.specs.drawable.Drawn.{Drawn, drawn_of, floats_drawn, rings_drawn, Says}
 use Rattle.chain_indices.specs.totals.Sum.{sum_of}
 use Rattle.chain_indices.specs.totals.Totals.{FiguresOf}
 

@@ -12,10 +12,10 @@ use Rattle.chain_rules.specs.declared.chain.Role.TheVariants.{Slot, Acyl, Base}
 use Rattle.chain_rules.specs.chain.Drawing.{carbon_atoms}
 use Rattle.drawn_chain.specs.declared.drawable.Shape.{Shape}
 use Rattle.drawn_chain.specs.declared.rooms.Lists.{Lists}
-use Rattle.drawn_chain.specs.drawable.Drawn.{Drawn, DrawsSome, Length, no_group, groups_drawn, drawn_of}
+use Rattle.drawn_chain.specs.drawable.Drawn.{Drawn, DrawsSome, no_group, groups_drawn, drawn_of}
 use Rattle.chain_record.specs.declared.plain.Mod.{Mod}
 use Rattle.carbons.specs.Tokens.{Rising, Grouped}
-use Rattle.carbons.proofs.Fronts.{next_of, none_left}
+use Rattle.drawn_chain.proofs.drawable.Turns.{left_here, left-none}
 use Rattle.carbons.proofs.Loads.{groups-held}
 use Rattle.chain_pieces.specs.branches.Text.{rows_in, RowsPut}
 use Rattle.chain_pieces.proofs.branches.Laws.{rows-put}
@@ -98,12 +98,12 @@ pub record RiseLeft (f c : ℕ) (gs : List Mod) (k i : ℕ) : Type 0 where
 pub rise-all : (f c : ℕ) (gs : List Mod) → RiseLeft f c gs f 0
 rise-all f c gs = record { so = λ r. r }
 
-module _ {room n f c : ℕ} {gs : List Mod} (s : Length room gs n) (k i : ℕ) (w : RiseLeft f c gs k i) where
-  pub rise-more : (g : Mod) → g ≡ get_or gs i no_group → i < n → k ≤ g.pos → g.pos ≤ c → RiseLeft f c gs g.pos (i + 1)
-  rise-more g e h l m = record { so = λ r. w.so (rw (next_of s no_group g i e h) (l, m, r)) }
+module _ {f c : ℕ} {gs : List Mod} (k i : ℕ) (w : RiseLeft f c gs k i) where
+  pub rise-more : (g : Mod) → g ≡ get_or gs i no_group → i < length gs → k ≤ g.pos → g.pos ≤ c → RiseLeft f c gs g.pos (i + 1)
+  rise-more g e h l m = record { so = λ r. w.so (rw (left_here gs i no_group g h e) (l, m, r)) }
 
-  pub rise-end : n ≤ i → Rising f c gs
-  rise-end h = w.so (rw (none_left s i h) tt)
+  pub rise-end : length gs ≤ i → Rising f c gs
+  rise-end h = w.so (rw (left-none gs i h) tt)
 
 pub shape-grouped : (x : Shape) (l : Lists) → length l.groups ≤ 18 → x.ring_count ≡ 0 → x.float_count ≡ 0 → x.unlocated ≡ 0 → (x.first ≡ 0 → ⊥) → x.first ≤ x.carbon → x.carbon < 96
     → Rising x.first x.carbon (groups_drawn (drawn_of x l)) → GroupedShape x l
