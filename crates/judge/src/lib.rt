@@ -17,7 +17,6 @@ use class_rules::Code;
 use drawn_chain::{CHAIN_ROOM, Shape};
 use request_chains::SHAPE_ROOM;
 use template_rules::Class;
-use token_reader::ReadToken;
 
 // A class code that is none of the eight.
 pub const UNKNOWN_CLASS: u16 = 20;
@@ -208,8 +207,8 @@ fn see(
 {
     let read = token_reader::parse_token(token, bonds, groups, &mut part[69..77]);
     match read {
-        ReadToken::Refused(number) => Seen::Refused(number),
-        ReadToken::Read(said) => {
+        Err(refusal) => Seen::Refused(u16::from(refusal)),
+        Ok(said) => {
             let prefix = said.prefix;
             let counts = said.counts;
             let shape = drawn_chain::drawn_as(
