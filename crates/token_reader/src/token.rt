@@ -10,10 +10,10 @@ ghost use Rattle.token_reader.specs.token.Short.{Numbered, HeadAt, Headed, SpotO
 
 use super::seats;
 use chain_record::{
-    ChainPrefix, Counted, Counts, DbPos, Geometry, MAX_BONDS, MAX_GROUPS, MAX_RINGS, Mod, Pushed,
+    ChainPrefix, Counts, DbPos, Geometry, MAX_BONDS, MAX_GROUPS, MAX_RINGS, Mod, Refusal,
 };
 use token_features::{Feature, Segment};
-use token_head::{Branch, Start, Started};
+use token_head::{Branch, Start};
 
 // The longest token.
 const MAX_BYTES: usize = 255;
@@ -85,24 +85,17 @@ pub struct Ending {
     pub counts: Counts,
 }
 
-// What is known from the bond count on, or the number by which the token is refused.
-#[derive(Clone, Copy)]
-pub enum Ended {
-    Read(Ending),
-    Refused(u16),
-}
-
 // What is judged after the segments.
-fn finish(missing: Option<u16>, counts: Counts) -> Ended
+fn finish(missing: Option<u16>, counts: Counts) -> Result<Ending, Refusal>
     ensures { Finishes counts result (finished missing) }
 {
     let Some(n) = missing else {
-        return Ended::Refused(chain_record::UNREADABLE);
+        return Err(Refusal::Unreadable);
     };
     if bare_oxygens(counts) {
-        return Ended::Refused(chain_record::UNREADABLE);
+        return Err(Refusal::Unreadable);
     }
-    Ended::Read(Ending {
+    Ok(Ending {
         unlocated: n,
         counts,
     })
@@ -117,7 +110,7 @@ fn parse_rest(
     groups: &mut [u64],
     rings: &mut [u64],
     counts: Counts,
-) -> Ended
+) -> Result<Ending, Refusal>
     requires max_bonds_in_bounds { max_bonds ≤ length bonds.old }
     requires max_groups_in_bounds { max_groups ≤ length groups.old }
     requires max_rings_in_bounds { max_rings ≤ length rings.old }
@@ -126,27 +119,18 @@ fn parse_rest(
     if s.len() == 0 {
         return finish(missing, counts);
     }
-    let read = token_segments::parse_segments(s, carbon, bonds, groups, rings, counts);
-    match read {
-        Counted::Refused(number) => Ended::Refused(number),
-        Counted::Read(more) => finish(missing, more),
-    }
+    let more = token_segments::parse_segments(s, carbon, bonds, groups, rings, counts)?;
+    finish(missing, more)
 }
 
 // The `(..)` list, and its count.
-fn parse_list(s: &[u8], bonds: &mut [u64], counts: Counts) -> Counted
+fn parse_list(s: &[u8], bonds: &mut [u64], counts: Counts) -> Result<Counts, Refusal>
     requires { max_bonds ≤ length bonds.old }
     ensures { ListIs s.now counts bonds.old result bonds.new }
 {
-    let listed = token_head::parse_position_list(s, bonds, counts.bonds);
-    match listed {
-        Pushed::Refused(number) => Counted::Refused(number),
-        Pushed::Read(count) => {
-            let mut more = counts;
-            more.bonds = count;
-            chain_record::check_counts(more)
-        }
-    }
+    let mut more = counts;
+    more.bonds = token_head::parse_position_list(s, bonds, counts.bonds)?;
+    chain_record::check_counts(more)
 }
 
 // What follows the `(` of the position list.
@@ -158,7 +142,7 @@ fn parse_listed(
     groups: &mut [u64],
     rings: &mut [u64],
     counts: Counts,
-) -> Ended
+) -> Result<Ending, Refusal>
     requires carbon_le_max_carbons { carbon ≤ max_carbons }
     requires max_bonds_in_bounds { max_bonds ≤ length bonds.old }
     requires max_groups_in_bounds { max_groups ≤ length groups.old }
@@ -167,16 +151,11 @@ fn parse_listed(
 {
     let n = scanner::find(s, b')');
     if n == s.len() {
-        return Ended::Refused(chain_record::UNREADABLE);
+        return Err(Refusal::Unreadable);
     }
-    let listed = parse_list(&s[0..n], bonds, counts);
-    match listed {
-        Counted::Refused(number) => Ended::Refused(number),
-        Counted::Read(more) => {
-            let missing = missing_bonds(carbon, bonds, more.bonds, declared);
-            parse_rest(missing, &s[n + 1..], carbon, bonds, groups, rings, more)
-        }
-    }
+    let more = parse_list(&s[0..n], bonds, counts)?;
+    let missing = missing_bonds(carbon, bonds, more.bonds, declared);
+    parse_rest(missing, &s[n + 1..], carbon, bonds, groups, rings, more)
 }
 
 // What follows the bond count: a position list straight after, or none.
@@ -188,7 +167,7 @@ fn parse_after_count(
     groups: &mut [u64],
     rings: &mut [u64],
     counts: Counts,
-) -> Ended
+) -> Result<Ending, Refusal>
     requires carbon_le_max_carbons { carbon ≤ max_carbons }
     requires bonds_le_max_bonds { counts.bonds ≤ max_bonds }
     requires max_bonds_in_bounds { max_bonds ≤ length bonds.old }
@@ -211,7 +190,7 @@ fn parse_bonds(
     groups: &mut [u64],
     rings: &mut [u64],
     counts: Counts,
-) -> Ended
+) -> Result<Ending, Refusal>
     requires carbon_le_max_carbons { carbon ≤ max_carbons }
     requires bonds_le_max_bonds { counts.bonds ≤ max_bonds }
     requires max_bonds_in_bounds { max_bonds ≤ length bonds.old }
@@ -221,7 +200,7 @@ fn parse_bonds(
 {
     let n = scanner::digit_run(s);
     let Some(declared) = scanner::read_digits(&s[0..n], 4294967295) else {
-        return Ended::Refused(chain_record::UNREADABLE);
+        return Err(Refusal::Unreadable);
     };
     parse_after_count(declared, &s[n..], carbon, bonds, groups, rings, counts)
 }
@@ -235,13 +214,6 @@ pub struct ReadChain {
     pub branched: bool,
     pub unlocated: u16,
     pub counts: Counts,
-}
-
-// What a token says: a chain, or the number by which it is refused.
-#[derive(Clone, Copy)]
-pub enum ReadToken {
-    Read(ReadChain),
-    Refused(u16),
 }
 
 // An empty chain.
@@ -264,24 +236,17 @@ fn empty_chain() -> ReadChain
 }
 
 // A chain that was started, with what was read from its bond count on.
-fn with_end(start: Start, ended: Ended) -> ReadToken
+fn with_end(start: Start, ended: Result<Ending, Refusal>) -> Result<ReadChain, Refusal>
     ensures { result ≡ ended_as start ended }
 {
-    match ended {
-        Ended::Refused(number) => ReadToken::Refused(number),
-        Ended::Read(ending) => {
-            let prefix = start.prefix;
-            let counts = ending.counts;
-            ReadToken::Read(ReadChain {
-                prefix,
-                written: start.written,
-                carbon: start.carbon,
-                branched: start.branched,
-                unlocated: ending.unlocated,
-                counts,
-            })
-        }
-    }
+    ended.map(|ending| ReadChain {
+        prefix: start.prefix,
+        written: start.written,
+        carbon: start.carbon,
+        branched: start.branched,
+        unlocated: ending.unlocated,
+        counts: ending.counts,
+    })
 }
 
 // A chain without branch word and prefix.
@@ -292,7 +257,7 @@ fn parse_named(
     bonds: &mut [u64],
     groups: &mut [u64],
     rings: &mut [u64],
-) -> ReadToken
+) -> Result<ReadChain, Refusal>
     requires max_bonds_in_bounds { max_bonds ≤ length bonds.old }
     requires max_groups_in_bounds { max_groups ≤ length groups.old }
     requires max_rings_in_bounds { max_rings ≤ length rings.old }
@@ -300,33 +265,33 @@ fn parse_named(
 {
     let n = scanner::find(s, b':');
     if n == s.len() {
-        return ReadToken::Refused(chain_record::UNREADABLE);
+        return Err(Refusal::Unreadable);
     }
-    let started = token_head::parse_carbons(&s[0..n], prefix, branch, groups);
-    match started {
-        Started::Refused(number) => ReadToken::Refused(number),
-        Started::Read(start) => {
-            let counts = Counts {
-                bonds: 0,
-                groups: start.groups,
-                rings: 0,
-                oxygens: 0,
-            };
-            let ended = parse_bonds(&s[n + 1..], start.carbon, bonds, groups, rings, counts);
-            with_end(start, ended)
-        }
-    }
+    let start = token_head::parse_carbons(&s[0..n], prefix, branch, groups)?;
+    let counts = Counts {
+        bonds: 0,
+        groups: start.groups,
+        rings: 0,
+        oxygens: 0,
+    };
+    let ended = parse_bonds(&s[n + 1..], start.carbon, bonds, groups, rings, counts);
+    with_end(start, ended)
 }
 
 // A trimmed token.
-fn parse_trimmed(t: &[u8], bonds: &mut [u64], groups: &mut [u64], rings: &mut [u64]) -> ReadToken
+fn parse_trimmed(
+    t: &[u8],
+    bonds: &mut [u64],
+    groups: &mut [u64],
+    rings: &mut [u64],
+) -> Result<ReadChain, Refusal>
     requires max_bonds_in_bounds { max_bonds ≤ length bonds.old }
     requires max_groups_in_bounds { max_groups ≤ length groups.old }
     requires max_rings_in_bounds { max_rings ≤ length rings.old }
     ensures { Tells result bonds.new groups.new rings.new (trimmed_of t.now) }
 {
     if scanner::same(t, b"0:0") {
-        return ReadToken::Read(empty_chain());
+        return Ok(empty_chain());
     }
     let opening = token_head::read_opening(t);
     let prefix = opening.prefix;
@@ -336,7 +301,12 @@ fn parse_trimmed(t: &[u8], bonds: &mut [u64], groups: &mut [u64], rings: &mut [u
 }
 
 // A token of at most 255 bytes, into arrays with room for all that it may say.
-fn read_any(s: &[u8], bonds: &mut [u64], groups: &mut [u64], rings: &mut [u64]) -> ReadToken
+fn read_any(
+    s: &[u8],
+    bonds: &mut [u64],
+    groups: &mut [u64],
+    rings: &mut [u64],
+) -> Result<ReadChain, Refusal>
     requires s_len_bound { length s.now ≤ max_bytes }
     requires max_bonds_in_bounds { max_bonds ≤ length bonds.old }
     requires max_groups_in_bounds { max_groups ≤ length groups.old }
@@ -344,7 +314,7 @@ fn read_any(s: &[u8], bonds: &mut [u64], groups: &mut [u64], rings: &mut [u64]) 
     ensures { Tells result bonds.new groups.new rings.new (token_of s.now) }
 {
     if !all_printable(s) {
-        return ReadToken::Refused(chain_record::OVER_LIMIT);
+        return Err(Refusal::OverLimit);
     }
     parse_trimmed(scanner::trim(s), bonds, groups, rings)
 }
@@ -910,14 +880,14 @@ fn read_usual(s: &[u8], bonds: &mut [u64], groups: &mut [u64], rings: &mut [u64]
 }
 
 // A chain of which all is read.
-fn plain_chain(usual: Usual, missing: Option<u16>) -> ReadToken
+fn plain_chain(usual: Usual, missing: Option<u16>) -> Result<ReadChain, Refusal>
     ensures { Plain usual.prefix usual.carbon missing usual.count usual.groups usual.rings result }
 {
     let Some(n) = missing else {
-        return ReadToken::Refused(chain_record::UNREADABLE);
+        return Err(Refusal::Unreadable);
     };
     let prefix = usual.prefix;
-    ReadToken::Read(ReadChain {
+    Ok(ReadChain {
         prefix,
         written: usual.carbon,
         carbon: usual.carbon,
@@ -933,7 +903,7 @@ fn plain_chain(usual: Usual, missing: Option<u16>) -> ReadToken
 }
 
 // The same, where the bonds are yet to be seated: none are missing where all have a position.
-fn end_plain(usual: Usual, bonds: &[u64]) -> ReadToken
+fn end_plain(usual: Usual, bonds: &[u64]) -> Result<ReadChain, Refusal>
     requires carbon_le_max_carbons { usual.carbon ≤ max_carbons }
     requires count_in_bounds { usual.count ≤ length bonds.now }
     ensures { PlainIn usual.prefix usual.carbon usual.declared usual.count usual.groups usual.rings bonds.now result }
@@ -952,7 +922,7 @@ fn end_segments(
     bonds: &mut [u64],
     groups: &mut [u64],
     rings: &mut [u64],
-) -> ReadToken
+) -> Result<ReadChain, Refusal>
     requires carbon_le_max_carbons { usual.carbon ≤ max_carbons }
     requires count_le_max_bonds { usual.count ≤ max_bonds }
     requires groups_le_max_groups { usual.groups ≤ max_groups }
@@ -983,14 +953,19 @@ fn end_segments(
 }
 
 // A token, into arrays with room for all that it may say. Nearly every token starts in one way, and has no segments.
-fn read_token(s: &[u8], bonds: &mut [u64], groups: &mut [u64], rings: &mut [u64]) -> ReadToken
+fn read_token(
+    s: &[u8],
+    bonds: &mut [u64],
+    groups: &mut [u64],
+    rings: &mut [u64],
+) -> Result<ReadChain, Refusal>
     requires max_bonds_in_bounds { max_bonds ≤ length bonds.old }
     requires max_groups_in_bounds { max_groups ≤ length groups.old }
     requires max_rings_in_bounds { max_rings ≤ length rings.old }
     ensures { Tells result bonds.new groups.new rings.new (token_of s.now) }
 {
     if MAX_BYTES < s.len() {
-        return ReadToken::Refused(chain_record::OVER_LIMIT);
+        return Err(Refusal::OverLimit);
     }
     let usual = read_usual(s, bonds, groups, rings);
     let from = usual.rest;
@@ -1004,17 +979,22 @@ fn read_token(s: &[u8], bonds: &mut [u64], groups: &mut [u64], rings: &mut [u64]
 }
 
 // The chain that a token says, its double bonds, groups and rings in lent arrays. Arrays with less room than the limits ask are refused by 31.
-pub fn parse_token(s: &[u8], bonds: &mut [u64], groups: &mut [u64], rings: &mut [u64]) -> ReadToken
+pub fn parse_token(
+    s: &[u8],
+    bonds: &mut [u64],
+    groups: &mut [u64],
+    rings: &mut [u64],
+) -> Result<ReadChain, Refusal>
     ensures { Tells result bonds.new groups.new rings.new (token_in (length bonds.old) (length groups.old) (length rings.old) s.now) }
 {
     if bonds.len() < MAX_BONDS {
-        return ReadToken::Refused(chain_record::OVER_LIMIT);
+        return Err(Refusal::OverLimit);
     }
     if groups.len() < MAX_GROUPS {
-        return ReadToken::Refused(chain_record::OVER_LIMIT);
+        return Err(Refusal::OverLimit);
     }
     if rings.len() < MAX_RINGS {
-        return ReadToken::Refused(chain_record::OVER_LIMIT);
+        return Err(Refusal::OverLimit);
     }
     read_token(s, bonds, groups, rings)
 }

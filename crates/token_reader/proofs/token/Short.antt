@@ -14,7 +14,7 @@ use lib.Dec.{eqb, ltb, leb, eqb-suc-suc}
 use borrow.Author.Tests.{le-ltb, le-leb, leb-true, eq-eqb, ne_eqb, eqb-true, not-false}
 use Rattle.scanner.specs.scan.Part.{first_byte, index_of, ending_after, ending, trimmed, starts_with, same_bytes, Place}
 use Rattle.scanner.specs.scan.Number.{is_digit, digit_run, all_digits, value_from, checked, digits_up_to, after_plus, number_up_to, number_limit}
-use Rattle.std.specs.Prelude.{Some}
+use Rattle.std.specs.Prelude.{Some, Result, Ok, Err}
 use Rattle.scanner.proofs.scan.Laws.{to_end, digit-from}
 use Rattle.scanner.proofs.part.Laws.{first-within}
 use Rattle.scanner.proofs.spaces.Laws.{trim-whole, end-here}
@@ -45,6 +45,13 @@ use Rattle.std.specs.Prelude.{Option, Some, None}
 use Rattle.token_reader.specs.declared.token.Ended.{Ended}
 use Rattle.token_reader.specs.declared.token.ReadToken.{ReadToken}
 use Rattle.token_reader.specs.declared.token.ReadToken.TheVariants.{Read as ReadToken-as-Read, Refused as ReadToken-as-Refused}
+use Rattle.token_reader.specs.declared.token.Missing.{Missing}
+use Rattle.token_reader.specs.declared.token.Missing.TheVariants.{Seated as Missing-as-Seated, Unseated}
+use Rattle.chain_record.specs.declared.refusal.Refusal.{Refusal}
+use Rattle.chain_record.specs.declared.refusal.Refusal.TheVariants.{Unreadable}
+use Rattle.chain_record.specs.refusal.Refusal.{number_of}
+use Rattle.token_reader.specs.declared.token.Ending.{Ending}
+use Rattle.token_reader.specs.declared.token.ReadChain.{ReadChain}
 use Rattle.token_reader.specs.token.Lent.{bonds_in, Ends, ended_as, Tells}
 use Rattle.token_segments.proofs.segment.Laws.{segments-none}
 use Rattle.token_reader.proofs.token.Laws.{rest-empty, with-start}
@@ -671,10 +678,10 @@ keeps-rings n rs h l =
     record { counted = omega (arith, length-map (take n rs) ring_in, length-take n rs); kept = rw a (sym (take_all 8 (rings_in n rs) (omega arith))) }
 
 module _ (p : ChainPrefix) (w : ℕ) (m : Option ℕ) (n g c : ℕ) where
-  pub plain-unseated : m ≡ None → Plain p w m n g c (ReadToken-as-Refused 11)
+  pub plain-unseated : m ≡ None → Plain p w m n g c (Err Unreadable)
   plain-unseated e = rw e (record { tells = λ bs gs rs h l i j x y. record { stands = refl } })
 
-  pub plain-seated : (k : ℕ) → m ≡ Some k → Plain p w m n g c (ReadToken-as-Read (record { prefix = p; written = w; carbon = w; branched = false; unlocated = k; counts = record { bonds = n; groups = g; rings = c; oxygens = 0 } }))
+  pub plain-seated : (k : ℕ) → m ≡ Some k → Plain p w m n g c (Ok (record { prefix = p; written = w; carbon = w; branched = false; unlocated = k; counts = record { bonds = n; groups = g; rings = c; oxygens = 0 } }))
   unfolding bare_oxygens with_unlocated
   plain-seated k e =
       rw e
@@ -692,14 +699,14 @@ all-given w n bs l =
     let z : n - n ≡ 0 = omega arith in
     rw (k, le-ltb n n (le_refl n), z)
 
-module _ (p : ChainPrefix) (w declared n g c : ℕ) (bs : List ℕ) (r : ReadToken) where
+module _ (p : ChainPrefix) (w declared n g c : ℕ) (bs : List ℕ) (r : Result ReadChain Refusal) where
   pub plain-all : declared ≡ n → Plain p w (Some 0) n g c r → PlainIn p w declared n g c bs r
   plain-all e k = rw e (record { tells = λ gs rs h l i j x y. rw (all-given w n bs l) (k.tells bs gs rs h l i j x y) })
 
   pub plain_in : (m : Option ℕ) → m ≡ missing_of w (bonds_in n bs) declared → Plain p w m n g c r → PlainIn p w declared n g c bs r
   plain_in m v k = record { tells = λ gs rs h l i j x y. rw (← v) (k.tells bs gs rs h l i j x y) }
 
-pub segments-end : (u : Usual) (s bs gs rs : List ℕ) (m : Option ℕ) (e : Ended) (r : ReadToken) (ys hs zs : List ℕ) → u.count ≤ 32 → u.groups ≤ 16 → u.rings ≤ 8 → 32 ≤ length bs → 16 ≤ length gs → 8 ≤ length rs
+pub segments-end : (u : Usual) (s bs gs rs : List ℕ) (m : Option ℕ) (e : Result Ending Refusal) (r : Result ReadChain Refusal) (ys hs zs : List ℕ) → u.count ≤ 32 → u.groups ≤ 16 → u.rings ≤ 8 → 32 ≤ length bs → 16 ≤ length gs → 8 ≤ length rs
     → m ≡ missing_of u.carbon (bonds_in u.count bs) u.declared → Ends u.carbon (record { bonds = u.count; groups = u.groups; rings = u.rings; oxygens = 0 }) bs gs rs e ys hs zs (rest_of m s)
     → r ≡ ended_as (record { prefix = u.prefix; written = u.carbon; carbon = u.carbon; branched = false; groups = u.groups }) e
     → Tells r ys hs zs (rest_of (missing_of u.carbon (bonds_in u.count bs) u.declared) s (laden u.prefix u.carbon (bonds_in u.count bs) (groups_in u.groups gs) (rings_in u.rings rs)))
@@ -710,7 +717,7 @@ segments-end u s bs gs rs m e r ys hs zs h g c l o q v w f =
     ((w.gives x).stands (laden u.prefix u.carbon (bonds_in u.count bs) (groups_in u.groups gs) (rings_in u.rings rs))
     (record { prefix = refl; written = refl; carbon = refl; branched = refl; unlocated = refl; oxygens = refl; bonds = keeps-in u.count bs h (omega arith); groups = keeps-groups u.groups gs g (omega arith); rings = keeps-rings u.rings rs c (omega arith) })))
 
-module _ (s ys hs zs : List ℕ) (u : Usual) (r : ReadToken) (w : (u.rest ≡ 0 → ⊥) → Starts s ys hs zs u) (n : u.rest ≡ 0 → ⊥) where
+module _ (s ys hs zs : List ℕ) (u : Usual) (r : Result ReadChain Refusal) (w : (u.rest ≡ 0 → ⊥) → Starts s ys hs zs u) (n : u.rest ≡ 0 → ⊥) where
   pub token-plain : u.rest ≡ length s → PlainIn u.prefix u.carbon u.declared u.count u.groups u.rings ys r → Tells r ys hs zs (token_of s)
   token-plain e k =
       let q = w n in
