@@ -8,7 +8,7 @@ use mathlib.Core.List.{List, [], ◌∷◌}
 use lib.ListN.{length, drop, get_or}
 use lib.Seq.{drop-cons, drop-length}
 use lib.Dec.{eqb}
-use Rattle.std.specs.Prelude.{Option, Some, None}
+use Rattle.std.specs.Prelude.{Some, None}
 use borrow.Author.Tests.{not-true, not-false}
 use Rattle.reading_rules.specs.reading.Lexer.{within}
 use Rattle.reading_rules.proofs.reading.ShowLex.{within_both}

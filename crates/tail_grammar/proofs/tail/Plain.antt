@@ -1,5 +1,5 @@
 -- A tail without digits, read with no more than the depth of its branches kept: each way through the loop as a step of the grammar.
-use Prim.Native.Nat.{ℕ, zero, suc, ◌+◌, ◌-◌, ◌≤◌, ◌<◌}
+use Prim.Native.Nat.{ℕ, ◌+◌, ◌-◌, ◌≤◌, ◌<◌}
 use native.Mathlib.Omega.{arith}
 use mathlib.Core.Path.{◌≡◌, refl, sym, ap, ◌∙◌}
 use mathlib.Core.Bool.{Bool, true, false, not}
@@ -8,7 +8,7 @@ use lib.ListN.{length, drop, get_or}
 use borrow.Author.Tests.{lt-ltb, le-leb, not-false}
 use Rattle.reading_rules.specs.reading.Ascii.{ascii}
 use Rattle.reading_rules.specs.reading.Lexer.{memb, within, organic, marks, pairs}
-use Rattle.std.specs.Prelude.{Option, Some, None}
+use Rattle.std.specs.Prelude.{Some}
 use Rattle.tail_grammar.specs.tailatom.Atom.{AtomIs}
 use Rattle.tail_grammar.proofs.tailatom.Scan.{found-scans}
 use Rattle.tail_grammar.specs.ringdigits.Grammar.{Rings, no_rings, with_atom, back_to, none_open, stands, opening, after_bond, branch_closes, branch_opens, goes_on, digit_or, bond_or_atom, step, finished, scan, atoms_of_tail}

@@ -2,18 +2,18 @@
 use Prim.Native.Nat.{ℕ, zero, suc, ◌+◌, ◌-◌, ◌≤◌, ◌<◌}
 use native.Mathlib.Omega.{arith}
 use mathlib.Core.Path.{◌≡◌, refl, sym, ap, ◌∙◌}
-use mathlib.Core.Bool.{Bool, true, false, not, cond, ◌||◌, ◌&&◌}
+use mathlib.Core.Bool.{Bool, true, false, not, cond, ◌||◌}
 use mathlib.Core.List.{List, [], ◌∷◌}
 use lib.ListN.{length, drop, get_or}
-use lib.Dec.{eqb, leb, ltb}
-use borrow.Author.Tests.{ltb-true, lt-ltb, le-ltb, eqb-true, ne_eqb, leb-true, le-leb, lt-leb, not-true, not-false}
+use lib.Dec.{eqb}
+use borrow.Author.Tests.{lt-ltb, le-ltb, eqb-true, ne_eqb, le-leb, lt-leb, not-true, not-false}
 use Rattle.reading_rules.specs.reading.Ascii.{ascii}
 use Rattle.reading_rules.proofs.reading.ShowLex.{within_both}
 use Rattle.reading_rules.specs.reading.Lexer.{memb, within, organic, marks, pairs}
 use Rattle.tail_grammar.specs.declared.ringdigits.Atoms.{Atoms}
-use Rattle.std.specs.Prelude.{Option, Some, None}
+use Rattle.std.specs.Prelude.{Some, None}
 use Rattle.tail_grammar.specs.ringdigits.Grammar.{Rings, no_rings, with_atom, back_to, none_open, State, wrong, stands, opening, whole, closed, letter, branch_closes, branch_opens, goes_on, digit_or, bond_or_atom, atom_begins, step, finished, done, scan, atoms_of_tail}
-use Rattle.tail_grammar.specs.ringdigits.Digits.{rings_of, DigitsTo, PastDigits}
+use Rattle.tail_grammar.specs.ringdigits.Digits.{rings_of, DigitsTo}
 use Rattle.tail_grammar.specs.tailatom.Atom.{BondIs, AtomIs}
 use Rattle.tail_grammar.proofs.tailatom.Scan.{bond-scans, found-scans}
 use Rattle.tail_grammar.proofs.ringdigits.Scan.{scan-at, scan-end, wrong-at, same_at}

@@ -1,5 +1,5 @@
 use Rattle.std.proofs.Common.{[]}
-use Rattle.tail_grammar.proofs.tail.Scan.{run-refused, step_less, run_on, run-early, too-deep, branch-refused, branch-cut, branch-open, branch_less, branch-done}
+use Rattle.tail_grammar.proofs.tail.Scan.{step_less, run_on, run-early, too-deep, branch-refused, branch-cut, branch-open, branch_less, branch-done}
 use Rattle.tail_grammar.proofs.tail.+read_run.Goals as goal
 
 pub loop-r-smaller-then-b-ne40 : goal.loop-r-smaller-then-b-ne40

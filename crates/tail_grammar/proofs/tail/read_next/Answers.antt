@@ -1,4 +1,4 @@
-use Rattle.tail_grammar.proofs.tail.Scan.{letter-fits, letter-read, second-read, at-digit, at_other}
+use Rattle.tail_grammar.proofs.tail.Scan.{letter-read, second-read}
 use Rattle.tail_grammar.proofs.tail.read_next.Goals as goal
 
 pub returns-then-is_capital : goal.returns-then-is_capital
