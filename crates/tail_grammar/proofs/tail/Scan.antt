@@ -20,7 +20,7 @@ use Rattle.tail_grammar.proofs.ringdigits.Scan.{scan-at, scan-end, wrong-at, sam
 use Rattle.tail_grammar.specs.declared.tail.Place.{Place}
 use Rattle.tail_grammar.specs.declared.tail.Place.TheVariants.{Opening, Bonded, Closed, Whole, Letter}
 use Rattle.tail_grammar.specs.declared.tail.Reached.{Reached}
-use Rattle.tail_grammar.specs.tail.Contract.{place_of, follows_bond, follows_atom, ends_atom, takes_digit, pairs_at, state_of, Room, Fits, Inside, At, Item, Ringed, Other, GoesTo, GoesOn, PastMark, RunTo, RunRead}
+use Rattle.tail_grammar.specs.tail.Contract.{place_of, follows_bond, follows_atom, ends_atom, takes_digit, pairs_at, state_of, Fits, Inside, At, Ringed, Other, GoesTo, GoesOn, PastMark, RunTo, RunRead}
 
 -- ---- a letter
 
@@ -77,9 +77,6 @@ more-last : (a b : Atoms) → ((o j : List ℕ) → rings_of b o j ≡ with_atom
 more-last a b w = ap (λ (q : Rings). q.last) (w [] [])
 
 module _ (s : List ℕ) (r : Reached) (v : Inside s r) where
-  pub letter-fits : r.atoms.last < 255
-  letter-fits = omega (arith, v.fits.few, v.fits.short, v.more)
-
   module _ (a : Bool) (e : a ≡ true → memb (get_or s r.next 0) organic ≡ true) (f : a ≡ true) (m : Atoms) where
     pub letter-read : ((o j : List ℕ) → rings_of m o j ≡ with_atom (rings_of r.atoms o j)) → (o j t : List ℕ)
         → GoesOn s r (state_of r t o j) (Some (record { next = r.next + 1; place = Letter (get_or s r.next 0); atoms = m })) t o j
@@ -98,9 +95,6 @@ unfolding atoms_of_tail within scan done finished none_open
 one-letter [] a h e f = absurd (omega arith)
 one-letter (x ∷ []) a h e f = sym (rw (letter-step Opening x [] no_rings (e f)) refl)
 one-letter (x ∷ y ∷ s) a h e f = absurd (omega arith)
-
-pub no-letter : (s : List ℕ) → false ≡ true → 1 ≡ atoms_of_tail s
-no-letter s h = let z : ◌≡◌ {A = ℕ} 0 1 = cc in absurd (omega arith)
 
 -- ---- the second letter of an atom
 
@@ -327,15 +321,6 @@ module _ (s : List ℕ) (r : Reached) (v : Other s r) where
             };
           }
 
--- ---- what stands at the next byte
-
-module _ (s : List ℕ) (r : Reached) (v : Item s r) where
-  pub at-digit : (a : Bool) → a ≡ takes_digit r.place (get_or s r.next 0) → a ≡ true → Ringed s r
-  at-digit a e f = record { inside = v.inside; takes = sym e ∙ f }
-
-  pub at_other : (a b : Bool) → a ≡ takes_digit r.place (get_or s r.next 0) → a ≡ false → b ≡ pairs_at r.place (get_or s r.next 0) → b ≡ false → Other s r
-  at_other a b e f k l = record { item = v; takes = sym e ∙ f; single = sym k ∙ l }
-
 -- ---- an end
 
 pub ends-late : (p : Place) (stk : List ℕ) (q : Rings) → follows_atom p ≡ true → done (stands (place_of p) stk q) ≡ finished stk q
@@ -384,23 +369,7 @@ pub record InRun (s : List ℕ) (at depth : ℕ) (q : Rings) (r : Reached) (o j 
 pub step_less : (s : List ℕ) (r r' : Reached) (q q' : State) → GoesTo s r q r' q' → length s - r'.next < length s - r.next
 step_less s r r' q q' g = omega (arith, g.further, g.fits.within)
 
--- a run that does not end with the text ends at a `)`
-pub branch-end : (s : List ℕ) (at depth : ℕ) (q : Rings) (i : Reached) (o j : List ℕ) → RunTo s at depth q i o j → (i.next ≡ length s → ⊥) → At s i 41
-branch-end s at depth q i o j d w =
-    let g : i.next < length s = omega (arith, d.fits.within) in record { inside = record { fits = d.fits; more = g }; byte = d.stops g }
-
-pub run-first : (s : List ℕ) (at depth : ℕ) (a : Atoms) (o j : List ℕ) → Room s at a.last
-    → InRun s at depth (rings_of a o j) (record { next = at; place = Opening; atoms = a }) o j
-run-first s at depth a o j h =
-    record { same = λ stk l. refl; least = omega arith; fits = record { within = h.within; short = h.short; few = h.few } }
-
 module _ (s : List ℕ) (at depth : ℕ) (q : Rings) (r : Reached) (o j : List ℕ) (v : InRun s at depth q r o j) where
-  pub run_ends : length s ≤ r.next → RunTo s at depth q r o j
-  run_ends h = record { same = v.same; stops = λ g. absurd (omega arith); least = v.least; fits = v.fits }
-
-  pub run-closes : get_or s r.next 0 ≡ 41 → RunTo s at depth q r o j
-  run-closes e = record { same = v.same; stops = λ g. e; least = v.least; fits = v.fits }
-
   -- a step that no tail goes on with
   pub run-refused : ((t : List ℕ) → GoesOn s r (state_of r t o j) None t o j) → RunRead s at depth q None o j
   run-refused f stk l = v.same stk l ∙ f stk
@@ -408,10 +377,6 @@ module _ (s : List ℕ) (at depth : ℕ) (q : Rings) (r : Reached) (o j : List �
   module _ (h : r.next < length s) where
     inside : Inside s r
     inside = record { fits = v.fits; more = h }
-
-    module _ (n : get_or s r.next 0 ≡ 41 → ⊥) where
-      pub run-item : (get_or s r.next 0 ≡ 40 → ⊥) → Item s r
-      run-item m = record { inside = inside; opens = m; closes = n }
 
     pub run_on : (r' : Reached) (o' j' : List ℕ) → ((t : List ℕ) → GoesOn s r (state_of r t o j) (Some r') t o' j') → InRun s at depth q r' o' j'
     run_on r' o' j' g =
@@ -438,9 +403,6 @@ module _ (s : List ℕ) (at depth : ℕ) (q : Rings) (r : Reached) (o j : List �
           too-deep z stk l =
               v.same stk l
               ∙ byte-wrong s r 40 stk o j here (opens-step r.place stk (rings_of r.atoms o j) late ∙ rw (le-ltb (length stk) 16 (omega arith)) refl)
-
-          pub room-inner : Room s (r.next + 1) r.atoms.last
-          room-inner = record { within = omega arith; short = v.fits.short; few = omega (arith, v.fits.few) }
 
           -- the branch opens
           module _ (z : depth ≡ 0 → ⊥) where
@@ -497,9 +459,6 @@ module _ (s : List ℕ) (a : Bool) (e : a ≡ eqb (length s) 0) (f : a ≡ false
   tail-long g = rw (le-leb 1 (length s) some, lt-leb (length s) 255 g)
 
   module _ (g : length s ≤ 255) where
-    pub room-first : Room s 0 0
-    room-first = record { within = omega arith; short = g; few = omega arith }
-
     whole-tail : atoms_of_tail s ≡ scan (stands opening [] no_rings) s
     unfolding atoms_of_tail within
     whole-tail = rw (le-leb 1 (length s) some, le-leb (length s) 255 g) refl
