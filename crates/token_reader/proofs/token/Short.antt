@@ -45,8 +45,6 @@ use Rattle.std.specs.Prelude.{Option, Some, None}
 use Rattle.token_reader.specs.declared.token.Ended.{Ended}
 use Rattle.token_reader.specs.declared.token.ReadToken.{ReadToken}
 use Rattle.token_reader.specs.declared.token.ReadToken.TheVariants.{Read as ReadToken-as-Read, Refused as ReadToken-as-Refused}
-use Rattle.token_reader.specs.declared.token.Missing.{Missing}
-use Rattle.token_reader.specs.declared.token.Missing.TheVariants.{Seated as Missing-as-Seated, Unseated}
 use Rattle.chain_record.specs.declared.refusal.Refusal.{Refusal}
 use Rattle.chain_record.specs.declared.refusal.Refusal.TheVariants.{Unreadable}
 use Rattle.chain_record.specs.refusal.Refusal.{number_of}
