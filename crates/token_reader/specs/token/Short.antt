@@ -139,11 +139,12 @@ pub record Leads (t : List ℕ) (r : Lead) : Type 0 where
   pub within : r.length ≤ length t
   pub plain : Plainly (take r.length t)
   pub small : r.pos ≤ 99
-  pub figures : (r.length ≡ 0 → ⊥) → Numeral (take r.length t) r.pos
+  pub figures : Numeral (take r.length t) r.pos
   pub says : (c x : ℕ) (b : List ℕ) → is_digit x ≡ false → part_of (take r.length t ++ x ∷ b) c ≡ item_at (x ∷ b) r.pos c
 
 -- r is the group that t starts with
 pub record Itemed (t : List ℕ) (r : Item) : Type 0 where
+  pub some : 0 < r.next
   pub room : r.next ≤ length t
   pub plain : Plainly (take r.next t)
   pub says : (c : ℕ) → part_of (take r.next t) c ≡ Located (group_in r.code)
