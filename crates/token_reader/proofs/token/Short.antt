@@ -43,8 +43,6 @@ use Rattle.token_reader.specs.declared.token.Listed.{Listed}
 use Rattle.token_reader.specs.declared.token.Usual.{Usual}
 use Rattle.std.specs.Prelude.{Option, Some, None, IfSome, unwrap_or}
 use Rattle.token_reader.specs.declared.token.Ended.{Ended}
-use Rattle.token_reader.specs.declared.token.ReadToken.{ReadToken}
-use Rattle.token_reader.specs.declared.token.ReadToken.TheVariants.{Read as ReadToken-as-Read, Refused as ReadToken-as-Refused}
 use Rattle.chain_record.specs.declared.refusal.Refusal.{Refusal}
 use Rattle.chain_record.specs.declared.refusal.Refusal.TheVariants.{Unreadable}
 use Rattle.chain_record.specs.refusal.Refusal.{number_of}
