@@ -1,30 +1,24 @@
 -- Laws of the tests on a byte: each way through the code as a case of the definition.
-use Prim.Native.Nat.{ℕ, ◌+◌, ◌≤◌, ◌<◌}
-use native.Mathlib.Numerals.{add-one}
+use Prim.Native.Nat.{ℕ}
+use native.Mathlib.Omega.{arith}
 use mathlib.Core.Path.{◌≡◌, refl, sym, ap, ◌∙◌}
 use mathlib.Core.Bool.{Bool, true, false, ◌||◌}
 use mathlib.Core.List.{List, [], ◌∷◌, ◌++◌}
-use lib.ListN.{length, drop, get_or, drop_of_length-le}
-use lib.Seq.{drop-cons}
 use lib.Dec.{eqb}
-use borrow.Author.Tests.{eq-eqb, ne_eqb}
+use borrow.Author.Tests.{ne_eqb}
+use Rattle.std.specs.Char.{is_ascii_alphanumeric}
+use Rattle.std.specs.List.{list_any}
+use Rattle.std.proofs.lemmas.Bool.Decides.{nat_tests}
 use Rattle.reading_rules.specs.reading.Ascii.{ascii}
 use Rattle.reading_rules.specs.reading.Lexer.{memb, within, organic, bracketed, pairs}
 
 -- ---- a byte among some
 
-module _ (b : ℕ) (bs : List ℕ) (i : ℕ) (v : memb b bs ≡ memb b (drop i bs)) where
-  pub among-here : i < length bs → b ≡ get_or bs i 0 → true ≡ memb b bs
-  unfolding memb
-  among-here h e = sym (v ∙ rw (drop-cons bs i 0 h, eq-eqb b (get_or bs i 0) e))
-
-  pub among_next : i < length bs → (b ≡ get_or bs i 0 → ⊥) → memb b bs ≡ memb b (drop (i + 1) bs)
-  unfolding memb
-  among_next h e = v ∙ rw (add-one i, drop-cons bs i 0 h, ne_eqb b (get_or bs i 0) e)
-
-  pub among_none : length bs ≤ i → false ≡ memb b bs
-  unfolding memb
-  among_none h = sym (v ∙ rw (drop_of_length-le bs {i = i} h))
+-- `contains` of std asks of each byte whether it is b, and `memb` of b whether it is the byte
+pub contains_memb : (b : ℕ) (bs : List ℕ) → list_any (λ y. eqb y b) bs ≡ memb b bs
+unfolding memb
+contains_memb b [] = refl
+contains_memb b (y ∷ ys) = let e = contains_memb b ys in grind (arith, nat_tests, e)
 
 -- ---- a letter: the capitals first, then the rest
 
@@ -55,23 +49,30 @@ module _ (x : ℕ) (a : Bool) (e : a ≡ memb x capitals) where
 
 -- ---- what may stand in a bracket
 
-pub in-capitals : (x : ℕ) (a : Bool) → a ≡ within 65 90 x → a ≡ true → true ≡ bracketed x
-unfolding bracketed
-in-capitals x a e f = rw (sym e ∙ f)
+-- std's letters and digits in the order of the definition
+letters-first : (u v w m : Bool) → (u || v || w || m) ≡ (((w || u) || v) || m)
+letters-first true v true m = refl
+letters-first true v false m = refl
+letters-first false true true m = refl
+letters-first false true false m = refl
+letters-first false false true m = refl
+letters-first false false false m = refl
 
-module _ (x : ℕ) (a : Bool) (e : a ≡ within 65 90 x) (f : a ≡ false) where
-  pub in-smalls : (b : Bool) → b ≡ within 97 122 x → b ≡ true → true ≡ bracketed x
-  unfolding bracketed
-  in-smalls b g h = rw (sym e ∙ f, sym g ∙ h)
+module _ (x : ℕ) (a : Bool) (e : a ≡ is_ascii_alphanumeric x) where
+  signs : List ℕ
+  unfolding ascii
+  signs = ascii "+-@"
 
-  module _ (b : Bool) (g : b ≡ within 97 122 x) (h : b ≡ false) where
-    pub in-digits : (d : Bool) → d ≡ within 48 57 x → d ≡ true → true ≡ bracketed x
-    unfolding bracketed
-    in-digits d i j = rw (sym e ∙ f, sym g ∙ h, sym i ∙ j)
+  is : bracketed x ≡ (a || memb x signs)
+  unfolding bracketed within signs
+  is = letters-first (within 65 90 x) (within 97 122 x) (within 48 57 x) (memb x signs) ∙ ap (λ (z : Bool). z || memb x signs) (sym e)
 
-    pub in-signs : (d s : Bool) → d ≡ within 48 57 x → d ≡ false → s ≡ memb x (43 ∷ 45 ∷ 64 ∷ []) → s ≡ bracketed x
-    unfolding bracketed ascii
-    in-signs d s i j k = k ∙ rw (sym e ∙ f, sym g ∙ h, sym i ∙ j)
+  pub in-alphanumeric : a ≡ true → a ≡ bracketed x
+  in-alphanumeric f = f ∙ sym (is ∙ ap (λ (z : Bool). z || memb x signs) f)
+
+  pub in-signs : (s : Bool) → a ≡ false → s ≡ memb x (43 ∷ 45 ∷ 64 ∷ []) → s ≡ bracketed x
+  unfolding signs ascii
+  in-signs s f k = k ∙ sym (is ∙ ap (λ (z : Bool). z || memb x signs) f)
 
 -- ---- the second letter of an atom
 
@@ -83,9 +84,9 @@ pub second-l : (a x : ℕ) → x ≡ 108 → eqb a 67 ≡ pairs a x
 unfolding pairs
 second-l a x e = rw e (sym (or-false (eqb a 67)))
 
-pub second-r : (a x : ℕ) → (x ≡ 108 → ⊥) → x ≡ 114 → eqb a 66 ≡ pairs a x
+pub second-r : (a x : ℕ) → x ≡ 114 → eqb a 66 ≡ pairs a x
 unfolding pairs
-second-r a x n e = rw e
+second-r a x e = rw e
 
 pub no_second : (a x : ℕ) → (x ≡ 108 → ⊥) → (x ≡ 114 → ⊥) → false ≡ pairs a x
 unfolding pairs

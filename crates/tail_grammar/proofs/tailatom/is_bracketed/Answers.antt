@@ -1,14 +1,12 @@
-use Rattle.tail_grammar.proofs.tailatom.Bytes.{in-capitals, in-smalls, in-digits, in-signs}
+use Rattle.std.proofs.Common.{◌∙◌}
+use Rattle.tail_grammar.proofs.tailatom.Bytes.{contains_memb, in-alphanumeric, in-signs}
 use Rattle.tail_grammar.proofs.tailatom.is_bracketed.Goals as goal
 
-pub returns-then-is_within : goal.returns-then-is_within
-returns-then-is_within c = search in-capitals
+pub returns-then-is_ascii_alphanumeric : goal.returns-then-is_ascii_alphanumeric
+returns-then-is_ascii_alphanumeric c = in-alphanumeric c.args.b _ c.is_ascii_alphanumeric.ensures.value c.if-is_ascii_alphanumeric.true
 
-pub returns-then-is_within-2 : goal.returns-then-is_within-2
-returns-then-is_within-2 c = search in-smalls
-
-pub returns-then-is_within-3 : goal.returns-then-is_within-3
-returns-then-is_within-3 c = search in-digits
-
-pub returns : goal.returns
-returns c = search in-signs
+pub returns-else-is_ascii_alphanumeric : goal.returns-else-is_ascii_alphanumeric
+returns-else-is_ascii_alphanumeric c =
+    in-signs c.args.b _ c.is_ascii_alphanumeric.ensures.value c.contains.result
+    c.if-is_ascii_alphanumeric.false
+    (c.contains.ensures.value ∙ contains_memb c.args.b _)
