@@ -22,18 +22,9 @@ use Rattle.token_reader.specs.seats.Seats.{among, also, free, Found, SeatIs, fir
 
 -- ---- a free seat
 
-module _ (xs : List Bool) (p : ℕ) where
-  pub used-itself : get_or xs p false ≡ true → false ≡ free (used_in xs) p
-  unfolding free
-  used-itself e = rw e
-
-  pub used-below : get_or xs p false ≡ false → get_or xs (p - 1) false ≡ true → false ≡ free (used_in xs) p
-  unfolding free
-  used-below e f = rw (e, f)
-
-  pub used-above : get_or xs p false ≡ false → get_or xs (p - 1) false ≡ false → not (get_or xs (p + 1) false) ≡ free (used_in xs) p
-  unfolding free
-  used-above e f = rw (e, f)
+pub used-above : (xs : List Bool) (p : ℕ) → get_or xs p false ≡ false → get_or xs (p - 1) false ≡ false → not (get_or xs (p + 1) false) ≡ free (used_in xs) p
+unfolding free
+used-above xs p e f = rw (e, f)
 
 first_range : (u : ℕ → Bool) (n a p : ℕ) → first_free u n a ≡ Some p → (a ≤ p) × (p < a + n)
 unfolding first_free
