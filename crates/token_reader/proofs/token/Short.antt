@@ -45,7 +45,6 @@ use Rattle.std.specs.Prelude.{Option, Some, None, IfSome, unwrap_or}
 use Rattle.token_reader.specs.declared.token.Ended.{Ended}
 use Rattle.chain_record.specs.declared.refusal.Refusal.{Refusal}
 use Rattle.chain_record.specs.declared.refusal.Refusal.TheVariants.{Unreadable}
-use Rattle.chain_record.specs.refusal.Refusal.{number_of}
 use Rattle.token_reader.specs.declared.token.Ending.{Ending}
 use Rattle.token_reader.specs.declared.token.ReadChain.{ReadChain}
 use Rattle.token_reader.specs.token.Lent.{bonds_in, Ends, ended_as, Tells}
