@@ -9,22 +9,37 @@ const MAX_BRACKET: usize = 16;
 fn is_bond(b: u8) -> bool
     ensures { result ≡ memb b marks }
 {
-    b"-=#/\\".contains(&b)
+    matches!(b, b'-' | b'=' | b'#' | b'/' | b'\\')
 }
 
-// The atoms of one letter; C and B may also be the first of two. They stand in two short lists, since each of these is compiled to one test,
-// and one long list to a loop.
+// The atoms of one letter; C and B may also be the first of two.
 fn is_letter(b: u8) -> bool
     ensures { result ≡ memb b organic }
 {
-    b"BCNOPSFI".contains(&b) || b"bcnosp*".contains(&b)
+    matches!(
+        b,
+        b'B' | b'C'
+            | b'N'
+            | b'O'
+            | b'P'
+            | b'S'
+            | b'F'
+            | b'I'
+            | b'b'
+            | b'c'
+            | b'n'
+            | b'o'
+            | b's'
+            | b'p'
+            | b'*'
+    )
 }
 
 // What may stand in a bracket.
 fn is_bracketed(b: u8) -> bool
     ensures { result ≡ bracketed b }
 {
-    b.is_ascii_alphanumeric() || b"+-@".contains(&b)
+    b.is_ascii_alphanumeric() || matches!(b, b'+' | b'-' | b'@')
 }
 
 // Whether the letter `b` makes one atom with the letter `a` before it: Cl, Br.

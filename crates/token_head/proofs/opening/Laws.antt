@@ -23,7 +23,6 @@ use Rattle.token_head.specs.declared.opening.Branch.TheVariants.{Straight, Iso, 
 use Rattle.token_head.specs.declared.opening.Start.{Start}
 use Rattle.chain_record.specs.declared.refusal.Refusal.{Refusal}
 use Rattle.chain_record.specs.declared.refusal.Refusal.TheVariants.{OverLimit, Unreadable}
-use Rattle.chain_record.specs.refusal.Refusal.{number_of}
 use Rattle.token_head.specs.opening.Opening.{iso_text, anteiso_text, branch_of, branch_length, ether_text, alkenyl_text, sphingoid_of, before_digit, prefix_of, prefix_length, second_word, opening_of, branch_offset, branched, start_chain, carbons_by, carbons_of, Word, Prefixed, Opened, start_as, Starts}
 
 -- ---- the branch word

@@ -21,7 +21,6 @@ use Rattle.chain_record.specs.declared.plain.Geometry.{Geometry}
 use Rattle.chain_record.specs.declared.plain.Geometry.TheVariants.{Unstated, Cis, Trans}
 use Rattle.chain_record.specs.plain.Chain.{Chain, Outcome, Refused, unreadable, with_bond}
 use Rattle.chain_record.specs.declared.refusal.Refusal.{Refusal}
-use Rattle.chain_record.specs.refusal.Refusal.{number_of}
 use Rattle.chain_record.specs.parsed.Parsed.{Has, Refuses, Counting, bonds_as, Grows, Fills, Pushes}
 use Rattle.chain_record.proofs.parsed.Laws.{fills-refused, fills-read, fills_same}
 use Rattle.token_head.specs.positions.Positions.{geometry_of, positioned, numbered, lettered, position_of, with_position, bond_at, bond_list, inside, within, ring_position, ring_bond_at, ring_bond_list}

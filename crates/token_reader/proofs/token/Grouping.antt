@@ -85,9 +85,6 @@ run_more s i b h l e n =
     let k : is_plain (get_or s i 0) ≡ true = sym e ∙ not-false b n in
     rw (add-one i, take-suc s i 0 l) (plainly-append (take i s) (get_or s i 0 ∷ []) h (k, tt))
 
-pub run_end : (s : List ℕ) (i : ℕ) → i ≤ length s → Plainly (take i s) → PlainRun s i
-run_end s i l h = record { within = l; plain = h }
-
 passed-plain : (n : ℕ) (t : List ℕ) → n ≤ length t → Plainly (take n t) → Passed t (drop n t)
 passed-plain zero t l h = passed_here t
 passed-plain (suc n) [] l h = absurd (omega arith)

@@ -45,13 +45,12 @@ use Rattle.std.specs.Prelude.{Option, Some, None, IfSome, unwrap_or}
 use Rattle.token_reader.specs.declared.token.Ended.{Ended}
 use Rattle.chain_record.specs.declared.refusal.Refusal.{Refusal}
 use Rattle.chain_record.specs.declared.refusal.Refusal.TheVariants.{Unreadable}
-use Rattle.chain_record.specs.refusal.Refusal.{number_of}
 use Rattle.token_reader.specs.declared.token.Ending.{Ending}
 use Rattle.token_reader.specs.declared.token.ReadChain.{ReadChain}
 use Rattle.token_reader.specs.token.Lent.{bonds_in, Ends, ended_as, Tells}
 use Rattle.token_segments.proofs.segment.Laws.{segments-none}
 use Rattle.token_reader.proofs.token.Laws.{rest-empty, with-start}
-use Rattle.token_reader.specs.token.Short.{Numbered, Passed, HeadAt, Headed, bonded, list_left, SpotOf, Spotted, Listing, may_follow, Follows, Lists, laden, groups_in, Grouped, rings_in, RingFirst, Starts, Plain, PlainIn}
+use Rattle.token_reader.specs.token.Short.{Passed, HeadAt, Headed, bonded, list_left, SpotOf, Spotted, Listing, may_follow, Follows, Lists, laden, groups_in, Grouped, rings_in, RingFirst, Starts, Plain, PlainIn}
 
 -- ---- the bytes that are passed
 
@@ -149,17 +148,6 @@ letter-range x h = go (eqb x 100) (eqb x 68) (eqb x 116) (eqb x 84) refl refl re
     go false false true l a b c d h = (omega (arith, eqb-true x 116 c), omega (arith, eqb-true x 116 c))
     go false false false true a b c d h = (omega (arith, eqb-true x 84 d), omega (arith, eqb-true x 84 d))
     go false false false false a b c d h = absurd (omega arith)
-
-pub counted_is : (t : List ℕ) (a b d : Bool) → 4 ≤ length t → a ≡ is_digit (get_or t 0 0) → not a ≡ false → b ≡ is_digit (get_or t 1 0) → not b ≡ false → get_or t 2 0 ≡ 58
-    → d ≡ is_digit (get_or t 3 0) → d ≡ true → Numbered t
-counted_is t a b d l ea na eb nb c ed nd = record { room = l; ten = digit-is _ a ea na; one = digit-is _ b eb nb; colon = c; bonds = sym ed ∙ nd }
-
-pub numbered_is : (t : List ℕ) (b : Bool) → (b ≡ true → Numbered t) → not b ≡ false → Numbered t
-numbered_is t b w n = w (not-false b n)
-
-pub head-counted : (t : List ℕ) (p : ChainPrefix) (at : ℕ) (b : Bool) (x y z : ℕ) → (b ≡ true → Numbered t) → not b ≡ false → x ≡ get_or t 0 0 - 48 → y ≡ get_or t 1 0 - 48 → z ≡ get_or t 3 0 - 48
-    → HeadAt t p at (record { prefix = p; carbon = x * 10 + y; declared = z; rest = at + 4 })
-head-counted t p at b x y z w n e f g = rw (e, f, g) (record { counted = numbered_is t b w n; is = refl })
 
 -- without prefix
 pub head_plain : (s : List ℕ) (o : Option Head) → IfSome o (λ r. HeadAt s Acyl 0 r) → IfSome o (λ r. Headed s r)
@@ -722,8 +710,3 @@ module _ (s ys hs zs : List ℕ) (u : Usual) (r : Result ReadChain Refusal) (q :
       let v : drop u.rest s ≡ [] = rw e (drop-length s) in
       let z : token_of s ≡ finished (missing_of u.carbon (bonds_in u.count ys) u.declared) (laden u.prefix u.carbon (bonds_in u.count ys) (groups_in u.groups hs) (rings_in u.rings zs)) = (rw v at q.says) ∙ rest-empty _ _ in
       rw z (k.tells hs zs q.listed q.stored q.grown q.kept q.closed q.held)
-
-  pub token-segments : (bs gs rs : List ℕ)
-      → Tells r bs gs rs (rest_of (missing_of u.carbon (bonds_in u.count ys) u.declared) (take (length s - u.rest) (drop u.rest s)) (laden u.prefix u.carbon (bonds_in u.count ys) (groups_in u.groups hs) (rings_in u.rings zs)))
-      → Tells r bs gs rs (token_of s)
-  token-segments bs gs rs k = rw (q.says, ← to_end u.rest s) k

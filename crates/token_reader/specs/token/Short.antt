@@ -24,7 +24,6 @@ use Rattle.token_reader.specs.declared.token.Lead.{Lead}
 use Rattle.token_reader.specs.declared.token.Item.{Item}
 use Rattle.token_reader.specs.declared.token.Usual.{Usual}
 use Rattle.chain_record.specs.declared.refusal.Refusal.{Refusal}
-use Rattle.chain_record.specs.refusal.Refusal.{number_of}
 use Rattle.token_reader.specs.declared.token.ReadChain.{ReadChain}
 use Rattle.token_reader.specs.token.Token.{missing_of, finished, rest_of, listed_of, after_count, trimmed_of, all_printable, token_of}
 use Rattle.token_reader.specs.token.Lent.{bonds_in, Tells}

@@ -1,12 +1,17 @@
-use Rattle.std.proofs.Common.{◌∙◌}
-use Rattle.tail_grammar.proofs.tailatom.Bytes.{contains_memb, in-alphanumeric, in-signs}
+use Rattle.std.proofs.Common.{arith}
+use Rattle.std.proofs.lemmas.Bool.Decides.{nat_tests}
+use Rattle.reading_rules.specs.reading.Ascii.{ascii}
+use Rattle.reading_rules.specs.reading.Lexer.{memb, within, bracketed}
 use Rattle.tail_grammar.proofs.tailatom.is_bracketed.Goals as goal
 
 pub returns-then-is_ascii_alphanumeric : goal.returns-then-is_ascii_alphanumeric
-returns-then-is_ascii_alphanumeric c = in-alphanumeric c.args.b _ c.is_ascii_alphanumeric.ensures.value c.if-is_ascii_alphanumeric.true
+unfolding bracketed within memb ascii
+returns-then-is_ascii_alphanumeric c = grind (arith, nat_tests)
 
-pub returns-else-is_ascii_alphanumeric : goal.returns-else-is_ascii_alphanumeric
-returns-else-is_ascii_alphanumeric c =
-    in-signs c.args.b _ c.is_ascii_alphanumeric.ensures.value c.contains.result
-    c.if-is_ascii_alphanumeric.false
-    (c.contains.ensures.value ∙ contains_memb c.args.b _)
+pub returns-in-43 : goal.returns-in-43
+unfolding bracketed within memb ascii
+returns-in-43 c = grind (arith, nat_tests)
+
+pub returns-in_default : goal.returns-in_default
+unfolding bracketed within memb ascii
+returns-in_default c = grind (arith, nat_tests)
