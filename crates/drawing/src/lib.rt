@@ -8,10 +8,9 @@ ghost use Rattle.class_lines.specs.longest.Covered.{Slight};
 ghost use Rattle.answers.specs.room.Ready.{Readied, ShortIs};
 ghost use Rattle.drawing.specs.Draw.{ChainsDrawn, IndexRoom};
 
-use drawn_chain::{MAX_CHAINS, Shape};
 use answers::{Answer, INDEX_ROOM, ROW_ROOM, refused};
 use class_lines::Line;
-
+use drawn_chain::{MAX_CHAINS, Shape};
 use template_rules::Class;
 
 // A slice is shorter than needed.
@@ -58,9 +57,45 @@ fn draw_one(
     }
 }
 
-// A request whose line and indices fit: the line is built where it is to stand, the indices in N numbers of their own, which are room for all of
-// them, and then copied by rising sn.
-fn draw_some<const N: usize>(
+// A request whose line and indices fit: the line is built where it is to stand, the indices in numbers of their own, and then copied by
+// rising sn.
+fn draw_some(
+    line: &mut [u8],
+    index: &mut [u16],
+    numbers: &mut [u16],
+    count: usize,
+    shapes: &[Shape; MAX_CHAINS],
+    class: Class,
+    swap: bool,
+    tail: &[u8],
+    tail_atoms: u16,
+    lists: &[u64],
+) -> Answer
+    requires readied { Readied class tail.now tail_atoms (chains_kept count shapes.now lists.now) }
+    requires index_room { IndexRoom class tail.now tail_atoms (chains_kept count shapes.now lists.now) (length numbers.old) }
+    requires short_is { ShortIs class swap tail.now tail_atoms (chains_kept count shapes.now lists.now) (length line.old) (length index.old) false }
+    ensures { ChainsDrawn class swap tail.now tail_atoms (chains_kept count shapes.now lists.now) line.old index.old line.new index.new result }
+{
+    let mut rows = [0u8; ROW_ROOM];
+    let mut notes = [placement::nowhere(); MAX_CHAINS];
+    let built = class_lines::build_line(
+        line, numbers, &mut rows, &mut notes, class, swap, tail, tail_atoms, count, shapes, lists,
+    );
+    let order = built.order;
+    let sites = built.sites;
+    let listed = chain_lists::lists_by_sn(&notes, order);
+    let end = chain_lists::write_indices(index, numbers, &notes, order);
+    Answer {
+        number: 0,
+        token: 0,
+        length: built.at,
+        lists: listed,
+        sites,
+    }
+}
+
+// Chains of which none is long take little room.
+fn draw_slight(
     line: &mut [u8],
     index: &mut [u16],
     class: Class,
@@ -72,37 +107,54 @@ fn draw_some<const N: usize>(
     lists: &[u64],
 ) -> Answer
     requires readied { Readied class tail.now tail_atoms (chains_kept count shapes.now lists.now) }
-    requires index_room { IndexRoom class tail.now tail_atoms (chains_kept count shapes.now lists.now) N }
+    requires slight { Slight 30 count shapes.now }
     requires short_is { ShortIs class swap tail.now tail_atoms (chains_kept count shapes.now lists.now) (length line.old) (length index.old) false }
     ensures { ChainsDrawn class swap tail.now tail_atoms (chains_kept count shapes.now lists.now) line.old index.old line.new index.new result }
 {
-    let mut numbers = [0u16; N];
-    let mut rows = [0u8; ROW_ROOM];
-    let mut notes = [placement::nowhere(); MAX_CHAINS];
-    let built = class_lines::build_line(
+    let mut numbers = [0u16; SLIGHT_ROOM];
+    draw_some(
         line,
+        index,
         &mut numbers,
-        &mut rows,
-        &mut notes,
+        count,
+        shapes,
         class,
         swap,
         tail,
         tail_atoms,
+        lists,
+    )
+}
+
+// Others have room for four of the longest.
+fn draw_long(
+    line: &mut [u8],
+    index: &mut [u16],
+    class: Class,
+    swap: bool,
+    tail: &[u8],
+    tail_atoms: u16,
+    count: usize,
+    shapes: &[Shape; MAX_CHAINS],
+    lists: &[u64],
+) -> Answer
+    requires readied { Readied class tail.now tail_atoms (chains_kept count shapes.now lists.now) }
+    requires short_is { ShortIs class swap tail.now tail_atoms (chains_kept count shapes.now lists.now) (length line.old) (length index.old) false }
+    ensures { ChainsDrawn class swap tail.now tail_atoms (chains_kept count shapes.now lists.now) line.old index.old line.new index.new result }
+{
+    let mut numbers = [0u16; INDEX_ROOM];
+    draw_some(
+        line,
+        index,
+        &mut numbers,
         count,
         shapes,
+        class,
+        swap,
+        tail,
+        tail_atoms,
         lists,
-    );
-    let order = built.order;
-    let sites = built.sites;
-    let listed = chain_lists::lists_by_sn(&notes, order);
-    let end = chain_lists::write_indices(index, &numbers, &notes, order);
-    Answer {
-        number: 0,
-        token: 0,
-        length: built.at,
-        lists: listed,
-        sites,
-    }
+    )
 }
 
 // A request that was judged, drawn: the arrays hold what was made of its tokens. Nothing is written where a slice is too short.
@@ -131,13 +183,12 @@ pub fn draw_chains(
             line, index, class, swap, tail, tail_atoms, count, shapes, lists,
         );
     }
-    // Chains of which none is long take little room; others have room for four of the longest.
     if class_lines::are_slight(count, shapes) {
-        return draw_some::<SLIGHT_ROOM>(
+        return draw_slight(
             line, index, class, swap, tail, tail_atoms, count, shapes, lists,
         );
     }
-    draw_some::<INDEX_ROOM>(
+    draw_long(
         line, index, class, swap, tail, tail_atoms, count, shapes, lists,
     )
 }

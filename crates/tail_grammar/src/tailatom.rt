@@ -9,7 +9,7 @@ const MAX_BRACKET: usize = 16;
 fn is_bond(b: u8) -> bool
     ensures { result ≡ memb b marks }
 {
-    matches!(b, b'-' | b'=' | b'#' | b'/' | b'\\')
+    b"-=#/\\".contains(&b)
 }
 
 // The atoms of one letter; C and B may also be the first of two.
