@@ -1,153 +1,93 @@
 // 33: two features that clash. Features are held against features, never against carbons. What a clash is, is said by the definitions of
 // `chain_rules::chain`.
-ghost use Rattle.std.specs.Prelude.{◌≡◌, ◌+◌, drop};
+ghost use Rattle.std.specs.Prelude.{◌≡◌};
 ghost use Rattle.chain_rules.specs.chain.Lists.{any_of, any_two};
 ghost use Rattle.chain_rules.specs.chain.Refusals.{same_bond, epoxide_on, small_ring, same_ring, clashes};
-ghost use Rattle.drawn_chain.specs.drawable.Drawn.{bonds_in, rings_in, drawn_of, Says, DrawsSome};
+ghost use Rattle.drawn_chain.specs.drawable.Drawn.{drawn_of, Says, DrawsSome};
 ghost use Rattle.chain_refusals.specs.clash.Places.{bond_at};
 
 use chain_record::{Bridge, DbPos, Ring};
 use drawn_chain::{Lists, Shape};
 
-// Whether a double bond stands at p.
-fn starts_at(bond: DbPos, p: u32) -> bool
-    ensures { result ≡ bond_at p bond }
+// Whether some double bond stands at p.
+fn any_bond_at(bonds: &[DbPos], p: u32) -> bool
+    ensures { result ≡ any_of (bond_at p) bonds.now }
 {
-    bond.pos == p
-}
-
-// Whether some double bond stands at p, among those from a place on.
-fn bond_from(bonds: &[DbPos], count: usize, from: usize, p: u32) -> bool
-    ensures { result ≡ any_of (bond_at p) (drop from (bonds_in count bonds.now)) }
-{
-    let n = drawn_chain::bonds_len(bonds, count);
-    let mut i = from;
-    while i < n {
-        let bond = drawn_chain::nth_bond(bonds, count, i);
-        if starts_at(bond, p) {
-            return true;
-        }
-        i += 1;
-    }
-    false
+    bonds.iter().any(|bond| bond.pos == p)
 }
 
 // Whether some two double bonds stand at one carbon, each held against all that follow.
-fn repeated_bond(bonds: &[DbPos], count: usize) -> bool
-    ensures { result ≡ any_two same_bond (bonds_in count bonds.now) }
+fn repeated_bond(bonds: &[DbPos]) -> bool
+    ensures { result ≡ any_two same_bond bonds.now }
 {
-    let n = drawn_chain::bonds_len(bonds, count);
-    let mut i = 0;
-    while i < n {
-        let bond = drawn_chain::nth_bond(bonds, count, i);
-        i += 1;
-        if bond_from(bonds, count, i, bond.pos) {
+    let mut left = bonds;
+    while let Some((bond, rest)) = left.split_first() {
+        if any_bond_at(rest, bond.pos) {
             return true;
         }
+        left = rest;
     }
     false
 }
 
 // Whether a ring is an epoxide where a double bond stands.
-fn epoxide_on(ring: Ring, bonds: &[DbPos], count: usize) -> bool
-    ensures { result ≡ epoxide_on (bonds_in count bonds.now) ring }
+fn epoxide_on(ring: Ring, bonds: &[DbPos]) -> bool
+    ensures { result ≡ epoxide_on bonds.now ring }
 {
-    let bridge = ring.bridge;
-    match bridge {
-        Bridge::Epoxide => bond_from(bonds, count, 0, ring.start as u32),
+    match ring.bridge {
+        Bridge::Epoxide => any_bond_at(bonds, u32::from(ring.start)),
         Bridge::Carbocycle => false,
     }
 }
 
 // Whether some ring is an epoxide where a double bond stands.
-fn any_epoxide_on<'a>(
-    rings: &'a [Ring],
-    ring_count: usize,
-    bonds: &'a [DbPos],
-    bond_count: usize,
-) -> bool
-    ensures { result ≡ any_of (epoxide_on (bonds_in bond_count bonds.now)) (rings_in ring_count rings.now) }
+fn any_epoxide_on<'a>(rings: &'a [Ring], bonds: &'a [DbPos]) -> bool
+    ensures { result ≡ any_of (epoxide_on bonds.now) rings.now }
 {
-    let n = drawn_chain::rings_len(rings, ring_count);
-    let mut i = 0;
-    while i < n {
-        let ring = drawn_chain::nth_ring(rings, ring_count, i);
-        if epoxide_on(ring, bonds, bond_count) {
-            return true;
-        }
-        i += 1;
-    }
-    false
+    rings.iter().any(|ring| epoxide_on(*ring, bonds))
 }
 
 // Whether a carbocycle has one atom or two.
 fn small_ring(ring: Ring) -> bool
     ensures { result ≡ small_ring ring }
 {
-    let bridge = ring.bridge;
-    match bridge {
+    match ring.bridge {
         Bridge::Epoxide => false,
-        Bridge::Carbocycle => (ring.end as u32) < (ring.start as u32) + 2,
+        Bridge::Carbocycle => u32::from(ring.end) < u32::from(ring.start) + 2,
     }
 }
 
 // Whether some carbocycle has one atom or two.
-fn any_small_ring(rings: &[Ring], count: usize) -> bool
-    ensures { result ≡ any_of small_ring (rings_in count rings.now) }
+fn any_small_ring(rings: &[Ring]) -> bool
+    ensures { result ≡ any_of small_ring rings.now }
 {
-    let n = drawn_chain::rings_len(rings, count);
-    let mut i = 0;
-    while i < n {
-        let ring = drawn_chain::nth_ring(rings, count, i);
-        if small_ring(ring) {
-            return true;
-        }
-        i += 1;
-    }
-    false
+    rings.iter().any(|ring| small_ring(*ring))
 }
 
 // Whether two rings have the same ends.
 fn same_ring(a: Ring, b: Ring) -> bool
     ensures { result ≡ same_ring a b }
 {
-    if a.start != b.start {
-        return false;
-    }
-    if a.end != b.end {
-        return false;
-    }
-    true
+    a.start == b.start && a.end == b.end
 }
 
-// Whether some ring has the ends of a given one, among those from a place on.
-fn ring_from(rings: &[Ring], count: usize, from: usize, ring: Ring) -> bool
-    ensures { result ≡ any_of (same_ring ring) (drop from (rings_in count rings.now)) }
+// Whether some ring has the ends of a given one.
+fn any_same_ring(rings: &[Ring], ring: Ring) -> bool
+    ensures { result ≡ any_of (same_ring ring) rings.now }
 {
-    let n = drawn_chain::rings_len(rings, count);
-    let mut i = from;
-    while i < n {
-        let other = drawn_chain::nth_ring(rings, count, i);
-        if same_ring(ring, other) {
-            return true;
-        }
-        i += 1;
-    }
-    false
+    rings.iter().any(|other| same_ring(ring, *other))
 }
 
-// Whether some two rings have the same ends.
-fn repeated_ring(rings: &[Ring], count: usize) -> bool
-    ensures { result ≡ any_two same_ring (rings_in count rings.now) }
+// Whether some two rings have the same ends, each held against all that follow.
+fn repeated_ring(rings: &[Ring]) -> bool
+    ensures { result ≡ any_two same_ring rings.now }
 {
-    let n = drawn_chain::rings_len(rings, count);
-    let mut i = 0;
-    while i < n {
-        let ring = drawn_chain::nth_ring(rings, count, i);
-        i += 1;
-        if ring_from(rings, count, i, ring) {
+    let mut left = rings;
+    while let Some((ring, rest)) = left.split_first() {
+        if any_same_ring(rest, *ring) {
             return true;
         }
+        left = rest;
     }
     false
 }
@@ -157,16 +97,16 @@ pub fn clash(x: Shape, part: &Lists) -> bool
     requires { DrawsSome (drawn_of x part.now) }
     ensures { Says (drawn_of x part.now) result clashes }
 {
-    let bonds = &part.bonds;
-    if repeated_bond(bonds, x.bond_count) {
+    let bonds = x.bonds(part);
+    if repeated_bond(bonds) {
         return true;
     }
-    let rings = &part.rings;
-    if any_epoxide_on(rings, x.ring_count, bonds, x.bond_count) {
+    let rings = x.rings(part);
+    if any_epoxide_on(rings, bonds) {
         return true;
     }
-    if any_small_ring(rings, x.ring_count) {
+    if any_small_ring(rings) {
         return true;
     }
-    repeated_ring(rings, x.ring_count)
+    repeated_ring(rings)
 }

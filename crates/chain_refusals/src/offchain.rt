@@ -2,7 +2,7 @@
 ghost use Rattle.std.specs.Prelude.{◌≡◌};
 ghost use Rattle.chain_rules.specs.chain.Lists.{any_of};
 ghost use Rattle.chain_rules.specs.chain.Refusals.{double_off, group_off, ring_off, off_chain};
-ghost use Rattle.drawn_chain.specs.drawable.Drawn.{bonds_in, groups_in, rings_in, drawn_of, Says, DrawsSome};
+ghost use Rattle.drawn_chain.specs.drawable.Drawn.{drawn_of, Says, DrawsSome};
 
 use chain_record::{DbPos, Mod, Ring};
 use drawn_chain::{Lists, Shape};
@@ -11,94 +11,42 @@ use drawn_chain::{Lists, Shape};
 fn bond_off(bond: DbPos, first: u16, carbon: u16) -> bool
     ensures { result ≡ double_off first carbon bond }
 {
-    let p = bond.pos;
-    if p < first as u32 {
-        return true;
-    }
-    if carbon as u32 <= p {
-        return true;
-    }
-    false
+    bond.pos < u32::from(first) || u32::from(carbon) <= bond.pos
 }
 
 // Whether a group is outside of the carbons from `first` to `carbon`.
 fn group_off(group: Mod, first: u16, carbon: u16) -> bool
     ensures { result ≡ group_off first carbon group }
 {
-    let p = group.pos;
-    let past = carbon as u32 + 1;
-    if p < first as u32 {
-        return true;
-    }
-    if past <= p {
-        return true;
-    }
-    false
+    group.pos < u32::from(first) || u32::from(carbon) < group.pos
 }
 
 // Whether a ring starts before `first`, or at the carbonyl of an acyl chain.
 fn ring_off(ring: Ring, first: u16, acyl: bool) -> bool
     ensures { result ≡ ring_off first acyl ring }
 {
-    let start = ring.start;
-    if start < first {
-        return true;
-    }
-    if !acyl {
-        return false;
-    }
-    if start == 1 {
-        return true;
-    }
-    false
+    ring.start < first || acyl && ring.start == 1
 }
 
 // Whether some double bond is off the chain.
-fn any_bond_off(bonds: &[DbPos], count: usize, first: u16, carbon: u16) -> bool
-    ensures { result ≡ any_of (double_off first carbon) (bonds_in count bonds.now) }
+fn any_bond_off(bonds: &[DbPos], first: u16, carbon: u16) -> bool
+    ensures { result ≡ any_of (double_off first carbon) bonds.now }
 {
-    let n = drawn_chain::bonds_len(bonds, count);
-    let mut i = 0;
-    while i < n {
-        let bond = drawn_chain::nth_bond(bonds, count, i);
-        if bond_off(bond, first, carbon) {
-            return true;
-        }
-        i += 1;
-    }
-    false
+    bonds.iter().any(|bond| bond_off(*bond, first, carbon))
 }
 
 // Whether some group is off the chain.
-fn any_group_off(groups: &[Mod], count: usize, first: u16, carbon: u16) -> bool
-    ensures { result ≡ any_of (group_off first carbon) (groups_in count groups.now) }
+pub fn any_group_off(groups: &[Mod], first: u16, carbon: u16) -> bool
+    ensures { result ≡ any_of (group_off first carbon) groups.now }
 {
-    let n = drawn_chain::groups_len(groups, count);
-    let mut i = 0;
-    while i < n {
-        let group = drawn_chain::nth_group(groups, count, i);
-        if group_off(group, first, carbon) {
-            return true;
-        }
-        i += 1;
-    }
-    false
+    groups.iter().any(|group| group_off(*group, first, carbon))
 }
 
 // Whether some ring starts off the chain.
-fn any_ring_off(rings: &[Ring], count: usize, first: u16, acyl: bool) -> bool
-    ensures { result ≡ any_of (ring_off first acyl) (rings_in count rings.now) }
+fn any_ring_off(rings: &[Ring], first: u16, acyl: bool) -> bool
+    ensures { result ≡ any_of (ring_off first acyl) rings.now }
 {
-    let n = drawn_chain::rings_len(rings, count);
-    let mut i = 0;
-    while i < n {
-        let ring = drawn_chain::nth_ring(rings, count, i);
-        if ring_off(ring, first, acyl) {
-            return true;
-        }
-        i += 1;
-    }
-    false
+    rings.iter().any(|ring| ring_off(*ring, first, acyl))
 }
 
 // 32: whether a feature is off the drawn chain. A located group on a chain without carbons is off it, so only those that float are left to
@@ -107,27 +55,20 @@ pub fn off_chain(x: Shape, part: &Lists) -> bool
     requires { DrawsSome (drawn_of x part.now) }
     ensures { Says (drawn_of x part.now) result off_chain }
 {
-    let first = x.first;
-    let carbon = x.carbon;
-    let acyl = x.acyl;
-    let ether_base = x.ether_base;
-    if any_bond_off(&part.bonds, x.bond_count, first, carbon) {
+    if any_bond_off(x.bonds(part), x.first, x.carbon) {
         return true;
     }
-    if any_group_off(&part.groups, x.group_count, first, carbon) {
+    if any_group_off(x.groups(part), x.first, x.carbon) {
         return true;
     }
-    if any_ring_off(&part.rings, x.ring_count, first, acyl) {
+    if any_ring_off(x.rings(part), x.first, x.acyl) {
         return true;
     }
-    if ether_base {
+    if x.ether_base {
         return true;
     }
-    if carbon > 0 {
+    if x.carbon > 0 {
         return false;
     }
-    if drawn_chain::groups_len(&part.floats, x.float_count) == 0 {
-        return false;
-    }
-    true
+    !x.floats(part).is_empty()
 }

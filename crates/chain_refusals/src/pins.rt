@@ -3,7 +3,7 @@
 ghost use Rattle.std.specs.Prelude.{◌≡◌, cond, map, ◌+◌, ltb};
 ghost use Rattle.chain_rules.specs.chain.Lists.{all_of, is_empty};
 ghost use Rattle.chain_rules.specs.chain.Refusals.{pin_too_far};
-ghost use Rattle.drawn_chain.specs.drawable.Drawn.{groups_in, rings_in, group_pin, drawn_of, Says, DrawsSome};
+ghost use Rattle.drawn_chain.specs.drawable.Drawn.{group_pin, drawn_of, Says, DrawsSome};
 ghost use Rattle.chain_refusals.specs.pins.Pins.{ring_pin, pins_in};
 
 use chain_record::{Mod, Ring};
@@ -13,55 +13,28 @@ use drawn_chain::{Lists, Shape};
 fn pin_bound(first: u16, acyl: bool) -> u32
     ensures { result ≡ cond acyl 3 (first + 1) }
 {
-    if acyl {
-        return 3;
-    }
-    first as u32 + 1
+    if acyl { 3 } else { u32::from(first) + 1 }
 }
 
 // Whether there is no group and no ring to pin.
-fn no_pins<'a>(groups: &'a [Mod], group_count: usize, rings: &'a [Ring], ring_count: usize) -> bool
-    ensures { result ≡ is_empty (pins_in (groups_in group_count groups.now) (rings_in ring_count rings.now)) }
+fn no_pins<'a>(groups: &'a [Mod], rings: &'a [Ring]) -> bool
+    ensures { result ≡ is_empty (pins_in groups.now rings.now) }
 {
-    if drawn_chain::groups_len(groups, group_count) > 0 {
-        return false;
-    }
-    if drawn_chain::rings_len(rings, ring_count) > 0 {
-        return false;
-    }
-    true
+    groups.is_empty() && rings.is_empty()
 }
 
 // Whether every group is past a carbon.
-fn groups_past(groups: &[Mod], count: usize, bound: u32) -> bool
-    ensures { result ≡ all_of (ltb bound) (map group_pin (groups_in count groups.now)) }
+fn groups_past(groups: &[Mod], bound: u32) -> bool
+    ensures { result ≡ all_of (ltb bound) (map group_pin groups.now) }
 {
-    let n = drawn_chain::groups_len(groups, count);
-    let mut i = 0;
-    while i < n {
-        let group = drawn_chain::nth_group(groups, count, i);
-        if group.pos <= bound {
-            return false;
-        }
-        i += 1;
-    }
-    true
+    groups.iter().all(|group| bound < group.pos)
 }
 
 // Whether every ring starts past a carbon.
-fn rings_past(rings: &[Ring], count: usize, bound: u32) -> bool
-    ensures { result ≡ all_of (ltb bound) (map ring_pin (rings_in count rings.now)) }
+fn rings_past(rings: &[Ring], bound: u32) -> bool
+    ensures { result ≡ all_of (ltb bound) (map ring_pin rings.now) }
 {
-    let n = drawn_chain::rings_len(rings, count);
-    let mut i = 0;
-    while i < n {
-        let ring = drawn_chain::nth_ring(rings, count, i);
-        if ring.start as u32 <= bound {
-            return false;
-        }
-        i += 1;
-    }
-    true
+    rings.iter().all(|ring| bound < u32::from(ring.start))
 }
 
 // 13: unlocated bonds, and a first pin too far.
@@ -72,14 +45,14 @@ pub fn pin_too_far(x: Shape, part: &Lists) -> bool
     if x.unlocated == 0 {
         return false;
     }
-    let groups = &part.groups;
-    let rings = &part.rings;
-    if no_pins(groups, x.group_count, rings, x.ring_count) {
+    let groups = x.groups(part);
+    let rings = x.rings(part);
+    if no_pins(groups, rings) {
         return false;
     }
     let bound = pin_bound(x.first, x.acyl);
-    if groups_past(groups, x.group_count, bound) {
-        return rings_past(rings, x.ring_count, bound);
+    if groups_past(groups, bound) {
+        return rings_past(rings, bound);
     }
     false
 }

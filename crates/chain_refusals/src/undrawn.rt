@@ -1,57 +1,30 @@
-// What a chain in its place cannot be drawn for, 12 to 15: each answer is a number of 01, or 0. The tests stand in the order in which 01 asks
+// What a chain in its place cannot be drawn for, 12 to 15: each answer is a refusal, if one is due. The tests stand in the order in which 01 asks
 // them; that for 13 has a module of its own. What each answer is, is said by the definitions of `chain_rules::chain`.
 ghost use Rattle.std.specs.Prelude.{◌≡◌, cond};
+ghost use Rattle.chain_record.specs.refusal.Refusal.{number_due};
 ghost use Rattle.chain_rules.specs.chain.Lists.{any_of};
 ghost use Rattle.chain_rules.specs.chain.Refusals.{group_on_carbonyl, tail_too_short, no_site, draw_refusal};
-ghost use Rattle.drawn_chain.specs.drawable.Drawn.{groups_in, group_at, drawn_of, Says, DrawsSome};
+ghost use Rattle.drawn_chain.specs.drawable.Drawn.{group_at, drawn_of, Says, DrawsSome};
 
 use super::pins;
-use chain_record::Mod;
+use chain_record::{Mod, Refusal};
 use drawn_chain::{Lists, Shape};
 
-// A located group at C1 of an acyl chain.
-pub const GROUP_ON_CARBONYL: u16 = 12;
-// Unlocated bonds, and a first pin too far.
-pub const PIN_TOO_FAR: u16 = 13;
-// A flexible tail too short for its double bonds.
-pub const TAIL_TOO_SHORT: u16 = 14;
-// An unlocated group with no site.
-pub const NO_SITE: u16 = 15;
-
-// Whether a group sits on C1.
-fn on_first(group: Mod) -> bool
-    ensures { result ≡ group_at 1 group }
-{
-    group.pos == 1
-}
-
 // Whether some group sits on C1.
-fn any_on_first(groups: &[Mod], count: usize) -> bool
-    ensures { result ≡ any_of (group_at 1) (groups_in count groups.now) }
+fn any_on_first(groups: &[Mod]) -> bool
+    ensures { result ≡ any_of (group_at 1) groups.now }
 {
-    let n = drawn_chain::groups_len(groups, count);
-    let mut i = 0;
-    while i < n {
-        let group = drawn_chain::nth_group(groups, count, i);
-        if on_first(group) {
-            return true;
-        }
-        i += 1;
-    }
-    false
+    groups.iter().any(|group| group.pos == 1)
 }
 
-// 12: a located group at C1 of an acyl chain. Most chains have no group.
+// 12: a located group at C1 of an acyl chain.
 fn group_on_carbonyl(x: Shape, part: &Lists) -> bool
     ensures { Says (drawn_of x part.now) result group_on_carbonyl }
 {
-    if !x.acyl {
-        return false;
+    if x.acyl {
+        return any_on_first(x.groups(part));
     }
-    if x.group_count == 0 {
-        return false;
-    }
-    any_on_first(&part.groups, x.group_count)
+    false
 }
 
 // 14: a flexible tail too short for its double bonds.
@@ -59,11 +32,11 @@ fn tail_too_short(x: Shape, part: &Lists) -> bool
     requires { DrawsSome (drawn_of x part.now) }
     ensures { Says (drawn_of x part.now) result tail_too_short }
 {
-    let unlocated = x.unlocated as u32;
+    let unlocated = u32::from(x.unlocated);
     if unlocated == 0 {
         return false;
     }
-    let rest = drawn_chain::remaining(x, part) as u32;
+    let rest = u32::from(drawn_chain::remaining(x, part));
     rest < 2 * unlocated + 2
 }
 
@@ -71,10 +44,7 @@ fn tail_too_short(x: Shape, part: &Lists) -> bool
 fn site_skip(acyl: bool) -> u32
     ensures { result ≡ cond acyl 1 0 }
 {
-    if acyl {
-        return 1;
-    }
-    0
+    u32::from(acyl)
 }
 
 // 15: an unlocated group with no site.
@@ -82,7 +52,7 @@ fn no_site(x: Shape, part: &Lists) -> bool
     requires { DrawsSome (drawn_of x part.now) }
     ensures { Says (drawn_of x part.now) result no_site }
 {
-    if drawn_chain::groups_len(&part.floats, x.float_count) == 0 {
+    if x.floats(part).is_empty() {
         return false;
     }
     let skip = site_skip(x.acyl);
@@ -90,22 +60,22 @@ fn no_site(x: Shape, part: &Lists) -> bool
     count <= skip
 }
 
-// 12 to 15, in order; 0 where none is due.
-pub fn draw_refusal(x: Shape, part: &Lists) -> u16
+// 12 to 15, in order; none where none is due.
+pub fn draw_refusal(x: Shape, part: &Lists) -> Option<Refusal>
     requires { DrawsSome (drawn_of x part.now) }
-    ensures { Says (drawn_of x part.now) result draw_refusal }
+    ensures { Says (drawn_of x part.now) (number_due result) draw_refusal }
 {
     if group_on_carbonyl(x, part) {
-        return GROUP_ON_CARBONYL;
+        return Some(Refusal::GroupOnCarbonyl);
     }
     if pins::pin_too_far(x, part) {
-        return PIN_TOO_FAR;
+        return Some(Refusal::PinTooFar);
     }
     if tail_too_short(x, part) {
-        return TAIL_TOO_SHORT;
+        return Some(Refusal::TailTooShort);
     }
     if no_site(x, part) {
-        return NO_SITE;
+        return Some(Refusal::NoSite);
     }
-    0
+    None
 }

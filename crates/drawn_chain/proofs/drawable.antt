@@ -1,4 +1,5 @@
 pub mod Held
 pub mod Through
+pub mod Turns
 pub mod Lists
 pub mod Parts

@@ -45,7 +45,7 @@ pub struct Shape {
 }
 
 // The elements of a slice that a count counts.
-fn counted<T>(xs: &[T], count: usize) -> &[T]
+pub(super) fn counted<T>(xs: &[T], count: usize) -> &[T]
     ensures { result.now ≡ take count xs.now }
 {
     let n = xs.len().min(count);

@@ -44,10 +44,8 @@ fn double_bonds(added: usize, written: &[DbPos], n: usize, bonds: &mut [DbPos; B
     };
     bonds[added] = written[0];
     bonds[added + 1] = written[1];
-    let mut i = 2;
-    while i < n {
+    for i in 2..n {
         bonds[added + i] = written[i];
-        i += 1;
     }
 }
 
@@ -108,34 +106,18 @@ fn push_group(groups: &mut [Mod; GROUP_ROOM], count: usize, group: Mod) -> usize
     count
 }
 
-// Whether a group sits on the carbon p.
-fn sits_at(group: Mod, p: u32) -> bool
-    ensures { result ≡ group_at p group }
-{
-    group.pos == p
-}
-
 // Whether some group sits at p.
-fn group_at(groups: &[Mod], count: usize, p: u32) -> bool
-    ensures { result ≡ any_of (group_at p) (groups_in count groups.now) }
+fn group_at(groups: &[Mod], p: u32) -> bool
+    ensures { result ≡ any_of (group_at p) groups.now }
 {
-    let n = drawable::groups_len(groups, count);
-    let mut i = 0;
-    while i < n {
-        let group = drawable::nth_group(groups, count, i);
-        if sits_at(group, p) {
-            return true;
-        }
-        i += 1;
-    }
-    false
+    groups.iter().any(|group| group.pos == p)
 }
 
 // An O at p more, unless one of the first groups, those of the token, sits there.
 fn oxygen_at(groups: &mut [Mod; GROUP_ROOM], count: usize, written: usize, p: u32) -> usize
     ensures { More (oxygen_at p (groups_in written groups.old)) count groups.old result groups.new }
 {
-    if group_at(groups, written, p) {
+    if group_at(drawable::counted(groups, written), p) {
         return count;
     }
     push_group(

@@ -2,55 +2,42 @@
 ghost use Rattle.std.specs.Prelude.{◌≡◌, map, max};
 ghost use Rattle.chain_rules.specs.chain.Lists.{largest};
 ghost use Rattle.chain_rules.specs.chain.Features.{prefix_end, literal_end, remaining, drawn_count};
-ghost use Rattle.drawn_chain.specs.drawable.Drawn.{bonds_in, groups_in, rings_in, group_pin, drawn_of, Says, SaysUpTo, DrawsSome};
+ghost use Rattle.drawn_chain.specs.drawable.Drawn.{group_pin, drawn_of, Says, SaysUpTo, DrawsSome};
 ghost use Rattle.drawn_chain.specs.reach.Reach.{bond_reach, ring_reach, Flexible};
 
-use super::drawable;
 use super::drawable::Shape;
 use super::rooms::Lists;
 use chain_record::{DbPos, Mod, Ring};
 
 // The largest of m and the carbons at which the double bonds end.
-fn bonds_reach(bonds: &[DbPos], count: usize, m: u64) -> u64
-    ensures { result ≡ largest m (map bond_reach (bonds_in count bonds.now)) }
+fn bonds_reach(bonds: &[DbPos], m: u64) -> u64
+    ensures { result ≡ largest m (map bond_reach bonds.now) }
 {
-    let n = drawable::bonds_len(bonds, count);
     let mut reach = m;
-    let mut i = 0;
-    while i < n {
-        let bond = drawable::nth_bond(bonds, count, i);
+    for bond in bonds {
         reach = reach.max(bond.pos as u64 + 1);
-        i += 1;
     }
     reach
 }
 
 // The largest of m and the positions of the groups.
-fn groups_reach(groups: &[Mod], count: usize, m: u64) -> u64
-    ensures { result ≡ largest m (map group_pin (groups_in count groups.now)) }
+fn groups_reach(groups: &[Mod], m: u64) -> u64
+    ensures { result ≡ largest m (map group_pin groups.now) }
 {
-    let n = drawable::groups_len(groups, count);
     let mut reach = m;
-    let mut i = 0;
-    while i < n {
-        let group = drawable::nth_group(groups, count, i);
+    for group in groups {
         reach = reach.max(group.pos as u64);
-        i += 1;
     }
     reach
 }
 
 // The largest of m and the ends of the rings.
-fn rings_reach(rings: &[Ring], count: usize, m: u64) -> u64
-    ensures { result ≡ largest m (map ring_reach (rings_in count rings.now)) }
+fn rings_reach(rings: &[Ring], m: u64) -> u64
+    ensures { result ≡ largest m (map ring_reach rings.now) }
 {
-    let n = drawable::rings_len(rings, count);
     let mut reach = m;
-    let mut i = 0;
-    while i < n {
-        let ring = drawable::nth_ring(rings, count, i);
+    for ring in rings {
         reach = reach.max(ring.end as u64);
-        i += 1;
     }
     reach
 }
@@ -61,9 +48,9 @@ fn prefix_end(x: Shape, part: &Lists) -> u16
 {
     let first = x.first as u64;
     let carbon = x.carbon;
-    let bonds = bonds_reach(&part.bonds, x.bond_count, first);
-    let groups = groups_reach(&part.groups, x.group_count, bonds);
-    let reach = rings_reach(&part.rings, x.ring_count, groups);
+    let bonds = bonds_reach(x.bonds(part), first);
+    let groups = groups_reach(x.groups(part), bonds);
+    let reach = rings_reach(x.rings(part), groups);
     if reach < carbon as u64 {
         return reach as u16;
     }

@@ -2,7 +2,7 @@
 -- and a first pin too far; 14 flexible tail too short; 15 unlocated group with no site"; "20 class unknown; 21 wrong number of tokens; 22 wrong
 -- kind of chain for its place; 23 tail outside the grammar"; "31 token over 255 bytes, .."; "32 feature off the drawn chain; 33 two features
 -- that clash"; "41 line or index slice shorter than needed". Assumes nothing.
-use Rattle.std.specs.Prelude.{ℕ}
+use Rattle.std.specs.Prelude.{ℕ, Option, None, Some}
 use Rattle.chain_record.specs.declared.refusal.Refusal.{Refusal}
 use Rattle.chain_record.specs.declared.refusal.Refusal.TheVariants.{Unreadable, GroupOnCarbonyl, PinTooFar, TailTooShort, NoSite, UnknownClass, WrongCount, WrongKind, WrongTail, OverLimit, OffChain, Clash, ShortSlice}
 
@@ -21,3 +21,8 @@ number_of OverLimit = 31
 number_of OffChain = 32
 number_of Clash = 33
 number_of ShortSlice = 41
+
+-- the number of a refusal that may be due: 0 where none is
+abbrev pub number_due : Option Refusal → ℕ
+number_due None = 0
+number_due (Some r) = number_of r

@@ -5,7 +5,6 @@ use mathlib.Core.Path.{◌≡◌, sym, ◌∙◌}
 use mathlib.Core.Bool.{Bool, true, false, ◌||◌}
 use mathlib.Core.List.{List}
 use lib.Dec.{ltb}
-use lib.ListN.{drop}
 use borrow.Author.Tests.{eq-eqb, ne_eqb}
 use Rattle.chain_record.specs.declared.plain.Bridge.TheVariants.{Epoxide, Carbocycle}
 use Rattle.chain_record.specs.declared.plain.DbPos.{DbPos}
@@ -28,25 +27,12 @@ pub small-carbocycle : (x : Ring) → x.bridge ≡ Carbocycle → ltb x.end (x.s
 unfolding small_ring
 small-carbocycle x e = rw e
 
-module _ (x y : Ring) where
-  pub ring-start : (x.start ≡ y.start → ⊥) → false ≡ same_ring x y
-  unfolding same_ring
-  ring-start h = rw (ne_eqb x.start y.start h)
-
-  pub ring-end : x.start ≡ y.start → (x.end ≡ y.end → ⊥) → false ≡ same_ring x y
-  unfolding same_ring
-  ring-end e h = rw (eq-eqb x.start y.start e, ne_eqb x.end y.end h)
-
-  pub ring-both : x.start ≡ y.start → x.end ≡ y.end → true ≡ same_ring x y
-  unfolding same_ring
-  ring-both e h = rw (eq-eqb x.start y.start e, eq-eqb x.end y.end h)
-
 -- a double bond's own place
 pub same-bond-at : (a : DbPos) (l : List DbPos) (t : Bool) → t ≡ any_of (bond_at a.pos) l → t ≡ any_of (same_bond a) l
 unfolding same_bond
 same-bond-at a l t e = e ∙ any_same (bond_at a.pos) (same_bond a) l (λ b. eqb_swap b.pos a.pos)
 
-pub on-epoxide : (x : Ring) (l : List DbPos) (t : Bool) → x.bridge ≡ Epoxide → t ≡ any_of (bond_at x.start) (drop 0 l) → t ≡ epoxide_on l x
+pub on-epoxide : (x : Ring) (l : List DbPos) (t : Bool) → x.bridge ≡ Epoxide → t ≡ any_of (bond_at x.start) l → t ≡ epoxide_on l x
 unfolding epoxide_on
 on-epoxide x l t e f = rw e f
 
@@ -64,26 +50,26 @@ module _ (x : Drawn) where
   unfolding clashes
   clashes-as r d w = rw (w.bonds, w.rings)
 
-  module _ (t₁ : Bool) (e₁ : t₁ ≡ any_two same_bond (bonds_drawn x)) where
+  module _ {bs : List DbPos} (p : bs ≡ bonds_drawn x) (t₁ : Bool) (e₁ : t₁ ≡ any_two same_bond bs) where
     as₁ : any_two same_bond (bonds_drawn x) ≡ t₁
-    as₁ = sym e₁
+    as₁ = sym (rw p at e₁)
 
     pub clash-bonds : t₁ ≡ true → Says x true clashes
     clash-bonds f₁ = record { is = λ r d w. sym (clashes-as r d w ∙ rw (as₁ ∙ f₁)) }
 
-    module _ (f₁ : t₁ ≡ false) (t₂ : Bool) (e₂ : t₂ ≡ any_of (epoxide_on (bonds_drawn x)) (rings_drawn x)) where
+    module _ (f₁ : t₁ ≡ false) {rs : List Ring} (q : rs ≡ rings_drawn x) (t₂ : Bool) (e₂ : t₂ ≡ any_of (epoxide_on bs) rs) where
       as₂ : any_of (epoxide_on (bonds_drawn x)) (rings_drawn x) ≡ t₂
-      as₂ = sym e₂
+      as₂ = sym (rw (p, q) at e₂)
 
       pub clash-epoxide : t₂ ≡ true → Says x true clashes
       clash-epoxide f₂ = record { is = λ r d w. sym (clashes-as r d w ∙ rw (as₁ ∙ f₁, as₂ ∙ f₂)) }
 
-      module _ (f₂ : t₂ ≡ false) (t₃ : Bool) (e₃ : t₃ ≡ any_of small_ring (rings_drawn x)) where
+      module _ (f₂ : t₂ ≡ false) (t₃ : Bool) (e₃ : t₃ ≡ any_of small_ring rs) where
         as₃ : any_of small_ring (rings_drawn x) ≡ t₃
-        as₃ = sym e₃
+        as₃ = sym (rw q at e₃)
 
         pub clash-small : t₃ ≡ true → Says x true clashes
         clash-small f₃ = record { is = λ r d w. sym (clashes-as r d w ∙ rw (as₁ ∙ f₁, as₂ ∙ f₂, as₃ ∙ f₃)) }
 
-        pub clash-rings : (t₄ : Bool) → t₃ ≡ false → t₄ ≡ any_two same_ring (rings_drawn x) → Says x t₄ clashes
-        clash-rings t₄ f₃ e₄ = record { is = λ r d w. sym (clashes-as r d w ∙ rw (as₁ ∙ f₁, as₂ ∙ f₂, as₃ ∙ f₃) (sym e₄)) }
+        pub clash-rings : (t₄ : Bool) → t₃ ≡ false → t₄ ≡ any_two same_ring rs → Says x t₄ clashes
+        clash-rings t₄ f₃ e₄ = record { is = λ r d w. sym (clashes-as r d w ∙ rw (as₁ ∙ f₁, as₂ ∙ f₂, as₃ ∙ f₃) (sym (rw q at e₄))) }

@@ -18,51 +18,6 @@ use Rattle.chain_rules.specs.chain.Features.{located, unlocated, base_oxygens, g
 use Rattle.chain_rules.specs.chain.Refusals.{double_off, group_off, ring_off, off_chain}
 use Rattle.drawn_chain.specs.drawable.Drawn.{Drawn, bonds_drawn, groups_drawn, floats_drawn, rings_drawn, Length, Draws, Says}
 
--- ---- one feature
-
-module _ (b : DbPos) (f c : ℕ) where
-  pub bond-below : b.pos < f → true ≡ double_off f c b
-  unfolding double_off
-  bond-below h = rw (lt-leb f b.pos h)
-
-  pub bond-above : f ≤ b.pos → c ≤ b.pos → true ≡ double_off f c b
-  unfolding double_off
-  bond-above h g = rw (le-leb f b.pos h, le-ltb b.pos c g)
-
-  pub bond-on : f ≤ b.pos → b.pos < c → false ≡ double_off f c b
-  unfolding double_off
-  bond-on h g = rw (le-leb f b.pos h, lt-ltb b.pos c g)
-
-module _ (g : Mod) (f c : ℕ) where
-  pub group-below : g.pos < f → true ≡ group_off f c g
-  unfolding group_off
-  group-below h = rw (lt-leb f g.pos h)
-
-  pub group-above : f ≤ g.pos → c + 1 ≤ g.pos → true ≡ group_off f c g
-  unfolding group_off
-  group-above h k = rw (le-leb f g.pos h, lt-leb g.pos c (omega arith))
-
-  pub group-on : f ≤ g.pos → g.pos < c + 1 → false ≡ group_off f c g
-  unfolding group_off
-  group-on h k = rw (le-leb f g.pos h, le-leb g.pos c (omega arith))
-
-module _ (x : Ring) (f : ℕ) (a : Bool) where
-  pub ring-below : x.start < f → true ≡ ring_off f a x
-  unfolding ring_off
-  ring-below h = rw (lt-ltb x.start f h)
-
-  pub ring-plain : f ≤ x.start → not a ≡ true → false ≡ ring_off f a x
-  unfolding ring_off
-  ring-plain h k = rw (le-ltb x.start f h, not-true a k)
-
-  pub ring-carbonyl : f ≤ x.start → not a ≡ false → x.start ≡ 1 → true ≡ ring_off f a x
-  unfolding ring_off
-  ring-carbonyl h k e = rw (le-ltb x.start f h, not-false a k, eq-eqb x.start 1 e)
-
-  pub ring-on : f ≤ x.start → not a ≡ false → (x.start ≡ 1 → ⊥) → false ≡ ring_off f a x
-  unfolding ring_off
-  ring-on h k e = rw (le-ltb x.start f h, not-false a k, ne_eqb x.start 1 e)
-
 -- ---- the whole chain
 
 none : {n : ℕ} → n ≤ 0 → n ≡ 0
@@ -100,23 +55,23 @@ module _ (x : Drawn) where
   unfolding off_chain
   off-as r d w = rw (w.first, w.carbon, w.acyl, w.ether, w.bonds, w.groups, w.rings)
 
-  module _ (t₁ : Bool) (e₁ : t₁ ≡ any_of (double_off x.first x.carbon) (bonds_drawn x)) where
+  module _ {bs : List DbPos} (s₁ : bs ≡ bonds_drawn x) (t₁ : Bool) (e₁ : t₁ ≡ any_of (double_off x.first x.carbon) bs) where
     as₁ : any_of (double_off x.first x.carbon) (bonds_drawn x) ≡ t₁
-    as₁ = sym e₁
+    as₁ = sym (rw s₁ at e₁)
 
     pub off-bond : t₁ ≡ true → Says x true off_chain
     off-bond f₁ = record { is = λ r d w. sym (off-as r d w ∙ rw (as₁ ∙ f₁)) }
 
-    module _ (f₁ : t₁ ≡ false) (t₂ : Bool) (e₂ : t₂ ≡ any_of (group_off x.first x.carbon) (groups_drawn x)) where
+    module _ (f₁ : t₁ ≡ false) {gs : List Mod} (s₂ : gs ≡ groups_drawn x) (t₂ : Bool) (e₂ : t₂ ≡ any_of (group_off x.first x.carbon) gs) where
       as₂ : any_of (group_off x.first x.carbon) (groups_drawn x) ≡ t₂
-      as₂ = sym e₂
+      as₂ = sym (rw s₂ at e₂)
 
       pub off-group : t₂ ≡ true → Says x true off_chain
       off-group f₂ = record { is = λ r d w. sym (off-as r d w ∙ rw (as₁ ∙ f₁, as₂ ∙ f₂)) }
 
-      module _ (f₂ : t₂ ≡ false) (t₃ : Bool) (e₃ : t₃ ≡ any_of (ring_off x.first x.acyl) (rings_drawn x)) where
+      module _ (f₂ : t₂ ≡ false) {rs : List Ring} (s₃ : rs ≡ rings_drawn x) (t₃ : Bool) (e₃ : t₃ ≡ any_of (ring_off x.first x.acyl) rs) where
         as₃ : any_of (ring_off x.first x.acyl) (rings_drawn x) ≡ t₃
-        as₃ = sym e₃
+        as₃ = sym (rw s₃ at e₃)
 
         pub off-ring : t₃ ≡ true → Says x true off_chain
         off-ring f₃ = record { is = λ r d w. sym (off-as r d w ∙ rw (as₁ ∙ f₁, as₂ ∙ f₂, as₃ ∙ f₃)) }
@@ -135,15 +90,11 @@ module _ (x : Drawn) where
                 off-as r d w
                 ∙ rw (as₁ ∙ f₁, as₂ ∙ f₂, as₃ ∙ f₃, f₄, eq-eqb x.carbon 0 (omega arith)) (or-false (not (is_empty d.groups)))
 
-            module _ (h : x.carbon ≤ 0) (room n : ℕ) (l : Length room (floats_drawn x) n) where
-              as₄ : length (floats_drawn x) ≡ n
-              as₄ = sym l.is
+            pub on-nothing : x.carbon ≤ 0 → length (floats_drawn x) ≡ 0 → Says x false off_chain
+            unfolding groups_on floating
+            on-nothing h z =
+                record { is = λ r d w. sym (off-last h r d w ∙ rw (none-float x.first d.groups (base_oxygens r d.prefix (located d.groups)) (sym (ap length w.floats) ∙ z) (rw (w.groups, none h) at (as₂ ∙ f₂)))) }
 
-              pub on-nothing : n ≡ 0 → Says x false off_chain
-              unfolding groups_on floating
-              on-nothing z =
-                  record { is = λ r d w. sym (off-last h r d w ∙ rw (none-float x.first d.groups (base_oxygens r d.prefix (located d.groups)) (sym (ap length w.floats) ∙ as₄ ∙ z) (rw (w.groups, none h) at (as₂ ∙ f₂)))) }
-
-              pub off-float : (n ≡ 0 → ⊥) → Says x true off_chain
-              unfolding floating
-              off-float z = record { is = λ r d w. sym (off-last h r d w ∙ rw (some-float d.groups (λ e. z (sym as₄ ∙ ap length w.floats ∙ e)))) }
+            pub off-float : x.carbon ≤ 0 → (length (floats_drawn x) ≡ 0 → ⊥) → Says x true off_chain
+            unfolding floating
+            off-float h z = record { is = λ r d w. sym (off-last h r d w ∙ rw (some-float d.groups (λ e. z (ap length w.floats ∙ e)))) }

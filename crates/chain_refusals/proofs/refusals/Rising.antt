@@ -21,21 +21,14 @@ use Rattle.chain_rules.specs.declared.chain.Role.TheVariants.{Slot, Acyl, Base}
 use Rattle.chain_rules.specs.chain.Lists.{any_of, any_two, is_empty}
 use Rattle.chain_rules.specs.chain.Features.{first_drawn, is_acyl}
 use Rattle.chain_rules.specs.chain.Refusals.{is_epoxide, double_off, group_off, ring_off, off_chain, same_bond, epoxide_on, small_ring, same_ring, clashes, place_refusal}
-use Rattle.drawn_chain.specs.drawable.Drawn.{Drawn, no_bond, no_group, no_ring, bonds_drawn, groups_drawn, rings_drawn, Draws, Says}
+use Rattle.drawn_chain.specs.drawable.Drawn.{Drawn, no_bond, no_ring, bonds_drawn, groups_drawn, rings_drawn, Draws, Says}
+use Rattle.drawn_chain.proofs.drawable.Turns.{left_here, left-none}
 use Rattle.chain_refusals.proofs.offchain.Off.{off-as}
 use Rattle.chain_refusals.proofs.clash.Clashes.{clashes-as}
 use Rattle.chain_refusals.specs.refusals.Rising.{Only, bonds_rise, ring_past, rings_rise}
 
 pub only-false : (u : Bool) → Only false u
 only-false u = record { told = λ e. absurd (false≢true e) }
-
--- ---- what stands at a place of a list
-
-left_here : {A : Type 0} (l : List A) (i : ℕ) (d : A) → i < length l → drop i l ≡ get_or l i d ∷ drop (i + 1) l
-left_here l i d h = rw (add-one i) (drop-cons l i d h)
-
-left-none : {A : Type 0} (l : List A) (i : ℕ) → length l ≤ i → drop i l ≡ []
-left-none l i h = drop_of_length-le l {i = i} h
 
 -- ---- the double bonds; what was asked is v
 
@@ -45,24 +38,11 @@ rise-first c m k l e = rw e
 module _ (v : Bool) (l : List DbPos) (i c m : ℕ) (same : v ≡ bonds_rise c m (drop i l)) where
   pub rise-next : (b : DbPos) → i < length l → b ≡ get_or l i no_bond → m < b.pos → v ≡ bonds_rise c b.pos (drop (i + 1) l)
   unfolding bonds_rise
-  rise-next b h e g = same ∙ rw (left_here l i no_bond h, ← e, lt-ltb m b.pos g)
+  rise-next b h e g = same ∙ rw (left_here l i no_bond b h e, lt-ltb m b.pos g)
 
   pub rise-end : length l ≤ i → Only (ltb m c) v
   unfolding bonds_rise
   rise-end h = record { told = λ e. same ∙ rw (left-none l i h) e }
-
--- ---- the groups
-
-module _ (l : List Mod) (i f c : ℕ) (same : any_of (group_off f c) l ≡ any_of (group_off f c) (drop i l)) where
-  pub sit-next : (g : Mod) → i < length l → g ≡ get_or l i no_group → f ≤ g.pos → g.pos ≤ c → any_of (group_off f c) l ≡ any_of (group_off f c) (drop (i + 1) l)
-  unfolding any_of group_off
-  sit-next g h e p q = same ∙ rw (left_here l i no_group h, ← e, le-leb f g.pos p, le-leb g.pos c q)
-
-  pub sit-end : length l ≤ i → Only true (not (any_of (group_off f c) l))
-  unfolding any_of
-  sit-end h =
-      let none : any_of (group_off f c) l ≡ false = same ∙ rw (left-none l i h) in
-      record { told = λ e. ap not none }
 
 -- ---- the rings; what was asked is v
 
@@ -82,7 +62,7 @@ module _ (x : Ring) (m : ℕ) where
 module _ (v : Bool) (l : List Ring) (i m : ℕ) (same : v ≡ rings_rise m (drop i l)) where
   pub rings-next : (x : Ring) (t : Bool) → i < length l → x ≡ get_or l i no_ring → t ≡ ring_past m x → not t ≡ false → v ≡ rings_rise (x.start + 1) (drop (i + 1) l)
   unfolding rings_rise
-  rings-next x t h e p q = same ∙ rw (left_here l i no_ring h, ← e, ← p, not-false t q)
+  rings-next x t h e p q = same ∙ rw (left_here l i no_ring x h e, ← p, not-false t q)
 
   pub rings-end : length l ≤ i → Only true v
   unfolding rings_rise
@@ -225,13 +205,13 @@ module _ (x : Drawn) where
   past-carbonyl t e = rw e (omega arith)
 
   pub place-rises : (t₁ t₂ t₃ : Bool) (m : ℕ) {bs : List DbPos} {gs : List Mod} {rs : List Ring} → bs ≡ bonds_drawn x → gs ≡ groups_drawn x → rs ≡ rings_drawn x → x.ether_base ≡ false
-      → Only t₁ (bonds_rise x.carbon (x.first - 1) bs) → not t₁ ≡ false → Only t₂ (not (any_of (group_off x.first x.carbon) gs)) → not t₂ ≡ false → m ≡ cond x.acyl 2 x.first
+      → Only t₁ (bonds_rise x.carbon (x.first - 1) bs) → not t₁ ≡ false → t₂ ≡ any_of (group_off x.first x.carbon) gs → t₂ ≡ false → m ≡ cond x.acyl 2 x.first
       → Only t₃ (rings_rise m rs) → t₃ ≡ true
       → Says x 0 place_refusal
   unfolding place_refusal
   place-rises t₁ t₂ t₃ m p q s h o₁ f₁ o₂ f₂ z o₃ f₃ =
       let bonds : bonds_rise x.carbon (x.first - 1) (bonds_drawn x) ≡ true = (rw p at o₁).told (not-false t₁ f₁) in
-      let groups : any_of (group_off x.first x.carbon) (groups_drawn x) ≡ false = not-true _ ((rw q at o₂).told (not-false t₂ f₂)) in
+      let groups : any_of (group_off x.first x.carbon) (groups_drawn x) ≡ false = sym (rw q at o₂) ∙ f₂ in
       let rings : rings_rise m (rings_drawn x) ≡ true = (rw s at o₃).told f₃ in
       let some : 0 < x.carbon = omega (arith, rise-before x.carbon (x.first - 1) (bonds_drawn x) bonds) in
       record {

@@ -210,14 +210,14 @@ module _ (xs : List Mod) (n : ℕ) (s : length xs ≡ 18) where
   groups-fit : length (groups_in n xs) ≤ 18
   groups-fit = omega (arith, length-take n xs)
 
-  pub oxygen-none : (w : ℕ) (p : ℕ) (t : Bool) → t ≡ any_of (group_at p) (groups_in w xs) → t ≡ true → More (oxygen_at p (groups_in w xs)) n xs n xs
+  pub oxygen-none : (w : ℕ) (p : ℕ) (t : Bool) {ts : List Mod} → ts ≡ groups_in w xs → t ≡ any_of (group_at p) ts → t ≡ true → More (oxygen_at p (groups_in w xs)) n xs n xs
   unfolding oxygen_at
-  oxygen-none w p t e f = record { groups = rw (sym e ∙ f, append-nil (groups_in n xs)) (sym (take_all 18 (groups_in n xs) groups-fit)); kept = refl }
+  oxygen-none w p t s e f = record { groups = rw (sym (rw s at e) ∙ f, append-nil (groups_in n xs)) (sym (take_all 18 (groups_in n xs) groups-fit)); kept = refl }
 
-  pub oxygen-one : (w m : ℕ) (ys : List Mod) (p : ℕ) (t : Bool) → t ≡ any_of (group_at p) (groups_in w xs) → t ≡ false → More (record { pos = p; row = 11 } ∷ []) n xs m ys
+  pub oxygen-one : (w m : ℕ) (ys : List Mod) (p : ℕ) (t : Bool) {ts : List Mod} → ts ≡ groups_in w xs → t ≡ any_of (group_at p) ts → t ≡ false → More (record { pos = p; row = 11 } ∷ []) n xs m ys
       → More (oxygen_at p (groups_in w xs)) n xs m ys
   unfolding oxygen_at
-  oxygen-one w m ys p t e f h = rw (sym e ∙ f) h
+  oxygen-one w m ys p t s e f h = rw (sym (rw s at e) ∙ f) h
 
 -- ---- the groups on the chain
 

@@ -3,8 +3,11 @@
 use Prim.Native.Nat.{ℕ, suc, ◌+◌, ◌-◌, ◌*◌, ◌<◌, ◌≤◌, min}
 use native.Mathlib.Omega.{arith}
 use mathlib.Core.Path.{◌≡◌, refl, sym, ◌∙◌}
-use mathlib.Core.List.{◌++◌, map}
+use mathlib.Core.List.{List, ◌++◌, map}
 use borrow.Author.Tests.{eq-eqb, ne_eqb}
+use Rattle.chain_record.specs.declared.plain.DbPos.{DbPos}
+use Rattle.chain_record.specs.declared.plain.Mod.{Mod}
+use Rattle.chain_record.specs.declared.plain.Ring.{Ring}
 use Rattle.chain_record.specs.plain.Chain.{Chain}
 use Rattle.chain_rules.specs.declared.chain.Role.{Role}
 use Rattle.chain_rules.specs.chain.Lists.{largest}
@@ -15,12 +18,12 @@ use Rattle.drawn_chain.proofs.drawable.Lists.{largest-append}
 
 -- ---- the literal prefix
 
-module _ (x : Drawn) (b g e : ℕ) (e₁ : b ≡ largest x.first (map bond_reach (bonds_drawn x))) (e₂ : g ≡ largest b (map group_pin (groups_drawn x)))
-    (e₃ : e ≡ largest g (map ring_reach (rings_drawn x))) where
+module _ (x : Drawn) (b g e : ℕ) {bs : List DbPos} {gs : List Mod} {rs : List Ring} (s₁ : bs ≡ bonds_drawn x) (s₂ : gs ≡ groups_drawn x) (s₃ : rs ≡ rings_drawn x)
+    (e₁ : b ≡ largest x.first (map bond_reach bs)) (e₂ : g ≡ largest b (map group_pin gs)) (e₃ : e ≡ largest g (map ring_reach rs)) where
   end-as : (r : Role) (d : Chain) → Draws r d x → prefix_end r d ≡ min e x.carbon
   unfolding prefix_end
   end-as r d w =
-      rw (← w.first, ← w.carbon, ← w.bonds, ← w.groups, ← w.rings, largest-append x.first (map bond_reach (bonds_drawn x)) (map group_pin (groups_drawn x) ++ map ring_reach (rings_drawn x)), largest-append (largest x.first (map bond_reach (bonds_drawn x))) (map group_pin (groups_drawn x)) (map ring_reach (rings_drawn x)), ← e₁, ← e₂, ← e₃)
+      rw (← w.first, ← w.carbon, ← w.bonds, ← w.groups, ← w.rings, largest-append x.first (map bond_reach (bonds_drawn x)) (map group_pin (groups_drawn x) ++ map ring_reach (rings_drawn x)), largest-append (largest x.first (map bond_reach (bonds_drawn x))) (map group_pin (groups_drawn x)) (map ring_reach (rings_drawn x)), ← s₁, ← s₂, ← s₃, ← e₁, ← e₂, ← e₃)
 
   pub prefix-inside : e < x.carbon → SaysUpTo x e prefix_end
   prefix-inside h = record { says = record { is = λ r d w. omega (arith, end-as r d w) }; fits = omega arith }

@@ -1,15 +1,11 @@
-use mathlib.Core.Path.{refl}
-use Rattle.drawn_chain.proofs.drawable.Through.{any_here, any_next, any_none}
+use Rattle.std.proofs.Common.{◌∙◌, rules, tests}
+use Rattle.std.proofs.lemmas.Iterator.{YieldsList-from_slice}
+use Rattle.std.proofs.lemmas.Iterator.Search.{any_from_yields_List}
+use Rattle.chain_rules.specs.chain.Refusals.{small_ring}
+use Rattle.drawn_chain.proofs.drawable.Turns.{any_is}
 use Rattle.chain_refusals.proofs.clash.any_small_ring.Goals as goal
 
-pub loop-i-init : goal.loop-i-init
-loop-i-init c = refl
-
-pub returns-then-small_ring : goal.returns-then-small_ring
-returns-then-small_ring c = search any_here
-
-pub loop-i-preserved : goal.loop-i-preserved
-loop-i-preserved c = search any_next
-
 pub returns : goal.returns
-returns c = search any_none
+returns c =
+    any_from_yields_List (small_ring) _ _ c.any.result c.any.ensures.ran (YieldsList-from_slice c.args.rings.now cc) (λ x b q k. search (rules, tests))
+    ∙ any_is (small_ring) c.args.rings.now

@@ -1,15 +1,11 @@
-use mathlib.Core.Path.{refl}
-use Rattle.drawn_chain.proofs.drawable.Through.{any_here, any_next, any_none}
+use Rattle.std.proofs.Common.{◌∙◌, rules, tests}
+use Rattle.std.proofs.lemmas.Iterator.{YieldsList-from_slice}
+use Rattle.std.proofs.lemmas.Iterator.Search.{any_from_yields_List}
+use Rattle.chain_rules.specs.chain.Refusals.{group_off}
+use Rattle.drawn_chain.proofs.drawable.Turns.{any_is}
 use Rattle.chain_refusals.proofs.offchain.any_group_off.Goals as goal
 
-pub loop-i-init : goal.loop-i-init
-loop-i-init c = refl
-
-pub returns-then-group_off : goal.returns-then-group_off
-returns-then-group_off c = search any_here
-
-pub loop-i-preserved : goal.loop-i-preserved
-loop-i-preserved c = search any_next
-
 pub returns : goal.returns
-returns c = search any_none
+returns c =
+    any_from_yields_List (group_off c.args.first c.args.carbon) _ _ c.any.result c.any.ensures.ran (YieldsList-from_slice c.args.groups.now cc) (λ x b q k. search (rules, tests))
+    ∙ any_is (group_off c.args.first c.args.carbon) c.args.groups.now

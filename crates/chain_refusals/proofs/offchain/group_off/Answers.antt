@@ -1,11 +1,8 @@
-use Rattle.chain_refusals.proofs.offchain.Off.{group-below, group-above, group-on}
+use Rattle.std.proofs.Common.{rules, arith}
+use Rattle.std.proofs.lemmas.Grind.{common_steps}
+use Rattle.chain_rules.specs.chain.Refusals.{group_off}
 use Rattle.chain_refusals.proofs.offchain.group_off.Goals as goal
 
-pub returns-then-p-first : goal.returns-then-p-first
-returns-then-p-first c = search group-below
-
-pub returns-then-past-p : goal.returns-then-past-p
-returns-then-past-p c = search group-above
-
 pub returns : goal.returns
-returns c = search group-on
+unfolding group_off
+returns c = grind (arith, common_steps)

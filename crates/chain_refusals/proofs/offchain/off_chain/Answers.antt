@@ -16,8 +16,5 @@ returns-then-ether_base c = search off-ether
 pub returns-then-carbon-gt0 : goal.returns-then-carbon-gt0
 returns-then-carbon-gt0 c = search on-carbons
 
-pub returns-then-groups_len-eq0 : goal.returns-then-groups_len-eq0
-returns-then-groups_len-eq0 c = search on-nothing
-
 pub returns : goal.returns
-returns c = search off-float
+returns c = ?

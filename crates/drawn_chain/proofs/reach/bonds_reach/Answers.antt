@@ -1,12 +1,12 @@
 use mathlib.Core.Path.{refl}
-use Rattle.drawn_chain.proofs.drawable.Through.{reach-next, reach-all}
+use Rattle.drawn_chain.proofs.drawable.Turns.{reach_next, reach_end}
 use Rattle.drawn_chain.proofs.reach.bonds_reach.Goals as goal
 
-pub loop-i-init : goal.loop-i-init
-loop-i-init c = refl
+pub loop-bond-init : goal.loop-bond-init
+loop-bond-init c = refl
 
-pub loop-i-preserved : goal.loop-i-preserved
-loop-i-preserved c = search reach-next
+pub loop-bond-preserved : goal.loop-bond-preserved
+loop-bond-preserved c = search reach_next
 
 pub returns : goal.returns
-returns c = search reach-all
+returns c = search reach_end

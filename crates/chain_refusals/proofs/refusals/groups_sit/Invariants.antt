@@ -1,8 +1,0 @@
-use mathlib.Core.Path.{◌≡◌}
-use lib.ListN.{drop}
-use Rattle.chain_rules.specs.chain.Lists.{any_of}
-use Rattle.chain_rules.specs.chain.Refusals.{group_off}
-use Rattle.chain_refusals.proofs.refusals.groups_sit.Given as goal
-
-abbrev pub invariant-loop-group : goal.invariant-loop-group
-invariant-loop-group l = any_of (group_off l.first l.carbon) l.groups ≡ any_of (group_off l.first l.carbon) (drop l.group-index l.groups)
