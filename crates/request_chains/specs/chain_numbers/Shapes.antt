@@ -2,6 +2,7 @@
 use Rattle.std.specs.Prelude.{ℕ, zero, suc, ◌+◌, ◌%◌, ◌≡◌, Bool, true, false, List, [], ◌∷◌, eqb, ltb, take, drop, get_or}
 use Rattle.std.proofs.lemmas.List.Edits.{sets}
 use Rattle.drawn_chain.specs.declared.drawable.Shape.{Shape}
+use Rattle.drawn_chain.specs.declared.rooms.Lists.{Lists}
 use Rattle.drawn_chain.specs.drawable.Chains.{Chains, items_of}
 use Rattle.request_chains.specs.declared.chain_numbers.Four.{Four}
 
@@ -51,6 +52,6 @@ pub record Standing (xs : List ℕ) (at : ℕ) (r : Four) : Type 0 where
 pub record Stored (xs : List ℕ) (at : ℕ) (ts ys : List ℕ) : Type 0 where
   pub is : ys ≡ sets xs at ts
 
--- the chains of a request, so many of them, by the numbers of their shapes and of their lists
-abbrev pub chains_kept : ℕ → List ℕ → List ℕ → Chains
+-- the chains of a request, so many of them, by the numbers of their shapes and by their lists
+abbrev pub chains_kept : ℕ → List ℕ → List Lists → Chains
 chains_kept count ns l = record { count = count; items = items_of (shapes_in ns) l }
