@@ -68,14 +68,10 @@ fn any_epoxide_on<'a>(
 ) -> bool
     ensures { result ≡ any_of (epoxide_on (bonds_in bond_count bonds.now)) (rings_in ring_count rings.now) }
 {
-    let n = drawn_chain::rings_len(rings, ring_count);
-    let mut i = 0;
-    while i < n {
-        let ring = drawn_chain::nth_ring(rings, ring_count, i);
-        if epoxide_on(ring, bonds, bond_count) {
+    for ring in drawn_chain::counted(rings, ring_count) {
+        if epoxide_on(*ring, bonds, bond_count) {
             return true;
         }
-        i += 1;
     }
     false
 }
@@ -95,14 +91,10 @@ fn small_ring(ring: Ring) -> bool
 fn any_small_ring(rings: &[Ring], count: usize) -> bool
     ensures { result ≡ any_of small_ring (rings_in count rings.now) }
 {
-    let n = drawn_chain::rings_len(rings, count);
-    let mut i = 0;
-    while i < n {
-        let ring = drawn_chain::nth_ring(rings, count, i);
-        if small_ring(ring) {
+    for ring in drawn_chain::counted(rings, count) {
+        if small_ring(*ring) {
             return true;
         }
-        i += 1;
     }
     false
 }

@@ -57,14 +57,10 @@ fn ring_off(ring: Ring, first: u16, acyl: bool) -> bool
 fn any_bond_off(bonds: &[DbPos], count: usize, first: u16, carbon: u16) -> bool
     ensures { result ≡ any_of (double_off first carbon) (bonds_in count bonds.now) }
 {
-    let n = drawn_chain::bonds_len(bonds, count);
-    let mut i = 0;
-    while i < n {
-        let bond = drawn_chain::nth_bond(bonds, count, i);
-        if bond_off(bond, first, carbon) {
+    for bond in drawn_chain::counted(bonds, count) {
+        if bond_off(*bond, first, carbon) {
             return true;
         }
-        i += 1;
     }
     false
 }
@@ -73,14 +69,10 @@ fn any_bond_off(bonds: &[DbPos], count: usize, first: u16, carbon: u16) -> bool
 fn any_group_off(groups: &[Mod], count: usize, first: u16, carbon: u16) -> bool
     ensures { result ≡ any_of (group_off first carbon) (groups_in count groups.now) }
 {
-    let n = drawn_chain::groups_len(groups, count);
-    let mut i = 0;
-    while i < n {
-        let group = drawn_chain::nth_group(groups, count, i);
-        if group_off(group, first, carbon) {
+    for group in drawn_chain::counted(groups, count) {
+        if group_off(*group, first, carbon) {
             return true;
         }
-        i += 1;
     }
     false
 }
@@ -89,14 +81,10 @@ fn any_group_off(groups: &[Mod], count: usize, first: u16, carbon: u16) -> bool
 fn any_ring_off(rings: &[Ring], count: usize, first: u16, acyl: bool) -> bool
     ensures { result ≡ any_of (ring_off first acyl) (rings_in count rings.now) }
 {
-    let n = drawn_chain::rings_len(rings, count);
-    let mut i = 0;
-    while i < n {
-        let ring = drawn_chain::nth_ring(rings, count, i);
-        if ring_off(ring, first, acyl) {
+    for ring in drawn_chain::counted(rings, count) {
+        if ring_off(*ring, first, acyl) {
             return true;
         }
-        i += 1;
     }
     false
 }

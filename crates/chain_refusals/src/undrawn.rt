@@ -29,14 +29,10 @@ fn on_first(group: Mod) -> bool
 fn any_on_first(groups: &[Mod], count: usize) -> bool
     ensures { result ≡ any_of (group_at 1) (groups_in count groups.now) }
 {
-    let n = drawn_chain::groups_len(groups, count);
-    let mut i = 0;
-    while i < n {
-        let group = drawn_chain::nth_group(groups, count, i);
-        if on_first(group) {
+    for group in drawn_chain::counted(groups, count) {
+        if on_first(*group) {
             return true;
         }
-        i += 1;
     }
     false
 }

@@ -52,7 +52,7 @@ fn within<T>(xs: &[T], count: usize) -> usize
 }
 
 // The elements of a slice that a count counts.
-fn counted<T>(xs: &[T], count: usize) -> &[T]
+pub fn counted<T>(xs: &[T], count: usize) -> &[T]
     ensures { result.now ≡ take count xs.now }
 {
     let n = within(xs, count);

@@ -119,14 +119,10 @@ fn sits_at(group: Mod, p: u32) -> bool
 fn group_at(groups: &[Mod], count: usize, p: u32) -> bool
     ensures { result ≡ any_of (group_at p) (groups_in count groups.now) }
 {
-    let n = drawable::groups_len(groups, count);
-    let mut i = 0;
-    while i < n {
-        let group = drawable::nth_group(groups, count, i);
-        if sits_at(group, p) {
+    for group in drawable::counted(groups, count) {
+        if sits_at(*group, p) {
             return true;
         }
-        i += 1;
     }
     false
 }

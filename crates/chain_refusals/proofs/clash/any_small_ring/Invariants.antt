@@ -1,4 +1,3 @@
-use Prim.Native.Nat.{◌-◌}
 use mathlib.Core.Path.{◌≡◌}
 use lib.ListN.{drop}
 use Rattle.chain_rules.specs.chain.Lists.{any_of}
@@ -6,8 +5,5 @@ use Rattle.chain_rules.specs.chain.Refusals.{small_ring}
 use Rattle.drawn_chain.specs.drawable.Drawn.{rings_in}
 use Rattle.chain_refusals.proofs.clash.any_small_ring.Given as goal
 
-abbrev pub invariant-loop-i : goal.invariant-loop-i
-invariant-loop-i l = any_of small_ring (rings_in l.count l.rings) ≡ any_of small_ring (drop l.i (rings_in l.count l.rings))
-
-abbrev pub decreases-loop-i : goal.decreases-loop-i
-decreases-loop-i l = l.n - l.i
+abbrev pub invariant-loop-ring : goal.invariant-loop-ring
+invariant-loop-ring l = any_of small_ring (rings_in l.count l.rings) ≡ any_of small_ring (drop l.ring-index l.ring-items)

@@ -1,4 +1,3 @@
-use Prim.Native.Nat.{◌-◌}
 use mathlib.Core.Path.{◌≡◌}
 use lib.ListN.{drop}
 use Rattle.chain_rules.specs.chain.Lists.{any_of}
@@ -6,8 +5,5 @@ use Rattle.chain_rules.specs.chain.Refusals.{group_off}
 use Rattle.drawn_chain.specs.drawable.Drawn.{groups_in}
 use Rattle.chain_refusals.proofs.offchain.any_group_off.Given as goal
 
-abbrev pub invariant-loop-i : goal.invariant-loop-i
-invariant-loop-i l = any_of (group_off l.first l.carbon) (groups_in l.count l.groups) ≡ any_of (group_off l.first l.carbon) (drop l.i (groups_in l.count l.groups))
-
-abbrev pub decreases-loop-i : goal.decreases-loop-i
-decreases-loop-i l = l.n - l.i
+abbrev pub invariant-loop-group : goal.invariant-loop-group
+invariant-loop-group l = any_of (group_off l.first l.carbon) (groups_in l.count l.groups) ≡ any_of (group_off l.first l.carbon) (drop l.group-index l.group-items)
