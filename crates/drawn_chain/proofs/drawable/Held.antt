@@ -8,10 +8,7 @@ use mathlib.Core.Path.{◌≡◌, refl, sym, ◌∙◌}
 use mathlib.Core.List.{List, [], ◌∷◌, ◌++◌}
 use lib.ListN.{length, take, set, get_or, length-append, length-take}
 use lib.Seq.{take-suc-set, take_all, take-append-le, get_or-take}
-use Rattle.chain_record.specs.declared.plain.DbPos.{DbPos}
-use Rattle.chain_record.specs.declared.plain.Mod.{Mod}
-use Rattle.chain_record.specs.declared.plain.Ring.{Ring}
-use Rattle.drawn_chain.specs.drawable.Drawn.{Length, bonds_in, groups_in, rings_in, no_bond, no_group, no_ring}
+use Rattle.drawn_chain.specs.drawable.Drawn.{Length}
 
 pub get_d_past : {A : Type 0} (l : List A) (i : ℕ) (d : A) → length l ≤ i → get_or l i d ≡ d
 get_d_past [] i d h = refl
