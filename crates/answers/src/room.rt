@@ -5,9 +5,8 @@ ghost use Rattle.std.specs.Prelude.{length};
 ghost use Rattle.request_chains.specs.chain_shapes.Shapes.{chains_kept};
 ghost use Rattle.answers.specs.room.Ready.{Readied, ShortIs, AmpleIf};
 
-use drawn_chain::{MAX_CHAINS, Shape};
 use class_lines::Line;
-
+use drawn_chain::{MAX_CHAINS, Shape};
 use template_rules::Class;
 
 // Room for the indices of four chains.

@@ -7,7 +7,7 @@ use mathlib.Core.Path.{◌≡◌, refl, sym, ap, ◌∙◌}
 use mathlib.Core.Bool.{Bool, true, false, cond, ◌||◌}
 use mathlib.Core.List.{List, [], ◌∷◌, ◌++◌, map}
 use lib.Dec.{eqb, leb}
-use lib.ListN.{length, get_or, set, length-set, length-append, length-map, get_or-map}
+use lib.ListN.{length, get_or, set, length-set, length-append, get_or-map}
 use borrow.Author.Tests.{leb-true, leb-false, eqb-true}
 use Rattle.chain_rules.specs.chain.Lists.{any_of}
 use Rattle.group_table.specs.groups.Groups.{Entry, entries, blank, entry_at}

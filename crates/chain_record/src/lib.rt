@@ -12,12 +12,10 @@ mod ringcodes;
 
 pub use bondcodes::{bond_code, bond_in};
 pub use groupcodes::{group_code, group_in};
-pub use parsed::{
-    Counted, Counts, ParsedChain, Pushed, check_counts, push_bond, push_group, push_ring,
-};
+pub use parsed::{Counts, ParsedChain, check_counts, push_bond, push_group, push_ring};
 pub use plain::{
     Bridge, ChainPrefix, DbPos, GROUP_ROOM, Geometry, MAX_BONDS, MAX_CARBONS, MAX_GROUPS,
-    MAX_RINGS, Mod, OVER_LIMIT, Ring, UNREADABLE,
+    MAX_RINGS, Mod, Ring,
 };
 pub use refusal::Refusal;
 pub use ringcodes::{ring_code, ring_in};

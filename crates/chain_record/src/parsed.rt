@@ -6,9 +6,8 @@ ghost use Rattle.std.specs.Prelude.{◌≡◌, ◌≤◌, length};
 ghost use Rattle.chain_record.specs.plain.Chain.{with_bond, with_group, with_ring, max_bonds, max_groups, max_rings};
 ghost use Rattle.chain_record.specs.parsed.Parsed.{Grows, first, bonds_as, groups_as, rings_as, checked};
 
-use super::plain::{
-    ChainPrefix, DbPos, GROUP_ROOM, MAX_BONDS, MAX_GROUPS, MAX_RINGS, Mod, OVER_LIMIT, Ring,
-};
+use super::plain::{ChainPrefix, DbPos, GROUP_ROOM, MAX_BONDS, MAX_GROUPS, MAX_RINGS, Mod, Ring};
+use super::refusal::Refusal;
 use super::{bondcodes, groupcodes, ringcodes};
 
 // Double bonds, groups and rings are numbers of `codes`.
@@ -35,20 +34,6 @@ pub struct Counts {
     pub groups: usize,
     pub rings: usize,
     pub oxygens: u32,
-}
-
-// What a reader counts once it has read, or the number by which it refuses.
-#[derive(Clone, Copy)]
-pub enum Counted {
-    Read(Counts),
-    Refused(u16),
-}
-
-// The same of a reader that adds to one array.
-#[derive(Clone, Copy)]
-pub enum Pushed {
-    Read(usize),
-    Refused(u16),
 }
 
 // One double bond more; how many there are then.
@@ -88,17 +73,17 @@ pub fn push_ring(rings: &mut [u64], count: usize, ring: Ring) -> usize
 }
 
 // After a list or a segment: 31 where a count is over its limit.
-pub fn check_counts(counts: Counts) -> Counted
+pub fn check_counts(counts: Counts) -> Result<Counts, Refusal>
     ensures { result ≡ checked counts }
 {
     if MAX_BONDS < counts.bonds {
-        return Counted::Refused(OVER_LIMIT);
+        return Err(Refusal::OverLimit);
     }
     if MAX_GROUPS < counts.groups {
-        return Counted::Refused(OVER_LIMIT);
+        return Err(Refusal::OverLimit);
     }
     if MAX_RINGS < counts.rings {
-        return Counted::Refused(OVER_LIMIT);
+        return Err(Refusal::OverLimit);
     }
-    Counted::Read(counts)
+    Ok(counts)
 }

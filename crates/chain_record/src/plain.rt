@@ -12,11 +12,6 @@ pub const MAX_RINGS: usize = 8;
 // Room for the groups read and for the two oxygens that a base draws besides.
 pub const GROUP_ROOM: usize = 18;
 
-// The refusals of a token.
-pub const UNREADABLE: u16 = 11;
-
-pub const OVER_LIMIT: u16 = 31;
-
 #[derive(Clone, Copy)]
 pub enum ChainPrefix {
     Acyl,

@@ -10,8 +10,8 @@ ghost use Rattle.class_templates.specs.Templates.{all_slots, FilledTailless, Tai
 ghost use Rattle.class_templates.specs.Classes.{Classed, ClassBuilt};
 
 use chain_rules::Role;
-use line_builder::Builder;
 use drawn_chain::{MAX_CHAINS, Shape};
+use line_builder::Builder;
 use placement::Placed;
 use template_rules::Class;
 

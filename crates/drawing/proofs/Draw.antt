@@ -8,6 +8,8 @@ use mathlib.Core.List.{List}
 use lib.ListN.{length}
 use Rattle.writer.specs.emit.Text.{Written}
 use Rattle.chain_record.specs.plain.Chain.{Chain}
+use Rattle.drawn_chain.specs.declared.drawable.Shape.{Shape}
+use Rattle.placement.specs.declared.chain_notes.Placed.{Placed}
 use Rattle.drawn_chain.specs.drawable.Chains.{Chains}
 use Rattle.request_chains.specs.chain_shapes.Shapes.{chains_kept}
 use Rattle.template_rules.specs.declared.Class.{Class}
@@ -34,7 +36,7 @@ use Rattle.drawing.specs.Draw.{ChainsDrawn, IndexRoom}
 use Rattle.drawing.proofs.Answered.{short-answer, answered, indices-written}
 
 -- the indices have room of their own, and then all can be written
-module _ {c : Class} {t : List ℕ} {k : ℕ} {x : Chains} {vs ns rs os : List ℕ} (n : IndexRoom c t k x (length ns)) (m : length rs ≡ 64) where
+module _ {c : Class} {t : List ℕ} {k : ℕ} {x : Chains} {vs ns rs : List ℕ} {os : List Placed} (n : IndexRoom c t k x (length ns)) (m : length rs ≡ 64) where
   some-writes : (ds : List Chain) → Ready c t k x ds → Writes c t k x (rooms vs ns rs os) ds
   some-writes ds w = record { own = w.own; told = w.told; room = record { index = n.room ds w; rows = omega (arith, m, w.rows, w.tokens) } }
 
@@ -49,7 +51,7 @@ module _ {c : Class} {swap : Bool} {t : List ℕ} {k : ℕ} {x : Chains} where
   long-slices h e = rw e at h
 
   -- those of one chain are built in their slice, which is long enough
-  module _ {vs ns rs os : List ℕ} (e : x.count ≡ 1) (m : length rs ≡ 16) (f : ShortIs c swap t k x (length vs) (length ns) false) where
+  module _ {vs ns rs : List ℕ} {os : List Placed} (e : x.count ≡ 1) (m : length rs ≡ 16) (f : ShortIs c swap t k x (length vs) (length ns) false) where
     one_writes : (ds : List Chain) → Ready c t k x ds → Writes c t k x (rooms vs ns rs os) ds
     one_writes ds w =
         let long : length (index_of c t ds) ≤ length ns = index-room c swap t ds (length vs) (length ns) (sym (f.is ds w)) in
@@ -58,7 +60,7 @@ module _ {c : Class} {swap : Bool} {t : List ℕ} {k : ℕ} {x : Chains} where
     pub one-writable : Readied c t k x → Writable c t k x (rooms vs ns rs os)
     one-writable w = record { chains = w.chains; writes = one_writes w.chains w.ready }
 
-  module _ {vs zs ns js rs ss os ps : List ℕ} {r : Line} where
+  module _ {vs zs ns js rs ss : List ℕ} {os ps : List Placed} {r : Line} where
     built : LineBuilt c swap t k x (rooms vs ns rs os) (rooms zs js ss ps) r → (ds : List Chain) → LineIs c swap t ds (rooms vs ns rs os) (rooms zs js ss ps) r
         → Built c swap t ds vs zs r.at r.count ps r.order r.sites js r.used
     built h ds i = record { text = i.text; places = i.chains; order = h.order; sites = h.sites; index = i.index }
@@ -92,6 +94,6 @@ pub long-room : {c : Class} {t : List ℕ} {k : ℕ} {x : Chains} → IndexRoom 
 long-room = record { room = λ ds w. omega (arith, w.index, w.tokens) }
 
 -- room for four chains of which none is long
-pub slight-room : {c : Class} {t : List ℕ} {k count : ℕ} {ns : List ℕ} (l : List ℕ) → Slight 30 count ns → IndexRoom c t k (chains_kept count ns l) 128
+pub slight-room : {c : Class} {t : List ℕ} {k count : ℕ} {ns : List Shape} (l : List ℕ) → Slight 30 count ns → IndexRoom c t k (chains_kept count ns l) 128
 slight-room {c} {t} {k} {count} {ns} l h =
     record { room = λ ds w. omega (arith, w.lists 30 (all-each (λ p. p.chain.carbon ≤ 30) (placed c t ds) (slight-placed 30 c t ds count ns l w.own.stood h)), w.tokens) }

@@ -8,10 +8,9 @@ ghost use Rattle.class_lines.specs.longest.Covered.{Slight};
 ghost use Rattle.answers.specs.room.Ready.{Readied, ShortIs};
 ghost use Rattle.drawing.specs.Draw.{ChainsDrawn, IndexRoom};
 
-use drawn_chain::{MAX_CHAINS, Shape};
 use answers::{Answer, INDEX_ROOM, ROW_ROOM, refused};
 use class_lines::Line;
-
+use drawn_chain::{MAX_CHAINS, Shape};
 use template_rules::Class;
 
 // A slice is shorter than needed.

@@ -16,8 +16,9 @@ use Rattle.chain_record.specs.declared.plain.ChainPrefix.{ChainPrefix}
 use Rattle.chain_record.specs.plain.Chain.{Chain, Outcome, Read, Refused, max_bonds, max_groups, max_rings}
 use Rattle.chain_record.proofs.parsed.Laws.{stands_read, stands-refused}
 use Rattle.token_reader.specs.declared.token.ReadChain.{ReadChain}
-use Rattle.token_reader.specs.declared.token.ReadToken.{ReadToken}
-use Rattle.token_reader.specs.declared.token.ReadToken.TheVariants.{Read as ReadToken-as-Read, Refused as ReadToken-as-Refused}
+use Rattle.std.specs.Prelude.{Result, Ok, Err}
+use Rattle.chain_record.specs.declared.refusal.Refusal.{Refusal}
+use Rattle.chain_record.specs.refusal.Refusal.{number_of}
 use Rattle.token_reader.specs.token.Token.{token_of}
 use Rattle.token_reader.specs.token.Lent.{Tells, chain_as, token_in}
 use Rattle.token_reader.specs.token.Request.{Verdict, All, First, with_token, tokens_from, tokens_of}
@@ -59,7 +60,7 @@ with-room : (b g r : ℕ) (t : List ℕ) → max_bonds ≤ b → max_groups ≤ 
 unfolding token_in
 with-room b g r t h k l = rw (le-ltb b max_bonds h, le-ltb g max_groups k, le-ltb r max_rings l)
 
-module _ (r : Role) (t : List ℕ) (x : ReadToken) (bs gs rs xs : List ℕ) (b g : ℕ) (l : length xs ≡ 77) (hb : max_bonds ≤ b) (hg : max_groups ≤ g)
+module _ (r : Role) (t : List ℕ) (x : Result ReadChain Refusal) (bs gs rs xs : List ℕ) (b g : ℕ) (l : length xs ≡ 77) (hb : max_bonds ≤ b) (hg : max_groups ≤ g)
     (w : Tells x bs gs rs (token_in b g (length (mid_of 69 8 xs)) t)) where
   room : length (mid_of 69 8 xs) ≡ 8
   room = mid_len 69 77 xs (omega arith)
@@ -68,17 +69,17 @@ module _ (r : Role) (t : List ℕ) (x : ReadToken) (bs gs rs xs : List ℕ) (b g
   told = rw (with-room b g (length (mid_of 69 8 xs)) t hb hg (omega (arith, room))) at w
 
   -- a token that is refused
-  pub looked-refused : (ys : List ℕ) (m : ℕ) → x ≡ ReadToken-as-Refused m → SeenIs r (Seen-as-Refused m) ys (token_of t)
-  looked-refused ys m e = let v : Tells (ReadToken-as-Refused m) bs gs rs (token_of t) = rw e at told in rw (stands-refused m (token_of t) v.stands) refl
+  pub looked-refused : (ys : List ℕ) (z : Refusal) (m : ℕ) → x ≡ Err z → m ≡ number_of z → SeenIs r (Seen-as-Refused m) ys (token_of t)
+  looked-refused ys z m e n = let v : Tells (Err z) bs gs rs (token_of t) = rw e at told in rw (n, stands-refused (number_of z) (token_of t) v.stands) refl
 
   -- what is drawn of the pieces of a token is drawn of the chain that the token says; its rings were read into their room of the part xs
-  pub looked : (q : ReadChain) (ys : List ℕ) (s : Shape) (k n m : ℕ) → length rs ≡ length (mid_of 69 8 xs) → x ≡ ReadToken-as-Read q
+  pub looked : (q : ReadChain) (ys : List ℕ) (s : Shape) (k n m : ℕ) → length rs ≡ length (mid_of 69 8 xs) → x ≡ Ok q
       → Fits r (pieces q.prefix q.carbon q.unlocated q.counts.bonds bs q.counts.groups gs q.counts.rings (rings_part (put_mid 69 8 xs rs))) (drawn_of s ys)
       → KindIs r q.prefix q.carbon k → Says (drawn_of s ys) n place_refusal → Says (drawn_of s ys) m draw_refusal
       → SeenIs r (Seen-as-Read (record { kind = k; place = n; draw = m }) s) ys (token_of t)
   unfolding rings_part
   looked q ys s k n m i e f o a z =
-      let v : Tells (ReadToken-as-Read q) bs gs rs (token_of t) = rw e at told in
+      let v : Tells (Ok q) bs gs rs (token_of t) = rw e at told in
       let d = stands_read (chain_as q bs gs rs) (token_of t) v.stands in
       let h : chain_of (chain_as q bs gs rs) ≡ d.0 = held-chain d.2 (token-sound t d.0 d.1).within in
       let u : Draws r d.0 (drawn_of s ys) = rw h at drawn in

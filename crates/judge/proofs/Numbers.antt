@@ -32,8 +32,6 @@ use Rattle.token_segments.specs.segment.Segment.{unless_over, many_times, with_s
 use Rattle.token_head.specs.declared.opening.Branch.{Branch}
 use Rattle.token_head.specs.declared.opening.Branch.TheVariants.{Straight, Iso, Anteiso}
 use Rattle.token_head.specs.opening.Opening.{branched, start_chain, carbons_by, carbons_of}
-use Rattle.token_reader.specs.declared.token.Missing.{Missing}
-use Rattle.token_reader.specs.declared.token.Missing.TheVariants.{Seated, Unseated}
 use Rattle.token_reader.specs.token.Token.{missing_of, bare_oxygens, finished, rest_of, counted_list, listed_of, after_count, count_by, bonds_of, named_chain, empty_text, trimmed_of, all_printable, token_of}
 
 -- what holds of 31 and of 11
@@ -154,13 +152,13 @@ module _ (P : ℕ → Type 0) (p31 : P 31) (p11 : P 11) where
 
   -- ---- the token
 
-  by-rest : (m : Missing) (s : List ℕ) (d : Chain) → By (rest_of m s d)
+  by-rest : (m : Option ℕ) (s : List ℕ) (d : Chain) → By (rest_of m s d)
   unfolding rest_of
   by-rest m s d = by-then (segments s d) (finished m) (by-segments s d) (λ e. go m e)
     where
-      go : (m : Missing) (e : Chain) → By (finished m e)
-      go Unseated e = p11
-      go (Seated n) e = by-either (bare_oxygens e) _ _ p11 tt
+      go : (m : Option ℕ) (e : Chain) → By (finished m e)
+      go None e = p11
+      go (Some n) e = by-either (bare_oxygens e) _ _ p11 tt
 
   by-list : (s : List ℕ) (d : Chain) → By (counted_list s d)
   unfolding counted_list

@@ -15,7 +15,6 @@ use chain_record::{ChainPrefix, GROUP_ROOM, MAX_BONDS};
 use chain_rules::Role;
 use drawn_chain::{CHAIN_ROOM, MAX_CHAINS, Shape};
 use template_rules::Class;
-use token_reader::ReadToken;
 
 // A class code that is none of the eight.
 pub const UNKNOWN_CLASS: u16 = 20;
@@ -206,8 +205,8 @@ fn see(
 {
     let read = token_reader::parse_token(token, bonds, groups, &mut part[69..77]);
     match read {
-        ReadToken::Refused(number) => Seen::Refused(number),
-        ReadToken::Read(said) => {
+        Err(refusal) => Seen::Refused(u16::from(refusal)),
+        Ok(said) => {
             let prefix = said.prefix;
             let counts = said.counts;
             let shape = drawn_chain::drawn_as(

@@ -13,8 +13,8 @@ ghost use Rattle.line_blocks.specs.blocks.Notes.{barred, notes_text, labelled_of
 
 use super::chain_marks::Next;
 use super::{chain_marks, chain_sites};
-use line_parts::{MAX_SITES, Site};
 use drawn_chain::MAX_CHAINS;
+use line_parts::{MAX_SITES, Site};
 use placement::Placed;
 
 // How many sites have a label: all where they may be exchanged and there are two or more, else none.

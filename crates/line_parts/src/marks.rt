@@ -35,11 +35,9 @@ fn put_marks_below(out: &mut [u8], at: usize, first: bool, p: u32, v: u32, n: u3
 {
     let mut next = at;
     let mut lead = first;
-    let mut i = 0;
-    while i < n {
+    for i in 0..n {
         next = put_mark(out, next, lead, p + 2 * i, v + i);
         lead = false;
-        i += 1;
     }
     next
 }

@@ -21,10 +21,8 @@ fn put_site_list(out: &mut [u8], at: usize, sites: &[u16]) -> usize
     ensures { Written out.old at (joined 46 (map decimal sites.now)) out.new result }
 {
     let mut p = at;
-    let mut place = 0;
-    while place < sites.len() {
-        p = put_site(out, p, 0 < place, sites[place]);
-        place += 1;
+    for (place, site) in sites.iter().enumerate() {
+        p = put_site(out, p, 0 < place, *site);
     }
     p
 }

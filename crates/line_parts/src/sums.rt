@@ -26,10 +26,8 @@ fn put_variables(out: &mut [u8], at: usize, v: u32, count: u32) -> usize
     ensures { Written out.old at (joined 43 (map name_of (numbers_from v count))) out.new result }
 {
     let mut p = at;
-    let mut i = 0;
-    while i < count {
+    for i in 0..count {
         p = put_variable(out, p, 0 < i, v + i);
-        i += 1;
     }
     p
 }

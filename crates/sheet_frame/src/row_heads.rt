@@ -3,19 +3,7 @@
 ghost use Rattle.writer.specs.emit.Text.{Written, decimal};
 ghost use Rattle.sheet_frame.specs.row_heads.Text.{ended, head_text};
 
-use writer::put_byte;
-
-// The decimal digits of n, most significant first, with no leading zero, one by one.
-fn put_many(out: &mut [u8], at: usize, n: u64) -> usize
-    ensures { Written out.old at (decimal n) out.new result }
-{
-    if n < 10 {
-        put_byte(out, at, (48 + n) as u8)
-    } else {
-        let p = put_many(out, at, n / 10);
-        put_byte(out, p, (48 + n % 10) as u8)
-    }
-}
+use writer::{put_byte, put_many};
 
 // The decimal digits of n. Most numbers of a row have one, which needs no calls one within the other.
 pub fn put_decimal(out: &mut [u8], at: usize, n: u64) -> usize

@@ -1,7 +1,7 @@
 // How often each answer was met, and the lines that say it. Each writer is of the kind of `writer::emit`. What is counted and written is said by
 // specs/tally/Counts.antt.
 ghost use Rattle.std.specs.Prelude.{◌≡◌};
-ghost use Rattle.writer.specs.emit.Text.{Written, after};
+ghost use Rattle.writer.specs.emit.Text.{Written};
 ghost use Rattle.sheet_frame.specs.tally.Counts.{counting, no_times, with_answer, count_line, count_lines};
 
 use super::row_heads::{put_decimal, put_number_cell};
@@ -9,13 +9,6 @@ use writer::{put_byte, put_text};
 
 // The answers, which are numbers from 0 to 42.
 pub const ANSWERS: usize = 43;
-
-// One more, up to the largest number.
-fn one_more(n: u64) -> u64
-    ensures { result ≡ after n 1 }
-{
-    if n < 18446744073709551615 { n + 1 } else { n }
-}
 
 // How often each answer was met.
 #[derive(Clone, Copy)]
@@ -35,23 +28,18 @@ impl Counts {
     pub fn count(mut self, answer: u16) -> Counts
         ensures { result ≡ counting (with_answer self.times answer) }
     {
-        let at = answer as usize;
-        if ANSWERS <= at {
-            return self;
-        }
-        let n = self.times[at];
-        self.times[at] = one_more(n);
+        count_in(&mut self.times, answer);
         self
     }
 }
 
-// One more answer, counted where the counts stand.
+// One more answer, counted where the counts stand, up to the largest number.
 pub fn count_in(times: &mut [u64], answer: u16)
     ensures { times.new ≡ with_answer times.old answer }
 {
     let at = answer as usize;
     if at < times.len() {
-        times[at] = one_more(times[at]);
+        times[at] = times[at].saturating_add(1);
     }
 }
 
@@ -74,10 +62,8 @@ pub fn put_count_lines(out: &mut [u8], at: usize, counts: Counts) -> usize
 {
     let times = counts.times;
     let mut p = at;
-    let mut answer = 0;
-    while answer < ANSWERS {
-        p = put_count_line(out, p, answer, times[answer]);
-        answer += 1;
+    for (answer, n) in times.iter().enumerate() {
+        p = put_count_line(out, p, answer, *n);
     }
     p
 }

@@ -26,10 +26,8 @@ fn put_each(out: &mut [u8], at: usize, indices: &[u16]) -> usize
     ensures { Written out.old at (joined 46 (map decimal indices.now)) out.new result }
 {
     let mut p = at;
-    let mut i = 0;
-    while i < indices.len() {
-        p = put_index(out, p, 0 < i, indices[i]);
-        i += 1;
+    for (i, index) in indices.iter().enumerate() {
+        p = put_index(out, p, 0 < i, *index);
     }
     p
 }

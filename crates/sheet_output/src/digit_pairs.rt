@@ -9,13 +9,11 @@ pub const PAIRS: usize = 100;
 pub fn fill_pairs(pairs: &mut [u16])
     ensures { Pairs pairs.new }
 {
-    let mut n = 0u16;
-    while n < 100 {
+    for n in 0..100u16 {
         let i = n as usize;
         if pairs.len() <= i {
             return;
         }
         pairs[i] = 12336 + n / 10 + n % 10 * 256;
-        n += 1;
     }
 }

@@ -1,7 +1,7 @@
 // A row of the output, written: its answer and the token's place as `sheet_frame::row_heads` has them, the line, and the chains, whose indices are written as
 // `carbon_lists` has it; or what follows the line alone. Each writer is of the kind of `writer::emit`: it stores nothing past the end and counts on.
 // What is written is said by specs/row_heads/Text.antt of `sheet_frame`, and which chains are by specs/rows/Chains.antt.
-ghost use Rattle.std.specs.Prelude.{◌≡◌, min, length, take};
+ghost use Rattle.std.specs.Prelude.{take};
 ghost use Rattle.writer.specs.emit.Text.{Written};
 ghost use Rattle.line_parts.specs.shown.Chained.{listed};
 ghost use Rattle.sheet_frame.specs.row_heads.Text.{ended, chain_text, chains_text, row_text};
@@ -40,17 +40,6 @@ fn put_next_chain(
     put_chain(out, p, sn, indices, pairs)
 }
 
-// How many of a chain's indices there are.
-fn within(count: u16, indices: &[u16]) -> usize
-    ensures { result ≡ min count (length indices.now) }
-{
-    let n = count as usize;
-    if n < indices.len() {
-        return n;
-    }
-    indices.len()
-}
-
 // The listed chains, whose indices stand end to end.
 fn put_chains(out: &mut [u8], at: usize, lists: Lists, index: &[u16], pairs: &[u16]) -> usize
     requires { Pairs pairs.now }
@@ -63,7 +52,7 @@ fn put_chains(out: &mut [u8], at: usize, lists: Lists, index: &[u16], pairs: &[u
     let mut i = 0;
     while i < n {
         let list = items[i];
-        let k = within(list.count, t);
+        let k = (list.count as usize).min(t.len());
         p = put_next_chain(out, p, 0 < i, list.sn, &t[0..k], pairs);
         t = &t[k..];
         i += 1;

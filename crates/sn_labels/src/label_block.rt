@@ -1,5 +1,5 @@
 // The labels of the sn: the list of entries, `$;;sn2;;;sn1$`. Writers of the kind of `line_parts::shown`.
-ghost use Rattle.std.specs.Prelude.{◌≡◌, map, ◌+◌, ◌<◌, ◌≤◌, min, max, length, take, replicate};
+ghost use Rattle.std.specs.Prelude.{◌≡◌, map, ◌+◌, ◌<◌, ◌≤◌, take};
 ghost use Rattle.writer.specs.emit.Text.{Written};
 ghost use Rattle.reading_rules.specs.reading.Parting.{joined};
 ghost use Rattle.reading_rules.specs.reading.Molecule.{look};
@@ -11,7 +11,7 @@ ghost use Rattle.sn_labels.specs.label_block.Falling.{Falling, FallTold};
 
 use line_parts::{MAX_SITES, Site, put_block_lead, put_label};
 use request_chains::in_places;
-use writer::{put_byte, put_text};
+use writer::{put_byte, put_same};
 
 // How many atoms there are up to this one.
 fn past(atom: u32) -> usize
@@ -20,21 +20,12 @@ fn past(atom: u32) -> usize
     atom as usize + 1
 }
 
-fn larger(a: usize, b: usize) -> usize
-    ensures { result ≡ max a b }
-{
-    if a < b { b } else { a }
-}
-
 // An atom where it lies past a and before `next`, else `next`.
 fn nearer(a: usize, atom: usize, next: usize) -> usize
     ensures { result ≡ nearest a atom next }
 {
     if a < atom {
-        if atom < next {
-            return atom;
-        }
-        return next;
+        return atom.min(next);
     }
     next
 }
@@ -45,11 +36,9 @@ fn label_end(sites: [Site; MAX_SITES], count: usize) -> usize
     ensures { result ≡ up_to_last (labels_of (take count sites)) }
 {
     let mut end = 0;
-    let mut i = 0;
-    while i < count {
+    for i in 0..count {
         let site = sites[i];
-        end = larger(end, past(site.atom));
-        i += 1;
+        end = end.max(past(site.atom));
     }
     end
 }
@@ -66,13 +55,11 @@ fn put_entry(
     requires digits { Digits (take count sites) }
     ensures { Written out.old at (show_entry (look atom (labels_of (take count sites)))) out.new result }
 {
-    let mut i = 0;
-    while i < count {
+    for i in 0..count {
         let site = sites[i];
         if site.atom as usize == atom {
             return put_label(out, at, site.sn);
         }
-        i += 1;
     }
     at
 }
@@ -84,53 +71,11 @@ fn next_atom(sites: [Site; MAX_SITES], count: usize, atom: usize, last: usize) -
     ensures { Gap atom last (labels_of (take count sites)) result }
 {
     let mut next = last;
-    let mut i = 0;
-    while i < count {
+    for i in 0..count {
         let site = sites[i];
         next = nearer(atom, site.atom as usize, next);
-        i += 1;
     }
     next
-}
-
-// So many `;`s where there is room for them.
-fn fill(out: &mut [u8], at: usize, n: usize) -> usize
-    requires { at + n ≤ length out.old }
-    ensures { Written out.old at (replicate n 59) out.new result }
-{
-    let end = at + n;
-    let mut p = at;
-    while p < end {
-        out[p] = b';';
-        p += 1;
-    }
-    end
-}
-
-// So many `;`s, one by one, where some may fall past the end.
-fn put_each(out: &mut [u8], at: usize, n: usize) -> usize
-    ensures { Written out.old at (replicate n 59) out.new result }
-{
-    let mut p = at;
-    let mut i = 0;
-    while i < n {
-        p = put_byte(out, p, b';');
-        i += 1;
-    }
-    p
-}
-
-// A `;` for each of n atoms.
-fn put_gap(out: &mut [u8], at: usize, n: usize) -> usize
-    ensures { Written out.old at (replicate n 59) out.new result }
-{
-    if at < out.len() {
-        if n <= out.len() - at {
-            return fill(out, at, n);
-        }
-        return put_each(out, at, n);
-    }
-    put_each(out, at, n)
 }
 
 // The entries of the atoms up to the last: the label of an atom, then the `;`s up to the next atom with a label.
@@ -150,7 +95,7 @@ fn put_through(
     while atom < last {
         let next = next_atom(sites, count, atom, last);
         let q = put_entry(out, p, sites, count, atom);
-        p = put_gap(out, q, next - atom);
+        p = put_same(out, q, b';', next - atom);
         atom = next;
     }
     put_entry(out, p, sites, count, atom)
@@ -174,9 +119,7 @@ fn falls(sites: [Site; MAX_SITES], n: usize) -> bool
     ensures { FallTold (take n sites) result }
 {
     let mut last = 0;
-    let mut i = n;
-    while 0 < i {
-        i -= 1;
+    for i in (0..n).rev() {
         let site = sites[i];
         let next = past(site.atom);
         if next <= last {
@@ -196,11 +139,9 @@ fn put_falling(out: &mut [u8], at: usize, sites: [Site; MAX_SITES], count: usize
 {
     let mut p = at;
     let mut from = 0;
-    let mut i = count;
-    while 0 < i {
-        i -= 1;
+    for i in (0..count).rev() {
         let site = sites[i];
-        let q = put_gap(out, p, (site.atom - from) as usize);
+        let q = put_same(out, p, b';', (site.atom - from) as usize);
         p = put_label(out, q, site.sn);
         from = site.atom;
     }

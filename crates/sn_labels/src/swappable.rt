@@ -26,11 +26,9 @@ fn put_labels(out: &mut [u8], at: usize, sites: [Site; MAX_SITES], count: usize)
     ensures { Written out.old at (joined 44 (map show_label (notes_of (labels_of (take count sites))))) out.new result }
 {
     let mut p = at;
-    let mut i = 0;
-    while i < count {
+    for i in 0..count {
         let site = sites[i];
         p = put_next_label(out, p, 0 < i, site.sn);
-        i += 1;
     }
     p
 }

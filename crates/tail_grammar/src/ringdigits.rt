@@ -4,10 +4,10 @@
 // holds arrays would be copied at each call:
 //   opened    by digit: the atom on which it is open, 0 for none
 //   joined    by atom: the last one that a digit joined to it, so that a second bond between two atoms is one look-up away
-ghost use Rattle.std.specs.Prelude.{◌≡◌, ◌-◌, ◌<◌};
+ghost use Rattle.std.specs.Prelude.{◌≡◌, ℕ, List, ◌-◌, ◌<◌};
 ghost use Rattle.reading_rules.specs.reading.Lexer.{within};
-ghost use Rattle.tail_grammar.specs.ringdigits.Grammar.{clashes, with_digit, none_open};
-ghost use Rattle.tail_grammar.specs.ringdigits.Digits.{rings_of, outcome_of, Digits, IsDigit, PastDigits};
+ghost use Rattle.tail_grammar.specs.ringdigits.Grammar.{clashes, with_atom, back_to, with_digit, none_open};
+ghost use Rattle.tail_grammar.specs.ringdigits.Digits.{rings_of, Digits, IsDigit, PastDigits};
 
 // The atoms of a tail so far. They are numbered from 1; atom 0 is the one that the tail hangs on.
 #[derive(Clone, Copy)]
@@ -18,19 +18,29 @@ pub struct Atoms {
     pub parent: u8,
 }
 
-// What was read from a place on: whether it is right, the place after it, the atoms so far.
-#[derive(Clone, Copy)]
-pub struct Ran {
-    pub ok: bool,
-    pub next: usize,
-    pub atoms: Atoms,
-}
+impl Atoms {
+    // One more atom, which joins the current one.
+    pub fn with_atom(self) -> Self
+        requires { self.last < 255 }
+        ensures { (o j : List ℕ) → rings_of result o j ≡ with_atom (rings_of self o j) }
+    {
+        let new = self.last + 1;
+        Self {
+            last: new,
+            current: new,
+            parent: self.current,
+        }
+    }
 
-// An atom's number as an index.
-fn index(atom: u8) -> usize
-    ensures { (result ≡ atom) × (result < 256) }
-{
-    atom as usize
+    // After a branch: the atom at which it started is the current one again.
+    pub fn back_to(self, start: u8) -> Self
+        ensures { (o j : List ℕ) → rings_of result o j ≡ back_to start (rings_of self o j) }
+    {
+        Self {
+            current: start,
+            ..self
+        }
+    }
 }
 
 // A digit's value.
@@ -38,17 +48,14 @@ fn digit(b: u8) -> usize
     requires { IsDigit b }
     ensures { (result ≡ b - 48) × (result < 10) }
 {
-    (b - b'0') as usize
+    usize::from(b - b'0')
 }
 
 // Whether a byte is one of the digits 1 to 9.
-fn is_ring_digit(b: u8) -> bool
+pub fn is_ring_digit(b: u8) -> bool
     ensures { result ≡ within 49 57 b }
 {
-    if b < b'1' {
-        return false;
-    }
-    b <= b'9'
+    matches!(b, b'1'..=b'9')
 }
 
 // Whether the digit would close on the current atom itself, or on one that is bonded to it already.
@@ -60,14 +67,7 @@ fn digit_clashes(opened: &[u8; 10], joined: &[u8; 256], atoms: Atoms, digit: usi
     if a == 0 {
         return false;
     }
-    if a == atoms.current {
-        return true;
-    }
-    if a == atoms.parent {
-        return true;
-    }
-    let i = index(a);
-    joined[i] == atoms.current
+    a == atoms.current || a == atoms.parent || joined[usize::from(a)] == atoms.current
 }
 
 // The digit on the current atom: it opens there, or closes with the atom on which it is open.
@@ -80,61 +80,38 @@ fn put_digit(opened: &mut [u8; 10], joined: &mut [u8; 256], atoms: Atoms, digit:
         opened[digit] = atoms.current;
         return;
     }
-    let i = index(a);
     opened[digit] = 0;
-    joined[i] = atoms.current;
+    joined[usize::from(a)] = atoms.current;
 }
 
 // Whether no digit is open.
 pub fn none_open(opened: &[u8; 10]) -> bool
     ensures { result ≡ none_open opened.now }
 {
-    let all = &opened[..];
-    let mut d = 0;
-    while d < all.len() {
-        if all[d] != 0 {
-            return false;
-        }
-        d += 1;
-    }
-    true
+    opened.iter().all(|a| *a == 0)
 }
 
-// The digits that stand straight after an atom.
+// The place after the digits that stand straight after an atom; none where one of them would join two atoms that are bonded already.
 pub fn read_digits(
     s: &[u8],
     at: usize,
     opened: &mut [u8; 10],
     joined: &mut [u8; 256],
     atoms: Atoms,
-) -> Ran
+) -> Option<usize>
     requires { Digits s.now at atoms.last }
-    ensures { PastDigits s.now at (rings_of atoms opened.old joined.old) (outcome_of result opened.new joined.new) }
+    ensures { PastDigits s.now at (rings_of atoms opened.old joined.old) result (rings_of atoms opened.new joined.new) }
 {
-    let mut i = at;
-    while i < s.len() {
+    for i in at..s.len() {
         let b = s[i];
         if !is_ring_digit(b) {
-            return Ran {
-                ok: true,
-                next: i,
-                atoms,
-            };
+            return Some(i);
         }
         let d = digit(b);
         if digit_clashes(opened, joined, atoms, d) {
-            return Ran {
-                ok: false,
-                next: i,
-                atoms,
-            };
+            return None;
         }
         put_digit(opened, joined, atoms, d);
-        i += 1;
     }
-    Ran {
-        ok: true,
-        next: i,
-        atoms,
-    }
+    Some(s.len())
 }

@@ -2,39 +2,80 @@
 // It answers 01's grammar for every byte string. proofs/tail/Alone and proofs/tail/Exactly say what that is worth: the tails are exactly the texts,
 // within the limits, that read by themselves where they hang on an atom. proofs/tail/Atoms: a tail reads to as many atoms as are counted here.
 // A run of atoms is read a letter, its digits, a bond or another atom at a time; what is reached is kept in one small record.
-ghost use Rattle.std.specs.Prelude.{◌≡◌, true, List, ◌∷◌, ℕ, ◌≤◌, ◌<◌, length};
-ghost use Rattle.reading_rules.specs.reading.Lexer.{memb, organic, pairs};
+ghost use Rattle.std.specs.Prelude.{◌≡◌, true, List, ◌∷◌, ℕ, ◌≤◌, ◌<◌, length, IfSome};
+ghost use Rattle.reading_rules.specs.reading.Lexer.{memb, organic};
 ghost use Rattle.tail_grammar.specs.ringdigits.Grammar.{atoms_of_tail};
 ghost use Rattle.tail_grammar.specs.ringdigits.Digits.{rings_of};
-ghost use Rattle.tail_grammar.specs.tail.Contract.{takes_digit, state_of, Room, Fits, At, Item, Ringed, Other, Refused, PastMark, GoesOn, RunRead};
+ghost use Rattle.tail_grammar.specs.tail.Contract.{follows_bond, follows_atom, takes_digit, pairs_at, state_of, Room, At, Item, Ringed, Other, PastMark, GoesOn, RunRead};
 
-use super::ringdigits::{Atoms, none_open, read_digits};
-use super::tailatom::{Found, after_atom, after_bond};
+use super::ringdigits::{Atoms, is_ring_digit, none_open, read_digits};
+use super::tailatom::{after_atom, after_bond, is_second};
 
 const MAX_TAIL: usize = 255;
 
 const MAX_DEPTH: u32 = 16;
 
-// Where the reader stands: where a bond or an atom comes, after a bond, after digits or a branch, after an atom. After a capital letter, which
-// may be the first of two, it is the letter's own byte.
-const OPENING: u32 = 0;
+// No atom of the tail yet.
+const NO_ATOMS: Atoms = Atoms {
+    last: 0,
+    current: 0,
+    parent: 0,
+};
 
-const BONDED: u32 = 1;
+// Where the reader stands.
+#[derive(Clone, Copy)]
+enum Place {
+    // where a bond or an atom comes
+    Opening,
+    // after a bond
+    Bonded,
+    // after digits or a branch
+    Closed,
+    // after an atom
+    Whole,
+    // after a capital letter, which may be the first of two
+    Letter(u8),
+}
 
-const CLOSED: u32 = 2;
+impl Place {
+    // Whether a bond came last: only an atom follows one.
+    fn follows_bond(self) -> bool
+        ensures { result ≡ follows_bond self }
+    {
+        matches!(self, Place::Bonded)
+    }
 
-const WHOLE: u32 = 3;
+    // Whether an atom, its digits or a branch came last: only there a branch opens or ends, or the tail does.
+    fn follows_atom(self) -> bool
+        ensures { result ≡ follows_atom self }
+    {
+        !matches!(self, Place::Opening | Place::Bonded)
+    }
 
-const BORON: u32 = 66;
+    // Whether a byte is a digit that the atom before it takes.
+    fn takes_digit(self, b: u8) -> bool
+        ensures { result ≡ takes_digit self b }
+    {
+        is_ring_digit(b) && matches!(self, Place::Whole | Place::Letter(_))
+    }
 
-const CARBON: u32 = 67;
+    // Whether a byte is a letter that makes one atom with the letter before it: Cl, Br.
+    fn takes_second(self, b: u8) -> bool
+        ensures { result ≡ pairs_at self b }
+    {
+        match self {
+            Place::Letter(a) => is_second(a, b),
+            _ => false,
+        }
+    }
+}
 
 // How far a tail was read: the place of the next byte, where the reader stands, the atoms so far. `opened` and `joined` are those of
-// `ringdigits`.
+// `ringdigits`. Where no tail goes on so, a reader answers none.
 #[derive(Clone, Copy)]
 struct Reached {
     next: usize,
-    place: u32,
+    place: Place,
     atoms: Atoms,
 }
 
@@ -42,127 +83,46 @@ struct Reached {
 fn is_capital(b: u8) -> bool
     ensures { result ≡ true → memb b organic ≡ true }
 {
-    if b == b'C' {
-        return true;
-    }
-    if b == b'O' {
-        return true;
-    }
-    if b == b'N' {
-        return true;
-    }
-    if b == b'P' {
-        return true;
-    }
-    if b == b'S' {
-        return true;
-    }
-    if b == b'F' {
-        return true;
-    }
-    if b == b'I' {
-        return true;
-    }
-    b == b'B'
-}
-
-// The place after a letter.
-fn letter_place(b: u8) -> u32
-    ensures { result ≡ b }
-{
-    b as u32
+    matches!(b, b'B' | b'C' | b'N' | b'O' | b'P' | b'S' | b'F' | b'I')
 }
 
 // Whether the text is one such letter, as where a chain hangs on a hydroxyl.
 fn is_one_letter(s: &[u8]) -> bool
     ensures { result ≡ true → 1 ≡ atoms_of_tail s.now }
 {
-    if s.len() != 1 {
-        return false;
-    }
-    is_capital(s[0])
-}
-
-// Whether a letter makes one atom with the letter before it, the place where the reader stands: Cl, Br.
-fn is_second(place: u32, b: u8) -> bool
-    ensures { result ≡ pairs place b }
-{
-    if b == b'l' {
-        return place == CARBON;
-    }
-    if b == b'r' {
-        return place == BORON;
-    }
-    false
-}
-
-// No tail goes on so: it has ended where an atom has to come.
-fn refuse(s: &[u8], r: Reached) -> Reached
-    requires { Fits s.now r }
-    ensures { Refused s.now result }
-{
-    let atoms = r.atoms;
-    Reached {
-        next: s.len(),
-        place: OPENING,
-        atoms,
-    }
+    s.len() == 1 && is_capital(s[0])
 }
 
 // The `)` of a branch that was read: the next atom joins the one at which the branch started.
-fn close_branch(s: &[u8], r: Reached, start: u8) -> Reached
+fn close_branch(s: &[u8], r: Reached, start: u8) -> Option<Reached>
     requires { At s.now r 41 }
-    ensures { (t o j : List ℕ) → GoesOn s.now r (state_of r (start ∷ t) o j) result (state_of result t o j) }
+    ensures { (t o j : List ℕ) → GoesOn s.now r (state_of r (start ∷ t) o j) result t o j }
 {
-    if r.place <= BONDED {
-        return refuse(s, r);
+    if !r.place.follows_atom() {
+        return None;
     }
-    let atoms = r.atoms;
-    let back = Atoms {
-        last: atoms.last,
-        current: start,
-        parent: atoms.parent,
-    };
-    Reached {
+    Some(Reached {
         next: r.next + 1,
-        place: CLOSED,
-        atoms: back,
-    }
-}
-
-// Whether a byte is a digit that the atom before it takes.
-fn takes_digit(place: u32, b: u8) -> bool
-    ensures { result ≡ takes_digit place b }
-{
-    if b < b'1' {
-        return false;
-    }
-    if b'9' < b {
-        return false;
-    }
-    CLOSED < place
+        place: Place::Closed,
+        atoms: r.atoms.back_to(start),
+    })
 }
 
 // The digits straight after an atom.
-fn read_ring(s: &[u8], opened: &mut [u8; 10], joined: &mut [u8; 256], r: Reached) -> Reached
+fn read_ring(s: &[u8], opened: &mut [u8; 10], joined: &mut [u8; 256], r: Reached) -> Option<Reached>
     requires { Ringed s.now r }
-    ensures { (t : List ℕ) → GoesOn s.now r (state_of r t opened.old joined.old) result (state_of result t opened.new joined.new) }
+    ensures { (t : List ℕ) → GoesOn s.now r (state_of r t opened.old joined.old) result t opened.new joined.new }
 {
-    let atoms = r.atoms;
-    let ran = read_digits(s, r.next, opened, joined, atoms);
-    if !ran.ok {
-        return refuse(s, r);
-    }
+    let next = read_digits(s, r.next, opened, joined, r.atoms)?;
     // a digit that were left could not be read
-    if ran.next <= r.next {
-        return refuse(s, r);
+    if next <= r.next {
+        return None;
     }
-    let same = ran.atoms;
-    Reached {
-        next: ran.next,
-        place: CLOSED,
-        atoms: same,
-    }
+    Some(Reached {
+        next,
+        place: Place::Closed,
+        ..r
+    })
 }
 
 // The place after at most one bond, where none stood before.
@@ -170,72 +130,55 @@ fn after_mark(s: &[u8], r: Reached) -> usize
     requires { Other s.now r }
     ensures { PastMark s.now r result }
 {
-    if r.place == BONDED {
+    if r.place.follows_bond() {
         return r.next;
     }
     after_bond(s, r.next)
 }
 
 // A bond, or an atom of any kind.
-fn read_other(s: &[u8], r: Reached) -> Reached
+fn read_other(s: &[u8], r: Reached) -> Option<Reached>
     requires { Other s.now r }
-    ensures { (t o j : List ℕ) → GoesOn s.now r (state_of r t o j) result (state_of result t o j) }
+    ensures { (t o j : List ℕ) → GoesOn s.now r (state_of r t o j) result t o j }
 {
     let from = after_mark(s, r);
-    let atoms = r.atoms;
     if r.next < from {
-        return Reached {
+        return Some(Reached {
             next: from,
-            place: BONDED,
-            atoms,
-        };
+            place: Place::Bonded,
+            ..r
+        });
     }
-    let Found::Next(next) = after_atom(s, from) else {
-        return refuse(s, r);
-    };
-    let new = atoms.last + 1;
-    let more = Atoms {
-        last: new,
-        current: new,
-        parent: atoms.current,
-    };
-    Reached {
+    let next = after_atom(s, from)?;
+    Some(Reached {
         next,
-        place: WHOLE,
-        atoms: more,
-    }
+        place: Place::Whole,
+        atoms: r.atoms.with_atom(),
+    })
 }
 
 // What stands at the next byte. Letters come first, since most bytes are letters.
-fn read_next(s: &[u8], opened: &mut [u8; 10], joined: &mut [u8; 256], r: Reached) -> Reached
+fn read_next(s: &[u8], opened: &mut [u8; 10], joined: &mut [u8; 256], r: Reached) -> Option<Reached>
     requires { Item s.now r }
-    ensures { (t : List ℕ) → GoesOn s.now r (state_of r t opened.old joined.old) result (state_of result t opened.new joined.new) }
+    ensures { (t : List ℕ) → GoesOn s.now r (state_of r t opened.old joined.old) result t opened.new joined.new }
 {
-    let i = r.next;
-    let b = s[i];
-    let atoms = r.atoms;
+    let b = s[r.next];
     if is_capital(b) {
-        let new = atoms.last + 1;
-        let more = Atoms {
-            last: new,
-            current: new,
-            parent: atoms.current,
-        };
-        return Reached {
-            next: i + 1,
-            place: letter_place(b),
-            atoms: more,
-        };
+        return Some(Reached {
+            next: r.next + 1,
+            place: Place::Letter(b),
+            atoms: r.atoms.with_atom(),
+        });
     }
-    if takes_digit(r.place, b) {
+    if r.place.takes_digit(b) {
         return read_ring(s, opened, joined, r);
     }
-    if is_second(r.place, b) {
-        return Reached {
-            next: i + 1,
-            place: WHOLE,
-            atoms,
-        };
+    if r.place.takes_second(b) {
+        return Some(Reached {
+            next: r.next + 1,
+            place: Place::Whole,
+            ..r
+        });
     }
     read_other(s, r)
 }
@@ -248,116 +191,114 @@ fn read_run(
     opened: &mut [u8; 10],
     joined: &mut [u8; 256],
     atoms: Atoms,
-) -> Reached
+) -> Option<Reached>
     requires { Room s.now at atoms.last }
     ensures { RunRead s.now at depth (rings_of atoms opened.old joined.old) result opened.new joined.new }
 {
     let mut r = Reached {
         next: at,
-        place: OPENING,
+        place: Place::Opening,
         atoms,
     };
     while r.next < s.len() {
-        let i = r.next;
-        let b = s[i];
+        let b = s[r.next];
         if b == b')' {
-            return r;
+            return Some(r);
         }
         if b != b'(' {
-            r = read_next(s, opened, joined, r);
+            r = read_next(s, opened, joined, r)?;
             continue;
         }
-        if r.place <= BONDED {
-            return refuse(s, r);
+        if !r.place.follows_atom() {
+            return None;
         }
         if depth == 0 {
-            return refuse(s, r);
+            return None;
         }
         let here = r.atoms;
         let start = here.current;
-        let inner = read_run(s, i + 1, depth - 1, opened, joined, here);
+        let inner = read_run(s, r.next + 1, depth - 1, opened, joined, here)?;
         if inner.next == s.len() {
-            return refuse(s, inner);
+            return None;
         }
-        r = close_branch(s, inner, start);
+        r = close_branch(s, inner, start)?;
     }
-    r
+    Some(r)
 }
 
 // The atoms of a tail without digits whose atoms are capital letters and brackets, as most are: where no digit is asked for its atom, a branch
-// is no more than one step down and up again, and no run of its own. 0 where it is no such tail; then it may still be a tail.
-fn plain_atoms(s: &[u8]) -> u16
+// is no more than one step down and up again, and no run of its own. None where it is no such tail; then it may still be a tail.
+// `while`, since the step is a byte or a bracket: no `for` counts so.
+fn plain_atoms(s: &[u8]) -> Option<u16>
     requires { (1 ≤ length s.now) × (length s.now ≤ 255) }
-    ensures { 0 < result → result ≡ atoms_of_tail s.now }
+    ensures { IfSome result (λ n. n ≡ atoms_of_tail s.now) }
 {
-    let mut place = OPENING;
+    let mut place = Place::Opening;
     let mut depth = 0u32;
     let mut atoms = 0u16;
     let mut i = 0;
     while i < s.len() {
         let b = s[i];
         if is_capital(b) {
-            place = letter_place(b);
+            place = Place::Letter(b);
             atoms += 1;
             i += 1;
             continue;
         }
         if b == b'(' {
-            if place <= BONDED {
-                return 0;
+            if !place.follows_atom() {
+                return None;
             }
             if MAX_DEPTH <= depth {
-                return 0;
+                return None;
             }
-            place = OPENING;
+            place = Place::Opening;
             depth += 1;
             i += 1;
             continue;
         }
         if b == b')' {
-            if place <= BONDED {
-                return 0;
+            if !place.follows_atom() {
+                return None;
             }
             if depth == 0 {
-                return 0;
+                return None;
             }
-            place = CLOSED;
+            place = Place::Closed;
             depth -= 1;
             i += 1;
             continue;
         }
         if b == b'=' {
-            if place == BONDED {
-                return 0;
+            if place.follows_bond() {
+                return None;
             }
-            place = BONDED;
+            place = Place::Bonded;
             i += 1;
             continue;
         }
         if b != b'[' {
-            return 0;
+            return None;
         }
-        let Found::Next(next) = after_atom(s, i) else {
-            return 0;
-        };
-        place = WHOLE;
+        i = after_atom(s, i)?;
+        place = Place::Whole;
         atoms += 1;
-        i = next;
     }
-    if place <= BONDED {
-        return 0;
+    if !place.follows_atom() {
+        return None;
     }
     if depth != 0 {
-        return 0;
+        return None;
     }
-    atoms
+    Some(atoms)
 }
 
 // The number of atoms of a tail; 0 where the bytes are none.
+// No Option: the theorem of proofs/tail/Exactly speaks of `atoms_of_tail`, which is 0 of what is no tail.
 pub fn tail_atoms(s: &[u8]) -> u16
     ensures { result ≡ atoms_of_tail s.now }
 {
-    if s.len() == 0 {
+    if s.is_empty() {
         return 0;
     }
     if MAX_TAIL < s.len() {
@@ -366,28 +307,23 @@ pub fn tail_atoms(s: &[u8]) -> u16
     if is_one_letter(s) {
         return 1;
     }
-    let plain = plain_atoms(s);
-    if plain != 0 {
-        return plain;
+    if let Some(atoms) = plain_atoms(s) {
+        return atoms;
     }
     // made once and lent on: no digit is open, and none joined two atoms
     let mut opened = [0u8; 10];
     let mut joined = [0u8; 256];
-    let none = Atoms {
-        last: 0,
-        current: 0,
-        parent: 0,
+    let Some(r) = read_run(s, 0, MAX_DEPTH, &mut opened, &mut joined, NO_ATOMS) else {
+        return 0;
     };
-    let r = read_run(s, 0, MAX_DEPTH, &mut opened, &mut joined, none);
     if r.next < s.len() {
         return 0;
     }
-    if r.place <= BONDED {
+    if !r.place.follows_atom() {
         return 0;
     }
     if !none_open(&opened) {
         return 0;
     }
-    let counted = r.atoms;
-    counted.last as u16
+    u16::from(r.atoms.last)
 }

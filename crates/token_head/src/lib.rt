@@ -6,5 +6,5 @@
 pub mod opening;
 pub mod positions;
 
-pub use opening::{Branch, Start, Started, parse_carbons, read_opening};
+pub use opening::{Branch, Start, parse_carbons, read_opening};
 pub use positions::{parse_position_list, parse_ring_bonds};

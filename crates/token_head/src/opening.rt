@@ -5,7 +5,7 @@ ghost use Rattle.std.specs.Prelude.{◌≡◌, ◌≤◌, length};
 ghost use Rattle.chain_record.specs.plain.Chain.{max_groups};
 ghost use Rattle.token_head.specs.opening.Opening.{Word, Prefixed, branch_length, branch_offset, prefix_length, sphingoid_of, Opened, Starts, branched, start_chain, carbons_of};
 
-use chain_record::{ChainPrefix, Mod};
+use chain_record::{ChainPrefix, Mod, Refusal};
 use group_table::METHYL;
 
 // The branch word before the carbons.
@@ -170,21 +170,19 @@ pub struct Start {
     pub groups: usize,
 }
 
-// The start of a chain, or the number by which it is refused.
-#[derive(Clone, Copy)]
-pub enum Started {
-    Read(Start),
-    Refused(u16),
-}
-
 // A chain with a branch word: one carbon of those written is the methyl.
-fn branched_chain(prefix: ChainPrefix, offset: u16, written: u16, groups: &mut [u64]) -> Started
+fn branched_chain(
+    prefix: ChainPrefix,
+    offset: u16,
+    written: u16,
+    groups: &mut [u64],
+) -> Result<Start, Refusal>
     requires offset_bound { offset ≤ 2 }
     requires max_groups_in_bounds { max_groups ≤ length groups.old }
     ensures { Starts result groups.new (branched prefix offset written) }
 {
     if written < offset + 3 {
-        return Started::Refused(chain_record::UNREADABLE);
+        return Err(Refusal::Unreadable);
     }
     let carbon = written - 1;
     let methyl = Mod {
@@ -192,7 +190,7 @@ fn branched_chain(prefix: ChainPrefix, offset: u16, written: u16, groups: &mut [
         row: METHYL,
     };
     let count = chain_record::push_group(groups, 0, methyl);
-    Started::Read(Start {
+    Ok(Start {
         prefix,
         written,
         carbon,
@@ -202,13 +200,18 @@ fn branched_chain(prefix: ChainPrefix, offset: u16, written: u16, groups: &mut [
 }
 
 // The chain of so many written carbons, with its methyl.
-fn start_chain(prefix: ChainPrefix, branch: Branch, written: u16, groups: &mut [u64]) -> Started
+fn start_chain(
+    prefix: ChainPrefix,
+    branch: Branch,
+    written: u16,
+    groups: &mut [u64],
+) -> Result<Start, Refusal>
     requires { max_groups ≤ length groups.old }
     ensures { Starts result groups.new (start_chain prefix branch written) }
 {
     let offset = branch_offset(branch);
     match branch {
-        Branch::Straight => Started::Read(Start {
+        Branch::Straight => Ok(Start {
             prefix,
             written,
             carbon: written,
@@ -226,15 +229,15 @@ pub fn parse_carbons(
     prefix: ChainPrefix,
     branch: Branch,
     groups: &mut [u64],
-) -> Started
+) -> Result<Start, Refusal>
     requires { max_groups ≤ length groups.old }
     ensures { Starts result groups.new (carbons_of prefix branch text.now) }
 {
     let Some(n) = scanner::read_number(text, 4294967295) else {
-        return Started::Refused(chain_record::UNREADABLE);
+        return Err(Refusal::Unreadable);
     };
     if (chain_record::MAX_CARBONS as u64) < n {
-        return Started::Refused(chain_record::OVER_LIMIT);
+        return Err(Refusal::OverLimit);
     }
     start_chain(prefix, branch, n as u16, groups)
 }

@@ -6,7 +6,7 @@ ghost use Rattle.chain_record.specs.plain.Chain.{max_bonds};
 ghost use Rattle.chain_record.specs.parsed.Parsed.{Pushes, bonds_as};
 ghost use Rattle.token_head.specs.positions.Positions.{geometry_of, numbered, position_of, bond_list, ring_position, ring_bond_list};
 
-use chain_record::{DbPos, Geometry, Pushed};
+use chain_record::{DbPos, Geometry, Refusal};
 
 // What the last letter of a position states.
 fn geometry_of(b: u8) -> Geometry
@@ -61,9 +61,7 @@ fn read_position(s: &[u8]) -> Option<DbPos>
 fn read_ring_position(s: &[u8], start: u64, end: u64) -> Option<DbPos>
     ensures { result ≡ ring_position start end s.now }
 {
-    let Some(bond) = read_position(s) else {
-        return None;
-    };
+    let bond = read_position(s)?;
     let pos = bond.pos as u64;
     if pos < start {
         return None;
@@ -75,30 +73,36 @@ fn read_ring_position(s: &[u8], start: u64, end: u64) -> Option<DbPos>
 }
 
 // The double bonds that the list of a ring from `start` to `end` gives, after `count` others.
-pub fn parse_ring_bonds(s: &[u8], start: u64, end: u64, bonds: &mut [u64], count: usize) -> Pushed
+pub fn parse_ring_bonds(
+    s: &[u8],
+    start: u64,
+    end: u64,
+    bonds: &mut [u64],
+    count: usize,
+) -> Result<usize, Refusal>
     requires { max_bonds ≤ length bonds.old }
     ensures { Pushes bonds_as count bonds.old result bonds.new (ring_bond_list start end s.now) }
 {
     if s.len() == 0 {
-        return Pushed::Read(count);
+        return Ok(count);
     }
     let mut t = s;
     let mut so_far = count;
     loop {
         let n = scanner::find(t, b',');
         let Some(bond) = read_ring_position(&t[0..n], start, end) else {
-            return Pushed::Refused(chain_record::UNREADABLE);
+            return Err(Refusal::Unreadable);
         };
         so_far = chain_record::push_bond(bonds, so_far, bond);
         if n == t.len() {
-            return Pushed::Read(so_far);
+            return Ok(so_far);
         }
         t = &t[n + 1..];
     }
 }
 
 // The double bonds of the `(..)` list: every number that can be read is below 4,294,967,296, so none is out of range.
-pub fn parse_position_list(s: &[u8], bonds: &mut [u64], count: usize) -> Pushed
+pub fn parse_position_list(s: &[u8], bonds: &mut [u64], count: usize) -> Result<usize, Refusal>
     requires { max_bonds ≤ length bonds.old }
     ensures { Pushes bonds_as count bonds.old result bonds.new (bond_list s.now) }
 {

@@ -5,4 +5,4 @@
 mod seats;
 pub mod token;
 
-pub use token::{ReadToken, parse_token};
+pub use token::{ReadChain, parse_token};

@@ -17,7 +17,10 @@ fn is_free(used: &[bool], p: u16) -> bool
     ensures { result ≡ free (used_in used.now) p }
 {
     let at = p as usize;
-    !used[at] && !used[at - 1] && !used[at + 1]
+    if used[at] || used[at - 1] {
+        return false;
+    }
+    !used[at + 1]
 }
 
 // The first free seat from `from` up to, not including, `to`.

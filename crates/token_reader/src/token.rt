@@ -1,7 +1,7 @@
 // The token reader: one chain token, as lent bytes, to a chain, to 31 or to 11. Its double bonds, groups and rings are written to lent arrays,
 // and what is counted of them goes by value. Every byte string of every length has an answer, and it is the one that specs/token/Token.antt defines;
 // what is read holds the chain.
-ghost use Rattle.std.specs.Prelude.{◌≡◌, cond, true, false, ◌⊎◌, ◌≤◌, ◌-◌, length};
+ghost use Rattle.std.specs.Prelude.{◌≡◌, cond, true, false, ◌⊎◌, ◌≤◌, ◌-◌, length, IfSome};
 ghost use Rattle.chain_record.specs.plain.Chain.{max_carbons, max_bonds, max_groups, max_rings};
 ghost use Rattle.scanner.specs.scan.Number.{is_digit};
 ghost use Rattle.token_reader.specs.token.Token.{printable, all_printable, max_bytes, missing_of, finished, rest_of, listed_of, after_count, bonds_of, named_chain, trimmed_of, token_of};
@@ -10,10 +10,10 @@ ghost use Rattle.token_reader.specs.token.Short.{Numbered, HeadAt, Headed, SpotO
 
 use super::seats;
 use chain_record::{
-    ChainPrefix, Counted, Counts, DbPos, Geometry, MAX_BONDS, MAX_GROUPS, MAX_RINGS, Mod, Pushed,
+    ChainPrefix, Counts, DbPos, Geometry, MAX_BONDS, MAX_GROUPS, MAX_RINGS, Mod, Refusal,
 };
 use token_features::{Feature, Segment};
-use token_head::{Branch, Start, Started};
+use token_head::{Branch, Start};
 
 // The longest token.
 const MAX_BYTES: usize = 255;
@@ -85,24 +85,17 @@ pub struct Ending {
     pub counts: Counts,
 }
 
-// What is known from the bond count on, or the number by which the token is refused.
-#[derive(Clone, Copy)]
-pub enum Ended {
-    Read(Ending),
-    Refused(u16),
-}
-
 // What is judged after the segments.
-fn finish(missing: Option<u16>, counts: Counts) -> Ended
+fn finish(missing: Option<u16>, counts: Counts) -> Result<Ending, Refusal>
     ensures { Finishes counts result (finished missing) }
 {
     let Some(n) = missing else {
-        return Ended::Refused(chain_record::UNREADABLE);
+        return Err(Refusal::Unreadable);
     };
     if bare_oxygens(counts) {
-        return Ended::Refused(chain_record::UNREADABLE);
+        return Err(Refusal::Unreadable);
     }
-    Ended::Read(Ending {
+    Ok(Ending {
         unlocated: n,
         counts,
     })
@@ -117,7 +110,7 @@ fn parse_rest(
     groups: &mut [u64],
     rings: &mut [u64],
     counts: Counts,
-) -> Ended
+) -> Result<Ending, Refusal>
     requires max_bonds_in_bounds { max_bonds ≤ length bonds.old }
     requires max_groups_in_bounds { max_groups ≤ length groups.old }
     requires max_rings_in_bounds { max_rings ≤ length rings.old }
@@ -126,27 +119,18 @@ fn parse_rest(
     if s.len() == 0 {
         return finish(missing, counts);
     }
-    let read = token_segments::parse_segments(s, carbon, bonds, groups, rings, counts);
-    match read {
-        Counted::Refused(number) => Ended::Refused(number),
-        Counted::Read(more) => finish(missing, more),
-    }
+    let more = token_segments::parse_segments(s, carbon, bonds, groups, rings, counts)?;
+    finish(missing, more)
 }
 
 // The `(..)` list, and its count.
-fn parse_list(s: &[u8], bonds: &mut [u64], counts: Counts) -> Counted
+fn parse_list(s: &[u8], bonds: &mut [u64], counts: Counts) -> Result<Counts, Refusal>
     requires { max_bonds ≤ length bonds.old }
     ensures { ListIs s.now counts bonds.old result bonds.new }
 {
-    let listed = token_head::parse_position_list(s, bonds, counts.bonds);
-    match listed {
-        Pushed::Refused(number) => Counted::Refused(number),
-        Pushed::Read(count) => {
-            let mut more = counts;
-            more.bonds = count;
-            chain_record::check_counts(more)
-        }
-    }
+    let mut more = counts;
+    more.bonds = token_head::parse_position_list(s, bonds, counts.bonds)?;
+    chain_record::check_counts(more)
 }
 
 // What follows the `(` of the position list.
@@ -158,7 +142,7 @@ fn parse_listed(
     groups: &mut [u64],
     rings: &mut [u64],
     counts: Counts,
-) -> Ended
+) -> Result<Ending, Refusal>
     requires carbon_le_max_carbons { carbon ≤ max_carbons }
     requires max_bonds_in_bounds { max_bonds ≤ length bonds.old }
     requires max_groups_in_bounds { max_groups ≤ length groups.old }
@@ -167,16 +151,11 @@ fn parse_listed(
 {
     let n = scanner::find(s, b')');
     if n == s.len() {
-        return Ended::Refused(chain_record::UNREADABLE);
+        return Err(Refusal::Unreadable);
     }
-    let listed = parse_list(&s[0..n], bonds, counts);
-    match listed {
-        Counted::Refused(number) => Ended::Refused(number),
-        Counted::Read(more) => {
-            let missing = missing_bonds(carbon, bonds, more.bonds, declared);
-            parse_rest(missing, &s[n + 1..], carbon, bonds, groups, rings, more)
-        }
-    }
+    let more = parse_list(&s[0..n], bonds, counts)?;
+    let missing = missing_bonds(carbon, bonds, more.bonds, declared);
+    parse_rest(missing, &s[n + 1..], carbon, bonds, groups, rings, more)
 }
 
 // What follows the bond count: a position list straight after, or none.
@@ -188,7 +167,7 @@ fn parse_after_count(
     groups: &mut [u64],
     rings: &mut [u64],
     counts: Counts,
-) -> Ended
+) -> Result<Ending, Refusal>
     requires carbon_le_max_carbons { carbon ≤ max_carbons }
     requires bonds_le_max_bonds { counts.bonds ≤ max_bonds }
     requires max_bonds_in_bounds { max_bonds ≤ length bonds.old }
@@ -211,7 +190,7 @@ fn parse_bonds(
     groups: &mut [u64],
     rings: &mut [u64],
     counts: Counts,
-) -> Ended
+) -> Result<Ending, Refusal>
     requires carbon_le_max_carbons { carbon ≤ max_carbons }
     requires bonds_le_max_bonds { counts.bonds ≤ max_bonds }
     requires max_bonds_in_bounds { max_bonds ≤ length bonds.old }
@@ -221,7 +200,7 @@ fn parse_bonds(
 {
     let n = scanner::digit_run(s);
     let Some(declared) = scanner::read_digits(&s[0..n], 4294967295) else {
-        return Ended::Refused(chain_record::UNREADABLE);
+        return Err(Refusal::Unreadable);
     };
     parse_after_count(declared, &s[n..], carbon, bonds, groups, rings, counts)
 }
@@ -235,13 +214,6 @@ pub struct ReadChain {
     pub branched: bool,
     pub unlocated: u16,
     pub counts: Counts,
-}
-
-// What a token says: a chain, or the number by which it is refused.
-#[derive(Clone, Copy)]
-pub enum ReadToken {
-    Read(ReadChain),
-    Refused(u16),
 }
 
 // An empty chain.
@@ -264,24 +236,17 @@ fn empty_chain() -> ReadChain
 }
 
 // A chain that was started, with what was read from its bond count on.
-fn with_end(start: Start, ended: Ended) -> ReadToken
+fn with_end(start: Start, ended: Result<Ending, Refusal>) -> Result<ReadChain, Refusal>
     ensures { result ≡ ended_as start ended }
 {
-    match ended {
-        Ended::Refused(number) => ReadToken::Refused(number),
-        Ended::Read(ending) => {
-            let prefix = start.prefix;
-            let counts = ending.counts;
-            ReadToken::Read(ReadChain {
-                prefix,
-                written: start.written,
-                carbon: start.carbon,
-                branched: start.branched,
-                unlocated: ending.unlocated,
-                counts,
-            })
-        }
-    }
+    ended.map(|ending| ReadChain {
+        prefix: start.prefix,
+        written: start.written,
+        carbon: start.carbon,
+        branched: start.branched,
+        unlocated: ending.unlocated,
+        counts: ending.counts,
+    })
 }
 
 // A chain without branch word and prefix.
@@ -292,7 +257,7 @@ fn parse_named(
     bonds: &mut [u64],
     groups: &mut [u64],
     rings: &mut [u64],
-) -> ReadToken
+) -> Result<ReadChain, Refusal>
     requires max_bonds_in_bounds { max_bonds ≤ length bonds.old }
     requires max_groups_in_bounds { max_groups ≤ length groups.old }
     requires max_rings_in_bounds { max_rings ≤ length rings.old }
@@ -300,33 +265,33 @@ fn parse_named(
 {
     let n = scanner::find(s, b':');
     if n == s.len() {
-        return ReadToken::Refused(chain_record::UNREADABLE);
+        return Err(Refusal::Unreadable);
     }
-    let started = token_head::parse_carbons(&s[0..n], prefix, branch, groups);
-    match started {
-        Started::Refused(number) => ReadToken::Refused(number),
-        Started::Read(start) => {
-            let counts = Counts {
-                bonds: 0,
-                groups: start.groups,
-                rings: 0,
-                oxygens: 0,
-            };
-            let ended = parse_bonds(&s[n + 1..], start.carbon, bonds, groups, rings, counts);
-            with_end(start, ended)
-        }
-    }
+    let start = token_head::parse_carbons(&s[0..n], prefix, branch, groups)?;
+    let counts = Counts {
+        bonds: 0,
+        groups: start.groups,
+        rings: 0,
+        oxygens: 0,
+    };
+    let ended = parse_bonds(&s[n + 1..], start.carbon, bonds, groups, rings, counts);
+    with_end(start, ended)
 }
 
 // A trimmed token.
-fn parse_trimmed(t: &[u8], bonds: &mut [u64], groups: &mut [u64], rings: &mut [u64]) -> ReadToken
+fn parse_trimmed(
+    t: &[u8],
+    bonds: &mut [u64],
+    groups: &mut [u64],
+    rings: &mut [u64],
+) -> Result<ReadChain, Refusal>
     requires max_bonds_in_bounds { max_bonds ≤ length bonds.old }
     requires max_groups_in_bounds { max_groups ≤ length groups.old }
     requires max_rings_in_bounds { max_rings ≤ length rings.old }
     ensures { Tells result bonds.new groups.new rings.new (trimmed_of t.now) }
 {
     if scanner::same(t, b"0:0") {
-        return ReadToken::Read(empty_chain());
+        return Ok(empty_chain());
     }
     let opening = token_head::read_opening(t);
     let prefix = opening.prefix;
@@ -336,7 +301,12 @@ fn parse_trimmed(t: &[u8], bonds: &mut [u64], groups: &mut [u64], rings: &mut [u
 }
 
 // A token of at most 255 bytes, into arrays with room for all that it may say.
-fn read_any(s: &[u8], bonds: &mut [u64], groups: &mut [u64], rings: &mut [u64]) -> ReadToken
+fn read_any(
+    s: &[u8],
+    bonds: &mut [u64],
+    groups: &mut [u64],
+    rings: &mut [u64],
+) -> Result<ReadChain, Refusal>
     requires s_len_bound { length s.now ≤ max_bytes }
     requires max_bonds_in_bounds { max_bonds ≤ length bonds.old }
     requires max_groups_in_bounds { max_groups ≤ length groups.old }
@@ -344,29 +314,18 @@ fn read_any(s: &[u8], bonds: &mut [u64], groups: &mut [u64], rings: &mut [u64]) 
     ensures { Tells result bonds.new groups.new rings.new (token_of s.now) }
 {
     if !all_printable(s) {
-        return ReadToken::Refused(chain_record::OVER_LIMIT);
+        return Err(Refusal::OverLimit);
     }
     parse_trimmed(scanner::trim(s), bonds, groups, rings)
 }
 
-// What a token says that starts as nearly all do: its prefix, carbons and bond count, and where the rest starts (0: it starts otherwise).
+// What a token says that starts as nearly all do: its prefix, carbons and bond count, and where the rest starts.
 #[derive(Clone, Copy)]
 pub struct Head {
     pub prefix: ChainPrefix,
     pub carbon: u16,
     pub declared: u64,
     pub rest: usize,
-}
-
-fn no_head() -> Head
-    ensures { result.rest ≡ 0 }
-{
-    Head {
-        prefix: ChainPrefix::Acyl,
-        carbon: 0,
-        declared: 0,
-        rest: 0,
-    }
 }
 
 // What a digit says.
@@ -381,111 +340,85 @@ fn figure(b: u8) -> u32
 fn is_counted(t: &[u8]) -> bool
     ensures { result ≡ true → Numbered t.now }
 {
-    if t.len() < 4 {
-        return false;
-    }
-    if !scanner::is_digit(t[0]) {
-        return false;
-    }
-    if !scanner::is_digit(t[1]) {
-        return false;
-    }
-    if t[2] != b':' {
-        return false;
-    }
-    scanner::is_digit(t[3])
+    t.len() >= 4
+        && scanner::is_digit(t[0])
+        && scanner::is_digit(t[1])
+        && t[2] == b':'
+        && scanner::is_digit(t[3])
 }
 
 // Those, after a prefix of so many bytes.
-fn head_at(t: &[u8], prefix: ChainPrefix, at: usize) -> Head
+fn head_at(t: &[u8], prefix: ChainPrefix, at: usize) -> Option<Head>
     requires { at ≤ 1 }
-    ensures { (result.rest ≡ 0 → ⊥) → HeadAt t.now prefix at result }
+    ensures { IfSome result (λ h. HeadAt t.now prefix at h) }
 {
     if !is_counted(t) {
-        return no_head();
+        return None;
     }
     let ten = figure(t[0]);
     let one = figure(t[1]);
     let declared = figure(t[3]);
-    Head {
+    Some(Head {
         prefix,
         carbon: (ten * 10 + one) as u16,
         declared: declared as u64,
         rest: at + 4,
-    }
+    })
 }
 
 // The head of a token without prefix, or with a letter as prefix.
-fn read_head(s: &[u8]) -> Head
-    ensures { (result.rest ≡ 0 → ⊥) → Headed s.now result }
+fn read_head(s: &[u8]) -> Option<Head>
+    ensures { IfSome result (λ h. Headed s.now h) }
 {
     if s.len() < 2 {
-        return no_head();
+        return None;
     }
     if scanner::is_digit(s[0]) {
         return head_at(s, ChainPrefix::Acyl, 0);
     }
     if !scanner::is_digit(s[1]) {
-        return no_head();
+        return None;
     }
     let opening = token_head::read_opening(s);
-    let prefix = opening.prefix;
     if opening.carbons != 1 {
-        return no_head();
+        return None;
     }
-    head_at(&s[1..], prefix, 1)
+    head_at(&s[1..], opening.prefix, 1)
 }
 
-// A double bond of a list, as a number of `chain_record::codes`, and how many bytes it has (0: there is none, or it is written otherwise).
+// A double bond of a list, as a number of `chain_record::codes`, and how many bytes it has.
 #[derive(Clone, Copy)]
 pub struct Spot {
     pub code: u64,
     pub next: usize,
 }
 
-fn no_spot() -> Spot
-    ensures { result.next ≡ 0 }
-{
-    Spot { code: 0, next: 0 }
-}
-
 // A position with the large letter after it.
-fn lettered(pos: u32, b: u8, next: usize) -> Spot
-    ensures { (result.next ≡ 0 → ⊥) → SpotOf pos b next result }
+fn lettered(pos: u32, b: u8, next: usize) -> Option<Spot>
+    ensures { IfSome result (λ r. SpotOf pos b next r) }
 {
-    if b == b'Z' {
-        let code = chain_record::bond_code(DbPos {
-            pos,
-            geom: Geometry::Cis,
-        });
-        return Spot { code, next };
-    }
-    if b == b'E' {
-        let code = chain_record::bond_code(DbPos {
-            pos,
-            geom: Geometry::Trans,
-        });
-        return Spot { code, next };
-    }
-    no_spot()
+    let geom = match b {
+        b'Z' => Geometry::Cis,
+        b'E' => Geometry::Trans,
+        _ => return None,
+    };
+    let code = chain_record::bond_code(DbPos { pos, geom });
+    Some(Spot { code, next })
 }
 
 // One or two digits and a letter, with a byte behind them.
-fn read_spot(t: &[u8]) -> Spot
-    ensures { (result.next ≡ 0 → ⊥) → Spotted t.now result }
+fn read_spot(t: &[u8]) -> Option<Spot>
+    ensures { IfSome result (λ r. Spotted t.now r) }
 {
-    if t.len() < 3 {
-        return no_spot();
-    }
-    if !scanner::is_digit(t[0]) {
-        return no_spot();
+    if t.len() < 3 || !scanner::is_digit(t[0]) {
+        return None;
     }
     let first = figure(t[0]);
     if !scanner::is_digit(t[1]) {
         return lettered(first, t[1], 2);
     }
     if t.len() < 4 {
-        return no_spot();
+        return None;
     }
     let one = figure(t[1]);
     lettered(first * 10 + one, t[2], 3)
@@ -498,60 +431,46 @@ pub struct Listed {
     pub rest: usize,
 }
 
-fn not_listed() -> Listed
-    ensures { result ≡ record { count = 0; rest = 0 } }
-{
-    Listed { count: 0, rest: 0 }
-}
+// What is listed where nothing is.
+const NOTHING: Listed = Listed { count: 0, rest: 0 };
 
-// The list that follows a `(`, where each position is written as nearly all are (0: one is written otherwise).
-fn read_list(s: &[u8], bonds: &mut [u64]) -> Listed
+// The list that follows a `(`, where each position is written as nearly all are.
+fn read_list(s: &[u8], bonds: &mut [u64]) -> Option<Listed>
     requires { max_bonds ≤ length bonds.old }
-    ensures { (result.rest ≡ 0 → ⊥) → Listing s.now bonds.new result }
+    ensures { IfSome result (λ r. Listing s.now bonds.new r) }
 {
     let mut t = s;
-    let mut count = 0;
-    while count < MAX_BONDS {
-        let spot = read_spot(t);
+    for count in 0..MAX_BONDS {
+        let spot = read_spot(t)?;
         let n = spot.next;
-        if n == 0 {
-            return not_listed();
-        }
         bonds[count] = spot.code;
-        count += 1;
         if t[n] == b')' {
-            return Listed {
-                count,
+            return Some(Listed {
+                count: count + 1,
                 rest: s.len() - t.len() + n + 1,
-            };
+            });
         }
         if t[n] != b',' {
-            return not_listed();
+            return None;
         }
         t = &t[n + 1..];
     }
-    not_listed()
+    None
 }
 
-// The list straight after the bond count, or none.
-fn usual_list(u: &[u8], bonds: &mut [u64]) -> Listed
+// The list straight after the bond count.
+fn usual_list(u: &[u8], bonds: &mut [u64]) -> Option<Listed>
     requires { max_bonds ≤ length bonds.old }
-    ensures { Lists u.now bonds.new result }
+    ensures { IfSome result (λ r. Lists u.now bonds.new r) }
 {
-    if u.len() == 0 {
-        return not_listed();
+    if u.len() == 0 || u[0] != b'(' {
+        return None;
     }
-    if u[0] != b'(' {
-        return not_listed();
-    }
-    let read = read_list(&u[1..], bonds);
-    if read.rest == 0 {
-        return not_listed();
-    }
-    Listed {
+    let read = read_list(&u[1..], bonds)?;
+    Some(Listed {
         count: read.count,
         rest: read.rest + 1,
-    }
+    })
 }
 
 // Whether nothing or segments follow, without a space at their end.
@@ -561,52 +480,30 @@ fn may_follow(v: &[u8]) -> bool
     if v.len() == 0 {
         return true;
     }
-    if v[0] != b';' {
-        return false;
-    }
-    if v[v.len() - 1] == b' ' {
+    if v[0] != b';' || v[v.len() - 1] == b' ' {
         return false;
     }
     all_printable(v)
 }
 
 // Whether a byte is one of a part, whatever the form of its segment.
+#[tactic(auto, unfolding(crate::specs::token::Short::is_plain))]
 fn is_plain(b: u8) -> bool
     ensures { result ≡ is_plain b }
 {
-    if b < 48 {
-        return false;
-    }
-    if b > 122 {
-        return false;
-    }
-    if b == b';' {
-        return false;
-    }
-    if b == b'[' {
-        return false;
-    }
-    if b == b']' {
-        return false;
-    }
-    if b == b'c' {
-        return false;
-    }
-    true
+    matches!(b, b'0'..=b'z') && !matches!(b, b';' | b'[' | b']' | b'c')
 }
 
 // How many such bytes lead.
 fn plain_run(s: &[u8]) -> usize
     ensures { PlainRun s.now result }
 {
-    let mut i = 0;
-    while i < s.len() {
-        if !is_plain(s[i]) {
+    for (i, b) in s.iter().enumerate() {
+        if !is_plain(*b) {
             return i;
         }
-        i += 1;
     }
-    i
+    s.len()
 }
 
 // A position before an abbreviation, or a number of a ring, and how many digits it has.
@@ -616,216 +513,156 @@ pub struct Lead {
     pub length: usize,
 }
 
-// A position of at most two digits, before another byte; 0 where none stands.
-fn read_lead(t: &[u8]) -> Lead
-    ensures { Leads t.now result }
+// Where no position stands, it is 0.
+const NOWHERE: Lead = Lead { pos: 0, length: 0 };
+
+// A position of at most two digits, before another byte.
+fn read_lead(t: &[u8]) -> Option<Lead>
+    ensures { IfSome result (λ r. Leads t.now r) }
 {
-    if t.len() < 2 {
-        return Lead { pos: 0, length: 0 };
-    }
-    if !scanner::is_digit(t[0]) {
-        return Lead { pos: 0, length: 0 };
+    if t.len() < 2 || !scanner::is_digit(t[0]) {
+        return None;
     }
     let first = figure(t[0]);
     if !scanner::is_digit(t[1]) {
-        return Lead {
+        return Some(Lead {
             pos: first,
             length: 1,
-        };
+        });
     }
     let one = figure(t[1]);
-    Lead {
+    Some(Lead {
         pos: first * 10 + one,
         length: 2,
-    }
+    })
 }
 
-// A group or a ring of a segment, as a number of `chain_record::codes`, and how many bytes it has (0: there is none, or it is written otherwise).
+// A group or a ring of a segment, as a number of `chain_record::codes`, and how many bytes it has.
 #[derive(Clone, Copy)]
 pub struct Item {
     pub code: u64,
     pub next: usize,
 }
 
-fn no_item() -> Item
-    ensures { result.next ≡ 0 }
-{
-    Item { code: 0, next: 0 }
-}
-
 // A position, which may be missing, and the abbreviation of a group.
-fn read_item(t: &[u8]) -> Item
-    ensures { (result.next ≡ 0 → ⊥) → Itemed t.now result }
+fn read_item(t: &[u8]) -> Option<Item>
+    ensures { IfSome result (λ r. Itemed t.now r) }
 {
-    let lead = read_lead(t);
+    let lead = read_lead(t).unwrap_or(NOWHERE);
     let n = lead.length;
-    if n == t.len() {
-        return no_item();
-    }
-    if scanner::is_digit(t[n]) {
-        return no_item();
+    if n == t.len() || scanner::is_digit(t[n]) {
+        return None;
     }
     let m = plain_run(&t[n..]);
     if m == 0 {
-        return no_item();
+        return None;
     }
-    let feature = token_features::feature_of(&t[n..n + m]);
-    match feature {
-        Feature::Ring(_) => no_item(),
-        Feature::Group(row) => {
-            let code = chain_record::group_code(Mod { pos: lead.pos, row });
-            Item { code, next: n + m }
-        }
-        Feature::Other => no_item(),
-    }
+    let Feature::Group(row) = token_features::feature_of(&t[n..n + m]) else {
+        return None;
+    };
+    let code = chain_record::group_code(Mod { pos: lead.pos, row });
+    Some(Item { code, next: n + m })
 }
 
 // Whether a part ends at a byte.
 fn is_separator(b: u8) -> bool
     ensures { result ≡ true → (b ≡ 44) ⊎ (b ≡ 59) }
 {
-    if b == b',' {
-        return true;
-    }
-    b == b';'
+    matches!(b, b',' | b';')
 }
 
-// The segments, where each is a list of groups that is written as nearly all are: how many groups they give (0: one is written otherwise).
-fn read_groups(s: &[u8], groups: &mut [u64]) -> usize
+// The segments, where each is a list of groups that is written as nearly all are: how many groups they give.
+fn read_groups(s: &[u8], groups: &mut [u64]) -> Option<usize>
     requires { max_groups ≤ length groups.old }
-    ensures { (result ≡ 0 → ⊥) → Grouped s.now groups.new result }
+    ensures { IfSome result (λ n. Grouped s.now groups.new n) }
 {
-    if s.len() == 0 {
-        return 0;
-    }
-    if s[0] != b';' {
-        return 0;
+    if s.len() == 0 || s[0] != b';' {
+        return None;
     }
     let mut t = &s[1..];
-    let mut count = 0;
-    while count < MAX_GROUPS {
-        let item = read_item(t);
+    for count in 0..MAX_GROUPS {
+        let item = read_item(t)?;
         let n = item.next;
-        if n == 0 {
-            return 0;
-        }
         groups[count] = item.code;
-        count += 1;
         if n == t.len() {
-            return count;
+            return Some(count + 1);
         }
         if !is_separator(t[n]) {
-            return 0;
+            return None;
         }
         t = &t[n + 1..];
     }
-    0
+    None
 }
 
 // The size of a ring and the `]` behind it.
-fn read_size(t: &[u8], start: u32, end: u32, carbon: u16) -> Item
-    ensures { (result.next ≡ 0 → ⊥) → Sized start end carbon t.now result }
+fn read_size(t: &[u8], start: u32, end: u32, carbon: u16) -> Option<Item>
+    ensures { IfSome result (λ r. Sized start end carbon t.now r) }
 {
-    let size = read_lead(t);
+    let size = read_lead(t)?;
     let n = size.length;
-    if n == 0 {
-        return no_item();
-    }
-    if n == t.len() {
-        return no_item();
-    }
-    if t[n] != b']' {
-        return no_item();
+    if n == t.len() || t[n] != b']' {
+        return None;
     }
     let ring = token_features::ring_of(start as u64, end as u64, size.pos as u64, carbon);
     let Segment::Cycle(cycle) = ring else {
-        return no_item();
+        return None;
     };
-    Item {
+    Some(Item {
         code: chain_record::ring_code(cycle),
         next: n + 1,
-    }
+    })
 }
 
 // The last carbon of a ring, `cy` and what follows it.
-fn read_span(t: &[u8], start: u32, carbon: u16) -> Item
-    ensures { (result.next ≡ 0 → ⊥) → Spanned start carbon t.now result }
+fn read_span(t: &[u8], start: u32, carbon: u16) -> Option<Item>
+    ensures { IfSome result (λ r. Spanned start carbon t.now r) }
 {
-    let end = read_lead(t);
+    let end = read_lead(t)?;
     let n = end.length;
-    if n == 0 {
-        return no_item();
+    if t.len() < n + 2 || t[n] != b'c' || t[n + 1] != b'y' {
+        return None;
     }
-    if t.len() < n + 2 {
-        return no_item();
-    }
-    if t[n] != b'c' {
-        return no_item();
-    }
-    if t[n + 1] != b'y' {
-        return no_item();
-    }
-    let sized = read_size(&t[n + 2..], start, end.pos, carbon);
-    if sized.next == 0 {
-        return no_item();
-    }
-    Item {
+    let sized = read_size(&t[n + 2..], start, end.pos, carbon)?;
+    Some(Item {
         code: sized.code,
         next: n + 2 + sized.next,
-    }
+    })
 }
 
 // The first carbon of a ring, `-` and what follows it.
-fn read_bracket(t: &[u8], carbon: u16) -> Item
-    ensures { (result.next ≡ 0 → ⊥) → Enclosed carbon t.now result }
+fn read_bracket(t: &[u8], carbon: u16) -> Option<Item>
+    ensures { IfSome result (λ r. Enclosed carbon t.now r) }
 {
-    let start = read_lead(t);
+    let start = read_lead(t)?;
     let n = start.length;
-    if n == 0 {
-        return no_item();
+    if n == t.len() || t[n] != b'-' {
+        return None;
     }
-    if n == t.len() {
-        return no_item();
-    }
-    if t[n] != b'-' {
-        return no_item();
-    }
-    let span = read_span(&t[n + 1..], start.pos, carbon);
-    if span.next == 0 {
-        return no_item();
-    }
-    Item {
+    let span = read_span(&t[n + 1..], start.pos, carbon)?;
+    Some(Item {
         code: span.code,
         next: n + 1 + span.next,
-    }
+    })
 }
 
-// The ring in brackets that the first segment is, or none.
-fn first_ring(v: &[u8], carbon: u16, rings: &mut [u64]) -> Listed
+// The ring in brackets that the first segment is.
+fn first_ring(v: &[u8], carbon: u16, rings: &mut [u64]) -> Option<Listed>
     requires { max_rings ≤ length rings.old }
-    ensures { RingFirst carbon v.now rings.new result }
+    ensures { IfSome result (λ r. RingFirst carbon v.now rings.new r) }
 {
-    if v.len() < 2 {
-        return not_listed();
+    if v.len() < 2 || v[0] != b';' || v[1] != b'[' {
+        return None;
     }
-    if v[0] != b';' {
-        return not_listed();
-    }
-    if v[1] != b'[' {
-        return not_listed();
-    }
-    let ring = read_bracket(&v[2..], carbon);
-    if ring.next == 0 {
-        return not_listed();
-    }
+    let ring = read_bracket(&v[2..], carbon)?;
     rings[0] = ring.code;
-    Listed {
+    Some(Listed {
         count: 1,
         rest: ring.next + 2,
-    }
+    })
 }
 
-// A token that is written as nearly all are, up to its segments; where those start (0: it is written otherwise).
+// A token that is written as nearly all are, up to its segments, and where those start.
 #[derive(Clone, Copy)]
 pub struct Usual {
     pub prefix: ChainPrefix,
@@ -837,40 +674,21 @@ pub struct Usual {
     pub rest: usize,
 }
 
-fn not_usual() -> Usual
-    ensures { result.rest ≡ 0 }
-{
-    Usual {
-        prefix: ChainPrefix::Acyl,
-        carbon: 0,
-        declared: 0,
-        count: 0,
-        groups: 0,
-        rings: 0,
-        rest: 0,
-    }
-}
-
 // The head, the list, a ring and segments of groups. What was looked at here needs no look at its bytes and spaces before.
-fn read_usual(s: &[u8], bonds: &mut [u64], groups: &mut [u64], rings: &mut [u64]) -> Usual
+fn read_usual(s: &[u8], bonds: &mut [u64], groups: &mut [u64], rings: &mut [u64]) -> Option<Usual>
     requires s_len_bound { length s.now ≤ max_bytes }
     requires max_bonds_in_bounds { max_bonds ≤ length bonds.old }
     requires max_groups_in_bounds { max_groups ≤ length groups.old }
     requires max_rings_in_bounds { max_rings ≤ length rings.old }
-    ensures { (result.rest ≡ 0 → ⊥) → Starts s.now bonds.new groups.new rings.new result }
+    ensures { IfSome result (λ r. Starts s.now bonds.new groups.new rings.new r) }
 {
-    let head = read_head(s);
-    let from = head.rest;
-    if from == 0 {
-        return not_usual();
-    }
-    let u = &s[from..];
-    let listed = usual_list(u, bonds);
-    let n = listed.rest;
-    let v = &u[n..];
+    let head = read_head(s)?;
+    let u = &s[head.rest..];
+    let listed = usual_list(u, bonds).unwrap_or(NOTHING);
+    let v = &u[listed.rest..];
     let prefix = head.prefix;
     if v.len() == 0 {
-        return Usual {
+        return Some(Usual {
             prefix,
             carbon: head.carbon,
             declared: head.declared,
@@ -878,14 +696,12 @@ fn read_usual(s: &[u8], bonds: &mut [u64], groups: &mut [u64], rings: &mut [u64]
             groups: 0,
             rings: 0,
             rest: s.len(),
-        };
+        });
     }
-    let ring = first_ring(v, head.carbon, rings);
-    let m = ring.rest;
-    let x = &v[m..];
-    let k = read_groups(x, groups);
-    if k != 0 {
-        return Usual {
+    let ring = first_ring(v, head.carbon, rings).unwrap_or(NOTHING);
+    let x = &v[ring.rest..];
+    if let Some(k) = read_groups(x, groups) {
+        return Some(Usual {
             prefix,
             carbon: head.carbon,
             declared: head.declared,
@@ -893,31 +709,31 @@ fn read_usual(s: &[u8], bonds: &mut [u64], groups: &mut [u64], rings: &mut [u64]
             groups: k,
             rings: ring.count,
             rest: s.len(),
-        };
+        });
     }
     if !may_follow(x) {
-        return not_usual();
+        return None;
     }
-    Usual {
+    Some(Usual {
         prefix,
         carbon: head.carbon,
         declared: head.declared,
         count: listed.count,
         groups: 0,
         rings: ring.count,
-        rest: from + n + m,
-    }
+        rest: head.rest + listed.rest + ring.rest,
+    })
 }
 
 // A chain of which all is read.
-fn plain_chain(usual: Usual, missing: Option<u16>) -> ReadToken
+fn plain_chain(usual: Usual, missing: Option<u16>) -> Result<ReadChain, Refusal>
     ensures { Plain usual.prefix usual.carbon missing usual.count usual.groups usual.rings result }
 {
     let Some(n) = missing else {
-        return ReadToken::Refused(chain_record::UNREADABLE);
+        return Err(Refusal::Unreadable);
     };
     let prefix = usual.prefix;
-    ReadToken::Read(ReadChain {
+    Ok(ReadChain {
         prefix,
         written: usual.carbon,
         carbon: usual.carbon,
@@ -933,7 +749,7 @@ fn plain_chain(usual: Usual, missing: Option<u16>) -> ReadToken
 }
 
 // The same, where the bonds are yet to be seated: none are missing where all have a position.
-fn end_plain(usual: Usual, bonds: &[u64]) -> ReadToken
+fn end_plain(usual: Usual, bonds: &[u64]) -> Result<ReadChain, Refusal>
     requires carbon_le_max_carbons { usual.carbon ≤ max_carbons }
     requires count_in_bounds { usual.count ≤ length bonds.now }
     ensures { PlainIn usual.prefix usual.carbon usual.declared usual.count usual.groups usual.rings bonds.now result }
@@ -952,7 +768,7 @@ fn end_segments(
     bonds: &mut [u64],
     groups: &mut [u64],
     rings: &mut [u64],
-) -> ReadToken
+) -> Result<ReadChain, Refusal>
     requires carbon_le_max_carbons { usual.carbon ≤ max_carbons }
     requires count_le_max_bonds { usual.count ≤ max_bonds }
     requires groups_le_max_groups { usual.groups ≤ max_groups }
@@ -983,20 +799,24 @@ fn end_segments(
 }
 
 // A token, into arrays with room for all that it may say. Nearly every token starts in one way, and has no segments.
-fn read_token(s: &[u8], bonds: &mut [u64], groups: &mut [u64], rings: &mut [u64]) -> ReadToken
+fn read_token(
+    s: &[u8],
+    bonds: &mut [u64],
+    groups: &mut [u64],
+    rings: &mut [u64],
+) -> Result<ReadChain, Refusal>
     requires max_bonds_in_bounds { max_bonds ≤ length bonds.old }
     requires max_groups_in_bounds { max_groups ≤ length groups.old }
     requires max_rings_in_bounds { max_rings ≤ length rings.old }
     ensures { Tells result bonds.new groups.new rings.new (token_of s.now) }
 {
     if MAX_BYTES < s.len() {
-        return ReadToken::Refused(chain_record::OVER_LIMIT);
+        return Err(Refusal::OverLimit);
     }
-    let usual = read_usual(s, bonds, groups, rings);
-    let from = usual.rest;
-    if from == 0 {
+    let Some(usual) = read_usual(s, bonds, groups, rings) else {
         return read_any(s, bonds, groups, rings);
-    }
+    };
+    let from = usual.rest;
     if from == s.len() {
         return end_plain(usual, bonds);
     }
@@ -1004,17 +824,22 @@ fn read_token(s: &[u8], bonds: &mut [u64], groups: &mut [u64], rings: &mut [u64]
 }
 
 // The chain that a token says, its double bonds, groups and rings in lent arrays. Arrays with less room than the limits ask are refused by 31.
-pub fn parse_token(s: &[u8], bonds: &mut [u64], groups: &mut [u64], rings: &mut [u64]) -> ReadToken
+pub fn parse_token(
+    s: &[u8],
+    bonds: &mut [u64],
+    groups: &mut [u64],
+    rings: &mut [u64],
+) -> Result<ReadChain, Refusal>
     ensures { Tells result bonds.new groups.new rings.new (token_in (length bonds.old) (length groups.old) (length rings.old) s.now) }
 {
     if bonds.len() < MAX_BONDS {
-        return ReadToken::Refused(chain_record::OVER_LIMIT);
+        return Err(Refusal::OverLimit);
     }
     if groups.len() < MAX_GROUPS {
-        return ReadToken::Refused(chain_record::OVER_LIMIT);
+        return Err(Refusal::OverLimit);
     }
     if rings.len() < MAX_RINGS {
-        return ReadToken::Refused(chain_record::OVER_LIMIT);
+        return Err(Refusal::OverLimit);
     }
     read_token(s, bonds, groups, rings)
 }

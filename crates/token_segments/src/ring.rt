@@ -6,7 +6,7 @@ ghost use Rattle.chain_record.specs.plain.Chain.{max_bonds, max_rings};
 ghost use Rattle.token_segments.specs.ring.Ring.{ring_list, ring_listed, ring_bonds, ring_sized, ring_segment};
 ghost use Rattle.chain_record.specs.parsed.Parsed.{Collects, gather, ungrouped_as, on};
 
-use chain_record::{Counted, Counts, Pushed, Ring};
+use chain_record::{Counts, Refusal, Ring};
 use token_features::Segment;
 
 // A ring's list of at most n positions, and then the ring.
@@ -17,31 +17,24 @@ fn parse_ring_list(
     bonds: &mut [u64],
     rings: &mut [u64],
     counts: Counts,
-) -> Counted
+) -> Result<Counts, Refusal>
     requires max_bonds_in_bounds { max_bonds ≤ length bonds.old }
     requires max_rings_in_bounds { max_rings ≤ length rings.old }
     ensures { Collects ungrouped_as (gather counts bonds.old [] rings.old) result bonds.new [] rings.new (ring_list ring n list.now) }
 {
     if n < (token_syntax::position_count(list) as u64) {
-        return Counted::Refused(chain_record::UNREADABLE);
+        return Err(Refusal::Unreadable);
     }
-    let so_far = counts.bonds;
-    let listed = token_head::parse_ring_bonds(
+    let mut more = counts;
+    more.bonds = token_head::parse_ring_bonds(
         list,
         ring.start as u64,
         ring.end as u64,
         bonds,
-        so_far,
-    );
-    match listed {
-        Pushed::Refused(number) => Counted::Refused(number),
-        Pushed::Read(count) => {
-            let mut more = counts;
-            more.bonds = count;
-            more.rings = chain_record::push_ring(rings, more.rings, ring);
-            Counted::Read(more)
-        }
-    }
+        counts.bonds,
+    )?;
+    more.rings = chain_record::push_ring(rings, counts.rings, ring);
+    Ok(more)
 }
 
 // What follows the `(` of a ring's list.
@@ -52,13 +45,13 @@ fn parse_ring_listed(
     bonds: &mut [u64],
     rings: &mut [u64],
     counts: Counts,
-) -> Counted
+) -> Result<Counts, Refusal>
     requires max_bonds_in_bounds { max_bonds ≤ length bonds.old }
     requires max_rings_in_bounds { max_rings ≤ length rings.old }
     ensures { Collects ungrouped_as (gather counts bonds.old [] rings.old) result bonds.new [] rings.new (ring_listed ring n s.now) }
 {
     if !token_syntax::ends_in_parenthesis(s) {
-        return Counted::Refused(chain_record::UNREADABLE);
+        return Err(Refusal::Unreadable);
     }
     parse_ring_list(ring, n, &s[0..s.len() - 1], bonds, rings, counts)
 }
@@ -70,19 +63,19 @@ fn parse_ring_bond_count(
     bonds: &mut [u64],
     rings: &mut [u64],
     counts: Counts,
-) -> Counted
+) -> Result<Counts, Refusal>
     requires max_bonds_in_bounds { max_bonds ≤ length bonds.old }
     requires max_rings_in_bounds { max_rings ≤ length rings.old }
     ensures { Collects ungrouped_as (gather counts bonds.old [] rings.old) result bonds.new [] rings.new (ring_bonds ring s.now) }
 {
     let open = scanner::find(s, b'(');
     let Some(n) = token_syntax::ring_count(&s[0..open]) else {
-        return Counted::Refused(chain_record::UNREADABLE);
+        return Err(Refusal::Unreadable);
     };
     if open == s.len() {
         let mut more = counts;
         more.rings = chain_record::push_ring(rings, more.rings, ring);
-        return Counted::Read(more);
+        return Ok(more);
     }
     parse_ring_listed(ring, n, &s[open + 1..], bonds, rings, counts)
 }
@@ -96,17 +89,17 @@ fn parse_ring_size(
     bonds: &mut [u64],
     rings: &mut [u64],
     counts: Counts,
-) -> Counted
+) -> Result<Counts, Refusal>
     requires max_bonds_in_bounds { max_bonds ≤ length bonds.old }
     requires max_rings_in_bounds { max_rings ≤ length rings.old }
     ensures { Collects (on carbon ungrouped_as) (gather counts bonds.old [] rings.old) result bonds.new [] rings.new (ring_sized start end s.now) }
 {
     let colon = scanner::find(s, b':');
     let Some(size) = token_syntax::trimmed_number(&s[0..colon]) else {
-        return Counted::Refused(chain_record::UNREADABLE);
+        return Err(Refusal::Unreadable);
     };
     let Segment::Cycle(ring) = token_features::ring_of(start, end, size, carbon) else {
-        return Counted::Refused(chain_record::UNREADABLE);
+        return Err(Refusal::Unreadable);
     };
     parse_ring_bond_count(
         ring,
@@ -126,17 +119,17 @@ pub fn parse_ring_segment(
     bonds: &mut [u64],
     rings: &mut [u64],
     counts: Counts,
-) -> Counted
+) -> Result<Counts, Refusal>
     requires dash_lt_cy { (dash < cy) × (cy + 2 ≤ length s.now) }
     requires max_bonds_in_bounds { max_bonds ≤ length bonds.old }
     requires max_rings_in_bounds { max_rings ≤ length rings.old }
     ensures { Collects (on carbon ungrouped_as) (gather counts bonds.old [] rings.old) result bonds.new [] rings.new (ring_segment s.now dash cy) }
 {
     let Some(start) = token_syntax::trimmed_number(&s[0..dash]) else {
-        return Counted::Refused(chain_record::UNREADABLE);
+        return Err(Refusal::Unreadable);
     };
     let Some(end) = token_syntax::trimmed_number(&s[dash + 1..cy]) else {
-        return Counted::Refused(chain_record::UNREADABLE);
+        return Err(Refusal::Unreadable);
     };
     parse_ring_size(start, end, &s[cy + 2..], carbon, bonds, rings, counts)
 }

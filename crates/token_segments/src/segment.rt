@@ -7,7 +7,7 @@ ghost use Rattle.chain_record.specs.parsed.Parsed.{Grows, Pushes, Collects, firs
 ghost use Rattle.token_segments.specs.segment.Segment.{copies, many_times, with_segment, listed_at, plain_list, listed_feature, listed_segment, comma_parts, modification, segment_at, segments};
 
 use super::ring;
-use chain_record::{Counted, Counts, MAX_GROUPS, Mod, Pushed};
+use chain_record::{Counts, MAX_GROUPS, Mod, Refusal};
 use token_features::{Feature, Segment};
 use token_syntax::Form;
 
@@ -26,51 +26,43 @@ fn push_copies(group: Mod, n: u32, groups: &mut [u64], count: usize) -> usize
 }
 
 // Groups without a position. The counts are compared before any copy is made.
-fn push_repeated(row: u8, times: u32, groups: &mut [u64], count: usize) -> Pushed
+fn push_repeated(row: u8, times: u32, groups: &mut [u64], count: usize) -> Result<usize, Refusal>
     requires { max_groups ≤ length groups.old }
     ensures { Pushes groups_as count groups.old result groups.new (many_times times (record { pos = 0; row = row })) }
 {
     if MAX_GROUPS < count {
-        return Pushed::Refused(chain_record::OVER_LIMIT);
+        return Err(Refusal::OverLimit);
     }
     if MAX_GROUPS - count < (times as usize) {
-        return Pushed::Refused(chain_record::OVER_LIMIT);
+        return Err(Refusal::OverLimit);
     }
-    Pushed::Read(push_copies(Mod { pos: 0, row }, times, groups, count))
+    Ok(push_copies(Mod { pos: 0, row }, times, groups, count))
 }
 
 // What a piece of a segment adds.
-fn add_segment(segment: Segment, groups: &mut [u64], rings: &mut [u64], counts: Counts) -> Counted
+fn add_segment(
+    segment: Segment,
+    groups: &mut [u64],
+    rings: &mut [u64],
+    counts: Counts,
+) -> Result<Counts, Refusal>
     requires max_groups_in_bounds { max_groups ≤ length groups.old }
     requires max_rings_in_bounds { max_rings ≤ length rings.old }
     ensures { Collects unbonded_as (gather counts [] groups.old rings.old) result [] groups.new rings.new (with_segment segment) }
 {
     let mut more = counts;
     match segment {
-        Segment::Cycle(ring) => {
-            more.rings = chain_record::push_ring(rings, counts.rings, ring);
-            Counted::Read(more)
-        }
+        Segment::Cycle(ring) => more.rings = chain_record::push_ring(rings, counts.rings, ring),
         Segment::Located(group) => {
             more.groups = chain_record::push_group(groups, counts.groups, group);
-            Counted::Read(more)
         }
         Segment::Repeated { row, times } => {
-            let pushed = push_repeated(row, times, groups, counts.groups);
-            match pushed {
-                Pushed::Refused(number) => Counted::Refused(number),
-                Pushed::Read(count) => {
-                    more.groups = count;
-                    Counted::Read(more)
-                }
-            }
+            more.groups = push_repeated(row, times, groups, counts.groups)?;
         }
-        Segment::Oxygens(n) => {
-            more.oxygens = n;
-            Counted::Read(more)
-        }
-        Segment::Unreadable => Counted::Refused(chain_record::UNREADABLE),
+        Segment::Oxygens(n) => more.oxygens = n,
+        Segment::Unreadable => return Err(Refusal::Unreadable),
     }
+    Ok(more)
 }
 
 // A feature at one position of a list.
@@ -81,7 +73,7 @@ fn parse_plain_position(
     groups: &mut [u64],
     rings: &mut [u64],
     counts: Counts,
-) -> Counted
+) -> Result<Counts, Refusal>
     requires max_groups_in_bounds { max_groups ≤ length groups.old }
     requires max_rings_in_bounds { max_rings ≤ length rings.old }
     ensures { Collects (on carbon unbonded_as) (gather counts [] groups.old rings.old) result [] groups.new rings.new (listed_at feature s.now) }
@@ -98,26 +90,22 @@ fn parse_plain_position_list(
     groups: &mut [u64],
     rings: &mut [u64],
     counts: Counts,
-) -> Counted
+) -> Result<Counts, Refusal>
     requires max_groups_in_bounds { max_groups ≤ length groups.old }
     requires max_rings_in_bounds { max_rings ≤ length rings.old }
     ensures { Collects (on carbon unbonded_as) (gather counts [] groups.old rings.old) result [] groups.new rings.new (plain_list feature s.now) }
 {
     if s.len() == 0 {
-        return Counted::Read(counts);
+        return Ok(counts);
     }
     let mut t = s;
     let mut so_far = counts;
     loop {
         let n = scanner::find(t, b',');
-        let read = parse_plain_position(&t[0..n], feature, carbon, groups, rings, so_far);
-        let Counted::Read(more) = read else {
-            return read;
-        };
+        so_far = parse_plain_position(&t[0..n], feature, carbon, groups, rings, so_far)?;
         if n == t.len() {
-            return read;
+            return Ok(so_far);
         }
-        so_far = more;
         t = &t[n + 1..];
     }
 }
@@ -130,7 +118,7 @@ fn parse_listed_feature(
     groups: &mut [u64],
     rings: &mut [u64],
     counts: Counts,
-) -> Counted
+) -> Result<Counts, Refusal>
     requires max_groups_in_bounds { max_groups ≤ length groups.old }
     requires max_rings_in_bounds { max_rings ≤ length rings.old }
     ensures { Collects (on carbon unbonded_as) (gather counts [] groups.old rings.old) result [] groups.new rings.new (listed_feature feature list.now) }
@@ -140,7 +128,7 @@ fn parse_listed_feature(
         Feature::Group(_) => parse_plain_position_list(
             list, feature, carbon, groups, rings, counts,
         ),
-        Feature::Other => Counted::Refused(chain_record::UNREADABLE),
+        Feature::Other => Err(Refusal::Unreadable),
     }
 }
 
@@ -152,13 +140,13 @@ fn parse_listed_segment(
     groups: &mut [u64],
     rings: &mut [u64],
     counts: Counts,
-) -> Counted
+) -> Result<Counts, Refusal>
     requires max_groups_in_bounds { max_groups ≤ length groups.old }
     requires max_rings_in_bounds { max_rings ≤ length rings.old }
     ensures { Collects (on carbon unbonded_as) (gather counts [] groups.old rings.old) result [] groups.new rings.new (listed_segment abbr.now s.now) }
 {
     if !token_syntax::ends_in_parenthesis(s) {
-        return Counted::Refused(chain_record::UNREADABLE);
+        return Err(Refusal::Unreadable);
     }
     let feature = token_features::feature_of(abbr);
     parse_listed_feature(feature, &s[0..s.len() - 1], carbon, groups, rings, counts)
@@ -171,7 +159,7 @@ fn parse_parts(
     groups: &mut [u64],
     rings: &mut [u64],
     counts: Counts,
-) -> Counted
+) -> Result<Counts, Refusal>
     requires max_groups_in_bounds { max_groups ≤ length groups.old }
     requires max_rings_in_bounds { max_rings ≤ length rings.old }
     ensures { Collects (on carbon unbonded_as) (gather counts [] groups.old rings.old) result [] groups.new rings.new (comma_parts s.now) }
@@ -181,14 +169,10 @@ fn parse_parts(
     loop {
         let n = scanner::find(t, b',');
         let segment = token_features::read_part(&t[0..n], carbon);
-        let read = add_segment(segment, groups, rings, so_far);
-        let Counted::Read(more) = read else {
-            return read;
-        };
+        so_far = add_segment(segment, groups, rings, so_far)?;
         if n == t.len() {
-            return read;
+            return Ok(so_far);
         }
-        so_far = more;
         t = &t[n + 1..];
     }
 }
@@ -201,7 +185,7 @@ fn parse_modification_segment(
     groups: &mut [u64],
     rings: &mut [u64],
     counts: Counts,
-) -> Counted
+) -> Result<Counts, Refusal>
     requires max_bonds_in_bounds { max_bonds ≤ length bonds.old }
     requires max_groups_in_bounds { max_groups ≤ length groups.old }
     requires max_rings_in_bounds { max_rings ≤ length rings.old }
@@ -232,7 +216,7 @@ fn parse_segment(
     groups: &mut [u64],
     rings: &mut [u64],
     counts: Counts,
-) -> Counted
+) -> Result<Counts, Refusal>
     requires max_bonds_in_bounds { max_bonds ≤ length bonds.old }
     requires max_groups_in_bounds { max_groups ≤ length groups.old }
     requires max_rings_in_bounds { max_rings ≤ length rings.old }
@@ -240,12 +224,9 @@ fn parse_segment(
 {
     let text = token_syntax::segment_text(s);
     if text.len() == 0 {
-        return Counted::Read(counts);
+        return Ok(counts);
     }
-    let read = parse_modification_segment(text, carbon, bonds, groups, rings, counts);
-    let Counted::Read(more) = read else {
-        return read;
-    };
+    let more = parse_modification_segment(text, carbon, bonds, groups, rings, counts)?;
     chain_record::check_counts(more)
 }
 
@@ -257,7 +238,7 @@ pub fn parse_segments(
     groups: &mut [u64],
     rings: &mut [u64],
     counts: Counts,
-) -> Counted
+) -> Result<Counts, Refusal>
     requires max_bonds_in_bounds { max_bonds ≤ length bonds.old }
     requires max_groups_in_bounds { max_groups ≤ length groups.old }
     requires max_rings_in_bounds { max_rings ≤ length rings.old }
@@ -269,14 +250,10 @@ pub fn parse_segments(
         let segment = scanner::next_segment(cursor, at);
         let from = segment.from;
         let to = segment.to;
-        let read = parse_segment(&cursor[from..to], carbon, bonds, groups, rings, so_far);
-        let Counted::Read(more) = read else {
-            return read;
-        };
+        so_far = parse_segment(&cursor[from..to], carbon, bonds, groups, rings, so_far)?;
         if to == cursor.len() {
-            return read;
+            return Ok(so_far);
         }
-        so_far = more;
         at = segment.next;
     }
 }

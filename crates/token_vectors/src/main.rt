@@ -8,7 +8,6 @@ use chain_record::{
     Bridge, ChainPrefix, DbPos, GROUP_ROOM, Geometry, MAX_BONDS, MAX_RINGS, Mod, ParsedChain, Ring,
 };
 use std::io::Read;
-use token_reader::ReadToken;
 
 // One byte past the longest token: a longer line answers as its first 256 bytes do.
 const LINE: usize = 256;
@@ -146,11 +145,11 @@ fn put_answer(out: &mut [u8], token: &[u8]) -> usize {
     let mut rings = [0u64; MAX_RINGS];
     let read = token_reader::parse_token(token, &mut bonds, &mut groups, &mut rings);
     match read {
-        ReadToken::Refused(number) => {
-            let p = writer::put_number(out, 0, number as u32);
+        Err(refusal) => {
+            let p = writer::put_number(out, 0, u16::from(refusal) as u32);
             writer::put_byte(out, p, b'\n')
         }
-        ReadToken::Read(said) => {
+        Ok(said) => {
             let prefix = said.prefix;
             let counts = said.counts;
             let chain = ParsedChain {

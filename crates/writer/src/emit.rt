@@ -2,6 +2,7 @@
 // same functions measure on an empty part and write on the real one. Lists of elements are written here, a text as one of bytes. Each is
 // defined for every slice, place and list; the place stays at the largest number that it can hold. What a slice holds afterwards is said by
 // `Written` of specs/store/Text.antt.
+ghost use Rattle.std.specs.Prelude.{◌+◌, ◌≤◌, length, replicate};
 ghost use Rattle.writer.specs.store.Text.{Written};
 
 use super::store::put;
@@ -30,6 +31,41 @@ pub fn put_all<T: Copy>(out: &mut [T], at: usize, xs: &[T]) -> usize
     let end = at + xs.len();
     out[at..end].copy_from_slice(xs);
     end
+}
+
+// One element so many times, one by one, where some may fall past the end.
+fn repeat_each<T: Copy>(out: &mut [T], at: usize, x: T, n: usize) -> usize
+    ensures { Written out.old at (replicate n x) out.new result }
+{
+    let mut p = at;
+    for _ in 0..n {
+        p = put(out, p, x);
+    }
+    p
+}
+
+// One element so many times, where there is room for all of them.
+fn fill_same<T: Copy>(out: &mut [T], at: usize, x: T, n: usize) -> usize
+    requires { at + n ≤ length out.old }
+    ensures { Written out.old at (replicate n x) out.new result }
+{
+    for i in 0..n {
+        out[at + i] = x;
+    }
+    at + n
+}
+
+// One element so many times: one look at the end where there is room for all of them.
+pub fn put_same<T: Copy>(out: &mut [T], at: usize, x: T, n: usize) -> usize
+    ensures { Written out.old at (replicate n x) out.new result }
+{
+    if out.len() < at {
+        return repeat_each(out, at, x, n);
+    }
+    if out.len() - at < n {
+        return repeat_each(out, at, x, n);
+    }
+    fill_same(out, at, x, n)
 }
 
 // A text.

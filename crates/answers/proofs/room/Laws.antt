@@ -11,6 +11,8 @@ use borrow.Author.Tests.{ltb-false, lt-ltb, le-ltb}
 use Rattle.writer.specs.emit.Text.{after}
 use Rattle.chain_rules.proofs.chain.Lists.{or_left, or_right}
 use Rattle.chain_record.specs.plain.Chain.{Chain}
+use Rattle.drawn_chain.specs.declared.drawable.Shape.{Shape}
+use Rattle.placement.specs.declared.chain_notes.Placed.{Placed}
 use Rattle.drawn_chain.specs.drawable.Chains.{Chains}
 use Rattle.request_chains.specs.chain_shapes.Shapes.{chains_kept}
 use Rattle.template_rules.specs.declared.Class.{Class}
@@ -52,7 +54,7 @@ module _ (c : Class) (swap : Bool) (t : List ℕ) (ds : List Chain) where
 -- ---- a line that is measured
 
 -- there is room for the indices and rows of four chains
-module _ {c : Class} {t : List ℕ} {k : ℕ} {x : Chains} {vs ns rs os : List ℕ} (n : length ns ≡ 1020) (m : length rs ≡ 64) where
+module _ {c : Class} {t : List ℕ} {k : ℕ} {x : Chains} {vs ns rs : List ℕ} {os : List Placed} (n : length ns ≡ 1020) (m : length rs ≡ 64) where
   ready-writes : (ds : List Chain) → Ready c t k x ds → Writes c t k x (rooms vs ns rs os) ds
   ready-writes ds w =
       record { own = w.own; told = w.told; room = record { index = omega (arith, n, w.index, w.tokens); rows = omega (arith, m, w.rows, w.tokens) } }
@@ -60,7 +62,7 @@ module _ {c : Class} {t : List ℕ} {k : ℕ} {x : Chains} {vs ns rs os : List �
   pub readied-writable : Readied c t k x → Writable c t k x (rooms vs ns rs os)
   readied-writable w = record { chains = w.chains; writes = ready-writes w.chains w.ready }
 
-module _ {c : Class} {swap : Bool} {t : List ℕ} {k : ℕ} {x : Chains} {vs zs ns js rs ss os ps : List ℕ} {r : Line} where
+module _ {c : Class} {swap : Bool} {t : List ℕ} {k : ℕ} {x : Chains} {vs zs ns js rs ss : List ℕ} {os ps : List Placed} {r : Line} where
   measured : LineBuilt c swap t k x (rooms vs ns rs os) (rooms zs js ss ps) r → length ns ≡ 1020 → length rs ≡ 64 → (ds : List Chain) → Ready c t k x ds
       → LineIs c swap t ds (rooms vs ns rs os) (rooms zs js ss ps) r
   measured h n m ds w = h.line ds (ready-writes n m ds w)
@@ -81,7 +83,7 @@ module _ {c : Class} {swap : Bool} {t : List ℕ} {k : ℕ} {x : Chains} {vs zs 
 
 -- ---- slices that are long enough for any line with such chains
 
-pub ample : {t : List ℕ} {k count : ℕ} {ns : List ℕ} {r n m : ℕ} → Covered t k count ns r → 1020 ≤ m → r ≤ n → Ample t k count ns n m
+pub ample : {t : List ℕ} {k count : ℕ} {ns : List Shape} {r n m : ℕ} → Covered t k count ns r → 1020 ≤ m → r ≤ n → Ample t k count ns n m
 ample {t} {n = n} {m} h e f =
     record {
       long = λ c swap l ds w.
@@ -89,9 +91,9 @@ ample {t} {n = n} {m} h e f =
     }
 
 -- for any with chains of which none is long
-pub slight-ample : {t : List ℕ} {k count : ℕ} {ns : List ℕ} {b : Bool} {r n m : ℕ} → SlightCovered 30 t k r → (b ≡ true → Slight 30 count ns) → b ≡ true → 1020 ≤ m → r ≤ n
+pub slight-ample : {t : List ℕ} {k count : ℕ} {ns : List Shape} {b : Bool} {r n m : ℕ} → SlightCovered 30 t k r → (b ≡ true → Slight 30 count ns) → b ≡ true → 1020 ≤ m → r ≤ n
     → Ample t k count ns n m
 slight-ample {count = count} {ns} h g q e f = ample (h.covers count ns (g q)) e f
 
-pub not_short : {c : Class} {swap : Bool} {t : List ℕ} {k count : ℕ} {ns : List ℕ} {n m : ℕ} (l : List ℕ) → Ample t k count ns n m → ShortIs c swap t k (chains_kept count ns l) n m false
+pub not_short : {c : Class} {swap : Bool} {t : List ℕ} {k count : ℕ} {ns : List Shape} {n m : ℕ} (l : List ℕ) → Ample t k count ns n m → ShortIs c swap t k (chains_kept count ns l) n m false
 not_short {c} {swap} l h = record { is = λ ds w. sym (h.long c swap l ds w) }

@@ -1,6 +1,7 @@
 -- A request that is ready to be drawn, and whether its slices have room. Assumes nothing.
 use Rattle.std.specs.Prelude.{ℕ, ◌*◌, ◌≤◌, ◌≡◌, Bool, true, false, List, length}
 use Rattle.chain_record.specs.plain.Chain.{Chain}
+use Rattle.drawn_chain.specs.declared.drawable.Shape.{Shape}
 use Rattle.drawn_chain.specs.drawable.Chains.{Chains}
 use Rattle.request_chains.specs.chain_shapes.Shapes.{chains_kept}
 use Rattle.template_rules.specs.declared.Class.{Class}
@@ -31,9 +32,9 @@ pub record Readied (c : Class) (t : List ℕ) (k : ℕ) (x : Chains) : Type 0 wh
 pub record ShortIs (c : Class) (swap : Bool) (t : List ℕ) (k : ℕ) (x : Chains) (line index : ℕ) (r : Bool) : Type 0 where
   pub is : (ds : List Chain) → Ready c t k x ds → r ≡ short c swap t ds line index
 
--- no slice is too short for any chains that have these numbers, in any class
-pub record Ample (t : List ℕ) (k count : ℕ) (ns : List ℕ) (line index : ℕ) : Type 0 where
-  pub long : (c : Class) (swap : Bool) (l : List ℕ) (ds : List Chain) → Ready c t k (chains_kept count ns l) ds → short c swap t ds line index ≡ false
+-- no slice is too short for any chains that have these shapes, in any class
+pub record Ample (t : List ℕ) (k count : ℕ) (xs : List Shape) (line index : ℕ) : Type 0 where
+  pub long : (c : Class) (swap : Bool) (l : List ℕ) (ds : List Chain) → Ready c t k (chains_kept count xs l) ds → short c swap t ds line index ≡ false
 
-abbrev pub AmpleIf : Bool → List ℕ → ℕ → ℕ → List ℕ → ℕ → ℕ → Type 0
-AmpleIf b t k count ns line index = b ≡ true → Ample t k count ns line index
+abbrev pub AmpleIf : Bool → List ℕ → ℕ → ℕ → List Shape → ℕ → ℕ → Type 0
+AmpleIf b t k count xs line index = b ≡ true → Ample t k count xs line index

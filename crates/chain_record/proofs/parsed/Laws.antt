@@ -10,9 +10,6 @@ use lib.ListN.{length, take, set, length-append}
 use lib.Seq.{take-suc-set, take_all, take-append-le}
 use lib.Dec.{ltb}
 use borrow.Author.Tests.{lt-ltb, le-ltb, ltb-true, ltb-false}
-use denote.Enum.Declared.{tag_of}
-use types.Run.{OneOf, miss}
-use Rattle.chain_record.specs.contracts.parsed.Counted.{the_type}
 use Rattle.chain_record.specs.declared.plain.ChainPrefix.{ChainPrefix}
 use Rattle.chain_record.specs.declared.plain.DbPos.{DbPos}
 use Rattle.chain_record.specs.declared.plain.Mod.{Mod}
@@ -22,8 +19,10 @@ use Rattle.chain_record.specs.codes.Codes.{bond_in, group_in, ring_in, bond_code
 use Rattle.chain_record.proofs.codes.Laws.{bond-back, group-back, ring-back}
 use Rattle.chain_record.specs.declared.parsed.ParsedChain.{ParsedChain}
 use Rattle.chain_record.specs.declared.parsed.Counts.{Counts}
-use Rattle.chain_record.specs.declared.parsed.Counted.{Counted}
-use Rattle.chain_record.specs.declared.parsed.Counted.TheVariants.{Read as Counted-as-Read, Refused as Counted-as-Refused}
+use Rattle.std.specs.Prelude.{Result, Ok, Err}
+use Rattle.std.specs.Result.{IsErrAnd}
+use Rattle.chain_record.specs.declared.refusal.Refusal.{Refusal}
+use Rattle.chain_record.specs.declared.refusal.Refusal.TheVariants.{OverLimit}
 use Rattle.chain_record.specs.parsed.Parsed.{Keeps, Holds, Answer, Has, Refuses, answered, Stands, Takes, Gives, first, bonds_as, groups_as, rings_as, counts_as, gather, all_as, ungrouped_as, unbonded_as, carbon_as, on, Grows, Fills, counted, Judges, Collects, checked}
 
 -- ---- one element more in an array
@@ -116,19 +115,19 @@ holds-none p w c b bs gs rs =
 -- ---- the counts after a list or a segment
 
 module _ (c : Counts) where
-  pub bonds-many : 32 < c.bonds → Counted-as-Refused 31 ≡ checked c
+  pub bonds-many : 32 < c.bonds → Err OverLimit ≡ checked c
   unfolding checked
   bonds-many h = rw (lt-ltb max_bonds c.bonds h)
 
-  pub groups-many : c.bonds ≤ 32 → 16 < c.groups → Counted-as-Refused 31 ≡ checked c
+  pub groups-many : c.bonds ≤ 32 → 16 < c.groups → Err OverLimit ≡ checked c
   unfolding checked
   groups-many b h = rw (le-ltb max_bonds c.bonds b, lt-ltb max_groups c.groups h)
 
-  pub rings-many : c.bonds ≤ 32 → c.groups ≤ 16 → 8 < c.rings → Counted-as-Refused 31 ≡ checked c
+  pub rings-many : c.bonds ≤ 32 → c.groups ≤ 16 → 8 < c.rings → Err OverLimit ≡ checked c
   unfolding checked
   rings-many b g h = rw (le-ltb max_bonds c.bonds b, le-ltb max_groups c.groups g, lt-ltb max_rings c.rings h)
 
-  pub none-many : c.bonds ≤ 32 → c.groups ≤ 16 → c.rings ≤ 8 → Counted-as-Read c ≡ checked c
+  pub none-many : c.bonds ≤ 32 → c.groups ≤ 16 → c.rings ≤ 8 → Ok c ≡ checked c
   unfolding checked
   none-many b g r = rw (le-ltb max_bonds c.bonds b, le-ltb max_groups c.groups g, le-ltb max_rings c.rings r)
 
@@ -154,7 +153,7 @@ checked-judges c =
     }
   where
     go : (x : ParsedChain) (d : Chain) → Holds (counts_as x c) d → (a b e : Bool)
-        → Stands (answered (counts_as x) (counted (cond a (Counted-as-Refused 31) (cond b (Counted-as-Refused 31) (cond e (Counted-as-Refused 31) (Counted-as-Read c))))))
+        → Stands (answered (counts_as x) (counted (cond a (Err OverLimit) (cond b (Err OverLimit) (cond e (Err OverLimit) (Ok c))))))
         (cond a (Refused 31) (cond b (Refused 31) (cond e (Refused 31) (Read d))))
     go x d k true b e = refl
     go x d k false true e = refl
@@ -162,11 +161,11 @@ checked-judges c =
     go x d k false false false = k
 
 -- counts that pass are within the limits, and are those that were checked
-pub checked-read : (c k : Counts) → Counted-as-Read k ≡ checked c → (k ≡ c) × (k.bonds ≤ max_bonds)
+pub checked-read : (c k : Counts) → Ok k ≡ checked c → (k ≡ c) × (k.bonds ≤ max_bonds)
 unfolding checked
 checked-read c k e = go (ltb max_bonds c.bonds) (ltb max_groups c.groups) (ltb max_rings c.rings) refl e
   where
-    go : (a b r : Bool) → ltb max_bonds c.bonds ≡ a → Counted-as-Read k ≡ cond a (Counted-as-Refused 31) (cond b (Counted-as-Refused 31) (cond r (Counted-as-Refused 31) (Counted-as-Read c))) → (k ≡ c) × (k.bonds ≤ max_bonds)
+    go : (a b r : Bool) → ltb max_bonds c.bonds ≡ a → Ok k ≡ cond a (Err OverLimit) (cond b (Err OverLimit) (cond r (Err OverLimit) (Ok c))) → (k ≡ c) × (k.bonds ≤ max_bonds)
     go true b r t e = let z : ◌≡◌ {A = ℕ} 0 1 = cc in absurd (omega arith)
     go false true r t e = let z : ◌≡◌ {A = ℕ} 0 1 = cc in absurd (omega arith)
     go false false true t e = let z : ◌≡◌ {A = ℕ} 0 1 = cc in absurd (omega arith)
@@ -197,13 +196,10 @@ stands-then : (c : ParsedChain) (q : Answer ParsedChain) (o : Outcome) (g : Chai
 stands-then c q (Read d) g w v = v.stands d w
 stands-then c q (Refused n) g w v = absurd w
 
--- an answer of the code whose variant is not the first is a refusal
-abbrev pub NotRead : Counted → Type 0
-NotRead r = OneOf (1 ∷ []) (tag_of the_type r)
-
-pub not-read : (r : Counted) → NotRead r → (n : ℕ) × (r ≡ Counted-as-Refused n)
-not-read (Counted-as-Read k) t = absurd (miss (1 ∷ []) 0 tt t)
-not-read (Counted-as-Refused n) t = (n, refl)
+-- what `?` passes on is the refusal that it met
+pub err_kept : {T : Type 0} (r : Result T Refusal) (m : Refusal) → IsErrAnd r (λ (y : Refusal). y ≡ m) → r ≡ Err m
+err_kept (Ok x) m h = absurd h
+err_kept (Err y) m h = ap Err h
 
 -- ---- the same of parts
 
@@ -269,25 +265,25 @@ oxygens-set k n bs gs rs =
 
 -- what is done to several arrays, among all
 
-module _ (carbon : ℕ) (k : Counts) (bs gs rs : List ℕ) (r : Counted) (f : Chain → Outcome) where
+module _ (carbon : ℕ) (k : Counts) (bs gs rs : List ℕ) (r : Result Counts Refusal) (f : Chain → Outcome) where
   pub ungrouped-all : (ys zs : List ℕ) → Collects (on carbon ungrouped_as) (gather k bs [] rs) r ys [] zs f → Collects (on carbon all_as) (gather k bs gs rs) r ys gs zs f
   ungrouped-all ys zs = go r
     where
-      go : (r : Counted) → Collects (on carbon ungrouped_as) (gather k bs [] rs) r ys [] zs f → Collects (on carbon all_as) (gather k bs gs rs) r ys gs zs f
-      go (Counted-as-Read j) w = record { gives = λ x. w.gives (groups_as x (first 0 gs)) }
-      go (Counted-as-Refused n) w = record { gives = λ x. w.gives (groups_as x (first 0 gs)) }
+      go : (r : Result Counts Refusal) → Collects (on carbon ungrouped_as) (gather k bs [] rs) r ys [] zs f → Collects (on carbon all_as) (gather k bs gs rs) r ys gs zs f
+      go (Ok j) w = record { gives = λ x. w.gives (groups_as x (first 0 gs)) }
+      go (Err n) w = record { gives = λ x. w.gives (groups_as x (first 0 gs)) }
 
   pub unbonded-all : (hs zs : List ℕ) → Collects (on carbon unbonded_as) (gather k [] gs rs) r [] hs zs f → Collects (on carbon all_as) (gather k bs gs rs) r bs hs zs f
   unbonded-all hs zs = go r
     where
-      go : (r : Counted) → Collects (on carbon unbonded_as) (gather k [] gs rs) r [] hs zs f → Collects (on carbon all_as) (gather k bs gs rs) r bs hs zs f
-      go (Counted-as-Read j) w = record { gives = λ x. w.gives (bonds_as x (first 0 bs)) }
-      go (Counted-as-Refused n) w = record { gives = λ x. w.gives (bonds_as x (first 0 bs)) }
+      go : (r : Result Counts Refusal) → Collects (on carbon unbonded_as) (gather k [] gs rs) r [] hs zs f → Collects (on carbon all_as) (gather k bs gs rs) r bs hs zs f
+      go (Ok j) w = record { gives = λ x. w.gives (bonds_as x (first 0 bs)) }
+      go (Err n) w = record { gives = λ x. w.gives (bonds_as x (first 0 bs)) }
 
   -- counts alone, among all
   pub counts_all : Judges k r f → Collects (on carbon all_as) (gather k bs gs rs) r bs gs rs f
   counts_all = go r
     where
-      go : (r : Counted) → Judges k r f → Collects (on carbon all_as) (gather k bs gs rs) r bs gs rs f
-      go (Counted-as-Read j) w = record { gives = λ x. w.gives (all_as (carbon_as x carbon) (gather k bs gs rs)) }
-      go (Counted-as-Refused n) w = record { gives = λ x. w.gives (all_as (carbon_as x carbon) (gather k bs gs rs)) }
+      go : (r : Result Counts Refusal) → Judges k r f → Collects (on carbon all_as) (gather k bs gs rs) r bs gs rs f
+      go (Ok j) w = record { gives = λ x. w.gives (all_as (carbon_as x carbon) (gather k bs gs rs)) }
+      go (Err n) w = record { gives = λ x. w.gives (all_as (carbon_as x carbon) (gather k bs gs rs)) }

@@ -1,14 +1,13 @@
 -- Which chain a record of the code holds, and what a reader answers that adds to arrays which are lent to it: what the contracts of `parsed`
 -- and of the token reader above it cite. Assumes nothing.
-use Rattle.std.specs.Prelude.{ℕ, ◌+◌, min, ◌≡◌, cond, List, map, length, take, ltb}
-use Rattle.chain_record.specs.plain.Chain.{Chain, Outcome, Read, Refused, max_bonds, max_groups, max_rings, over_limit}
+use Rattle.std.specs.Prelude.{ℕ, ◌+◌, min, ◌≡◌, cond, List, map, length, take, ltb, Result, Ok, Err}
+use Rattle.chain_record.specs.plain.Chain.{Chain, Outcome, Read, Refused, max_bonds, max_groups, max_rings}
 use Rattle.chain_record.specs.codes.Codes.{bond_in, group_in, ring_in}
 use Rattle.chain_record.specs.declared.parsed.ParsedChain.{ParsedChain}
 use Rattle.chain_record.specs.declared.parsed.Counts.{Counts}
-use Rattle.chain_record.specs.declared.parsed.Counted.{Counted}
-use Rattle.chain_record.specs.declared.parsed.Counted.TheVariants.{Read as Counted-as-Read, Refused as Counted-as-Refused}
-use Rattle.chain_record.specs.declared.parsed.Pushed.{Pushed}
-use Rattle.chain_record.specs.declared.parsed.Pushed.TheVariants.{Read as Pushed-as-Read, Refused as Pushed-as-Refused}
+use Rattle.chain_record.specs.declared.refusal.Refusal.{Refusal}
+use Rattle.chain_record.specs.declared.refusal.Refusal.TheVariants.{OverLimit}
+use Rattle.chain_record.specs.refusal.Refusal.{number_of}
 
 -- an array of numbers keeps a list up to a limit: its count is the list's length, which it stops following one past the limit, and what it
 -- counts within the limit stands for what the list starts with
@@ -123,34 +122,34 @@ pub record Fills {S : Type 0} (put : ParsedChain → S → ParsedChain) (c : S) 
 -- ---- 01's number and the values of each case of the code's answers
 
 -- counts alone; with the arrays that go with them
-abbrev pub counted : Counted → Answer Counts
-counted (Counted-as-Read k) = Has k
-counted (Counted-as-Refused n) = Refuses n
+abbrev pub counted : Result Counts Refusal → Answer Counts
+counted (Ok k) = Has k
+counted (Err r) = Refuses (number_of r)
 
-abbrev pub collected : Counted → List ℕ → List ℕ → List ℕ → Answer Gathered
-collected (Counted-as-Read k) bs gs rs = Has (gather k bs gs rs)
-collected (Counted-as-Refused n) bs gs rs = Refuses n
+abbrev pub collected : Result Counts Refusal → List ℕ → List ℕ → List ℕ → Answer Gathered
+collected (Ok k) bs gs rs = Has (gather k bs gs rs)
+collected (Err r) bs gs rs = Refuses (number_of r)
 
 -- the count of one array, and the array
-abbrev pub pushed : Pushed → List ℕ → Answer Counting
-pushed (Pushed-as-Read n) xs = Has (first n xs)
-pushed (Pushed-as-Refused n) xs = Refuses n
+abbrev pub pushed : Result ℕ Refusal → List ℕ → Answer Counting
+pushed (Ok n) xs = Has (first n xs)
+pushed (Err r) xs = Refuses (number_of r)
 
 -- the answer to counts alone
-abbrev pub Judges : Counts → Counted → (Chain → Outcome) → Type 0
+abbrev pub Judges : Counts → Result Counts Refusal → (Chain → Outcome) → Type 0
 Judges k r f = Fills counts_as k (counted r) f
 
 -- the answer of a reader that adds to one array: n of xs before, and then so many of ys
-abbrev pub Pushes : (ParsedChain → Counting → ParsedChain) → ℕ → List ℕ → Pushed → List ℕ → (Chain → Outcome) → Type 0
+abbrev pub Pushes : (ParsedChain → Counting → ParsedChain) → ℕ → List ℕ → Result ℕ Refusal → List ℕ → (Chain → Outcome) → Type 0
 Pushes put n xs r ys f = Fills put (first n xs) (pushed r ys) f
 
 -- the answer of a reader that adds to several arrays
-abbrev pub Collects : (ParsedChain → Gathered → ParsedChain) → Gathered → Counted → List ℕ → List ℕ → List ℕ → (Chain → Outcome) → Type 0
+abbrev pub Collects : (ParsedChain → Gathered → ParsedChain) → Gathered → Result Counts Refusal → List ℕ → List ℕ → List ℕ → (Chain → Outcome) → Type 0
 Collects put c r bs gs rs f = Fills put c (collected r bs gs rs) f
 
 -- 31 where a count is over its limit, else the counts as they are: `counts_of` of the chain whose lists are counted
-unfoldable pub checked : Counts → Counted
+unfoldable pub checked : Counts → Result Counts Refusal
 checked k =
-    cond (ltb max_bonds k.bonds) (Counted-as-Refused over_limit)
-    (cond (ltb max_groups k.groups) (Counted-as-Refused over_limit)
-    (cond (ltb max_rings k.rings) (Counted-as-Refused over_limit) (Counted-as-Read k)))
+    cond (ltb max_bonds k.bonds) (Err OverLimit)
+    (cond (ltb max_groups k.groups) (Err OverLimit)
+    (cond (ltb max_rings k.rings) (Err OverLimit) (Ok k)))

@@ -1,5 +1,5 @@
 -- Laws of the writers of marks: a law for each way out and each turn of a loop. Assumes nothing.
-use Prim.Native.Nat.{ℕ, zero, suc, ◌+◌, ◌*◌, ◌^◌, ◌≤◌, ◌<◌}
+use Prim.Native.Nat.{ℕ, zero, suc, ◌+◌, ◌*◌, ◌^◌, ◌<◌}
 use native.Mathlib.Nat.{zero-add}
 use native.Mathlib.Numerals.{add-one}
 use native.Mathlib.Omega.{arith}
@@ -46,10 +46,6 @@ marks-more first lead p v i e g w u = rw (add-one, below-snoc p v i) (mark-after
 
 pub marks-lead : (first : Bool) (p v i : ℕ) → false ≡ still_first first (map show_mark (marks_below p v (i + 1)))
 marks-lead first p v i = sym (still-some first show_mark (marks_below p v (i + 1)) (rw below_length (omega arith)))
-
-pub marks-all : {xs ys : List ℕ} {a q : ℕ} (first : Bool) (p v i n : ℕ) → i ≤ n → n ≤ i → Written xs a (shown_blocks first (map show_mark (marks_below p v i))) ys q
-    → Written xs a (shown_blocks first (map show_mark (marks_below p v n))) ys q
-marks-all first p v i n h k w = let e : i ≡ n = omega arith in rw e at w
 
 marks-is : (p v n : ℕ) → (n ≡ 0 → ⊥) → mark_list p v n ≡ marks_below p v n ++ (at (p + 2 * n + 1) (v + n) ∷ [])
 unfolding mark_list marks_below

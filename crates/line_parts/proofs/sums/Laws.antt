@@ -1,8 +1,7 @@
 -- Laws of the writers of sums: a law for each way out and each turn of a loop. Assumes nothing.
-use Prim.Native.Nat.{ℕ, zero, suc, ◌+◌, ◌^◌, ◌≤◌, ◌<◌}
+use Prim.Native.Nat.{ℕ, zero, suc, ◌+◌, ◌^◌, ◌<◌}
 use native.Mathlib.Nat.{zero-add}
 use native.Mathlib.Numerals.{add-one}
-use native.Mathlib.Omega.{arith}
 use mathlib.Core.Path.{◌≡◌, refl, ap, ◌∙◌}
 use mathlib.Core.Bool.{Bool}
 use mathlib.Core.List.{List, [], ◌∷◌, ◌++◌, map, map-append, append_assoc}
@@ -39,10 +38,6 @@ pub variables-more : {xs ys zs : List ℕ} {a p q : ℕ} (i : ℕ) (g : length x
 variables-more i g v w u =
     rw (add-one, numbers-snoc v i, map-append)
     (part-more 43 (map name_of (numbers_from v i)) (name_of (v + i)) i (length-map (numbers_from v i) name_of ∙ numbers-length v i) g w u)
-
-pub variables-all : {xs ys : List ℕ} {a p : ℕ} (v i count : ℕ) → i ≤ count → count ≤ i → Written xs a (joined 43 (map name_of (numbers_from v i))) ys p
-    → Written xs a (joined 43 (map name_of (numbers_from v count))) ys p
-variables-all v i count h k w = let e : i ≡ count = omega arith in rw e at w
 
 pub sums_none : (first : Bool) (v n total : ℕ) (xs : List ℕ) (a : ℕ) → n ≡ 0 → a < 2 ^ 64 → Written xs a (shown_parts first (map show_sum (sum_list v n total))) xs a
 unfolding sum_list

@@ -3,7 +3,7 @@ use Prim.Native.Nat.{ℕ, suc, ◌+◌, ◌^◌, ◌≤◌, ◌<◌}
 use native.Mathlib.Nat.{add-zero, add-suc, suc-add, zero-add}
 use native.Mathlib.Numerals.{add-one}
 use native.Mathlib.Omega.{arith}
-use mathlib.Core.Path.{◌≡◌, sym, ap}
+use mathlib.Core.Path.{◌≡◌, sym}
 use mathlib.Core.List.{List, [], ◌∷◌, ◌++◌, append_assoc, append-nil}
 use lib.ListN.{length, get_or, set, take}
 use lib.Seq.{take-suc, take_all, length-take-le, set_out}
@@ -13,16 +13,9 @@ use Rattle.writer.proofs.emit.Laws.{written-append, written-nil}
 use Rattle.reading_rules.specs.reading.Ascii.{ascii}
 use Rattle.reading_rules.specs.reading.Parting.{joined, led}
 use Rattle.sheet_frame.specs.row_heads.Text.{ended, tabbed}
-use Rattle.sheet_frame.specs.declared.tally.Counts.{Counts}
-use Rattle.sheet_frame.specs.tally.Counts.{counting, with_answer, count_line, count_lines_from, count_lines}
+use Rattle.sheet_frame.specs.tally.Counts.{with_answer, count_line, count_lines_from, count_lines}
 
 -- ---- counts
-
-pub count_past : (c : Counts) (n : ℕ) → 43 ≤ n → length c.times ≡ 43 → c ≡ counting (with_answer c.times n)
-count_past c n h l = ap counting (sym (set_out c.times n _ (omega arith)))
-
-pub count-more : (times : List ℕ) (n k : ℕ) → k ≡ after (get_or times n 0) 1 → counting (set times n k) ≡ counting (with_answer times n)
-count-more times n k e = rw e
 
 pub count-here : (times : List ℕ) (n k : ℕ) → k ≡ after (get_or times n 0) 1 → set times n k ≡ with_answer times n
 count-here times n k e = rw e
@@ -45,13 +38,13 @@ unfolding count_lines_from
 lines_snoc n [] t = rw (add-zero, append-nil)
 lines_snoc n (s ∷ ts) t = rw (lines_snoc (suc n) ts t, append_assoc, suc-add, add-suc)
 
-pub lines_more : {xs ys zs : List ℕ} {a p q : ℕ} (times : List ℕ) (n : ℕ) → length times ≡ 43 → n < 43 → length xs < 2 ^ 64
+pub lines_more : {xs ys zs : List ℕ} {a p q : ℕ} (times : List ℕ) (n : ℕ) → n < length times → length xs < 2 ^ 64
     → Written xs a (count_lines_from 0 (take n times)) ys p → Written ys p (count_line n (get_or times n 0)) zs q → Written xs a (count_lines_from 0 (take (n + 1) times)) zs q
-lines_more {xs} {ys} {zs} {a} {p} {q} times n l h g w u =
+lines_more {xs} {ys} {zs} {a} {p} {q} times n h g w u =
     let e : length (take n times) ≡ n = length-take-le n times (omega arith) in
     rw (add-one, take-suc times n 0 (omega arith), lines_snoc 0 (take n times) (get_or times n 0), e, zero-add) (written-append g w u)
 
-pub lines-all : {xs ys : List ℕ} {a p : ℕ} (times : List ℕ) (n : ℕ) → length times ≡ 43 → 43 ≤ n → Written xs a (count_lines_from 0 (take n times)) ys p
+pub lines-all : {xs ys : List ℕ} {a p : ℕ} (times : List ℕ) (n : ℕ) → length times ≤ n → Written xs a (count_lines_from 0 (take n times)) ys p
     → Written xs a (count_lines times) ys p
 unfolding count_lines
-lines-all times n l h w = rw (take_all n times (omega arith)) at w
+lines-all times n h w = rw (take_all n times (omega arith)) at w

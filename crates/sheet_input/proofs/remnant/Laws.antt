@@ -1,38 +1,16 @@
--- Laws of a block of the input: a turn and the ways out of the loop that moves what is left.
+-- Laws of a block of the input: what is left of it is moved.
 -- Assumes nothing.
-use Prim.Native.Nat.{ℕ, suc, ◌+◌, ◌-◌, ◌≤◌, ◌<◌, min}
-use native.Mathlib.Nat.{min-eq_left, min-eq_right}
-use native.Mathlib.Numerals.{add-one}
+use Prim.Native.Nat.{ℕ, ◌+◌, ◌-◌, ◌≤◌, ◌<◌, min}
+use native.Mathlib.Nat.{min-eq_left, min-eq_right, zero-add}
 use native.Mathlib.Omega.{arith}
 use native.Mathlib.Decide.{dec_le}
-use mathlib.Core.Path.{◌≡◌, refl, sym, ap, ◌∙◌}
-use mathlib.Core.List.{List, [], ◌∷◌, ◌++◌, append_assoc}
-use lib.ListN.{length, take, drop, get_or, set, length-drop, length-take}
-use lib.Seq.{take_all, take-length, take-suc, take-take, drop-cons, length-take-le, get_or-append-add, get_or-drop, set_at}
+use mathlib.Core.Path.{◌≡◌, sym, ap, ◌∙◌}
+use mathlib.Core.List.{List, []}
+use lib.ListN.{length, take, drop, length-drop, length-take}
+use lib.Seq.{take_all, take-length, take-take, length-take-le}
+use Rattle.std.specs.List.{copy_within}
 use Rattle.scanner.specs.part.Part.{part}
 use Rattle.sheet_input.specs.remnant.Kept.{kept, Moved}
-
-moved_at : (xs : List ℕ) (from i : ℕ) → from + i < length xs → length (take i (drop from xs)) ≡ i
-moved_at xs from i h = length-take-le i (drop from xs) (omega (arith, length-drop from xs))
-
--- the first i bytes are moved
-pub moved_to : List ℕ → ℕ → ℕ → List ℕ
-moved_to xs from i = take i (drop from xs) ++ drop i xs
-
-pub moved-start : (xs : List ℕ) (from : ℕ) → xs ≡ moved_to xs from 0
-unfolding moved_to
-moved-start xs from = refl
-
-pub moved_more : (xs ys : List ℕ) (from i n end to : ℕ) → ys ≡ moved_to xs from i → i < n → n ≡ min (end - from) 2049 → end ≡ min to (length xs) → from < end
-    → set ys i (get_or ys (from + i) 0) ≡ moved_to xs from (i + 1)
-unfolding moved_to
-moved_more xs ys from i n end to e h m k g =
-    let r : from + i < length xs = omega arith in
-    let l : length (take i (drop from xs)) ≡ i = moved_at xs from i r in
-    let v : get_or (take i (drop from xs) ++ drop i xs) (from + i) 0 ≡ get_or xs (from + i) 0
-    = ap (λ (j : ℕ). get_or (take i (drop from xs) ++ drop i xs) j 0) (omega arith) ∙ get_or-append-add (take i (drop from xs)) (drop i xs) from 0 ∙ get_or-drop i xs from 0 ∙ ap (λ (j : ℕ). get_or xs j 0) (omega arith) in
-    rw (e, v, add-one, take-suc (drop from xs) i 0 (omega (arith, length-drop from xs)), get_or-drop from xs i 0, drop-cons xs i 0 (omega arith))
-    (set_at (take i (drop from xs)) (get_or xs i 0) (drop (suc i) xs) (get_or xs (from + i) 0) i l ∙ sym (append_assoc (take i (drop from xs)) (get_or xs (from + i) 0 ∷ []) (drop (suc i) xs)))
 
 prefix : (m : ℕ) (s : List ℕ) → take m s ≡ take (length (take m s)) s
 prefix m s = go (dec_le m (length s))
@@ -62,15 +40,17 @@ kept-size from to len n end m o = go (dec_le to len)
     go (yes h) = least-left from to len n h (with-end to (o ∙ min-eq_left h))
     go (no h) = let l : len ≤ to = omega arith in least-right from to len n l (with-end len (o ∙ min-eq_right l))
 
-pub moved_all : (xs ys : List ℕ) (from i n end to : ℕ) → ys ≡ moved_to xs from i → i ≤ n → n ≤ i → n ≡ min (end - from) 2049 → end ≡ min to (length xs)
-    → Moved xs from to ys n
-unfolding moved_to
-moved_all xs ys from i n end to e h k m o =
-    let j : i ≡ n = omega arith in
+pub moved_none : (xs : List ℕ) (from end to : ℕ) → end ≡ min to (length xs) → end ≤ from → Moved xs from to xs 0
+moved_none xs from end to e h =
+    let c : 0 ≡ min kept (min (to - from) (length (drop from xs))) = omega (arith, length-drop from xs) in
+    let s : take kept (part from to xs) ≡ [] = taken_twice kept (to - from) 0 (drop from xs) c in
+    record { bytes = (rw s); count = (rw s) }
+
+pub moved_all : (xs ys : List ℕ) (from n end to : ℕ) → end ≡ min to (length xs) → from < end → n ≡ min (end - from) 2049
+    → ys ≡ copy_within xs from (from + n) 0 → Moved xs from to ys n
+moved_all xs ys from n end to o f m e =
     let c : n ≡ min kept (min (to - from) (length (drop from xs))) = kept-size from to (length xs) n end m o ∙ ap (λ (z : ℕ). min kept (min (to - from) z)) (sym (length-drop from xs)) in
     let s : take kept (part from to xs) ≡ take n (drop from xs) = taken_twice kept (to - from) n (drop from xs) c in
     let l : length (take n (drop from xs)) ≡ n = length-take-le n (drop from xs) (omega (arith, c)) in
-    record { bytes = (rw (s, l, e, j)); count = (rw (s, l)) }
-
-pub moved_none : (xs : List ℕ) (from end to : ℕ) → end ≡ min to (length xs) → end ≤ from → Moved xs from to xs 0
-moved_none xs from end to e h = moved_all xs xs from 0 0 end to (moved-start xs from) (omega arith) (omega arith) (omega arith) e
+    let k : from + n - from ≡ n = omega arith in
+    record { bytes = (rw (s, l, e, k, zero-add n)); count = (rw (s, l)) }

@@ -8,7 +8,7 @@ use mathlib.Core.Path.{◌≡◌, refl, sym, ap, ◌∙◌}
 use mathlib.Core.Bool.{Bool, true, false, cond}
 use mathlib.Core.Option.{none, some}
 use mathlib.Core.List.{List, [], ◌∷◌, ◌++◌, map, map-append, append_assoc, append-nil}
-use lib.ListN.{length, take, drop, get_or, set, replicate, length-map, drop_of_length-le}
+use lib.ListN.{length, take, drop, get_or, replicate, length-map, drop_of_length-le}
 use lib.Seq.{drop-cons, get_or-take, length-take-le}
 use lib.Dec.{eqb}
 use borrow.Author.Tests.{lt-ltb, le-ltb, eq-eqb, ne_eqb}
@@ -42,9 +42,6 @@ module _ (l : List Site) (k : length l ≡ 4) (count i : ℕ) (b : count ≤ 4) 
       → next ≡ up_to_last (labels_of (take (i + 1) l))
   end_more d end past next h e f g =
       rw (labels-snoc l i d (omega arith), last_snoc (labels_of (take i l)) (get_or l i d).atom (get_or l i d).sn, ← e) (omega arith)
-
-  pub end-all : (end : ℕ) → i ≤ count → count ≤ i → end ≡ up_to_last (labels_of (take i l)) → end ≡ up_to_last (labels_of (take count l))
-  end-all end h j e = let z : i ≡ count = omega arith in rw z at e
 
 -- ---- the label of an atom
 
@@ -136,34 +133,6 @@ pub shift : (n x : ℕ) → replicate n x ++ (x ∷ []) ≡ x ∷ replicate n x
 shift zero x = refl
 shift (suc n) x = ap (λ (l : List ℕ). x ∷ l) (shift n x)
 
-pub gap_more : {xs ys zs : List ℕ} {a p q : ℕ} (i : ℕ) → length xs < 2 ^ 64 → Written xs a (replicate i 59) ys p → Written ys p (59 ∷ []) zs q
-    → Written xs a (replicate (i + 1) 59) zs q
-gap_more i g w u = rw (add-one, ← shift i 59) (written-append g w u)
-
-pub gap-all : {xs ys : List ℕ} {a p : ℕ} (i n : ℕ) → i ≤ n → n ≤ i → Written xs a (replicate i 59) ys p → Written xs a (replicate n 59) ys p
-gap-all i n h k w = let e : i ≡ n = omega arith in rw e at w
-
--- where there is room for all of them
-pub fill_none : (xs : List ℕ) (a : ℕ) → a < 2 ^ 64 → Written xs a (replicate (a - a) 59) xs a
-fill_none xs a h = let z : a - a ≡ 0 = omega arith in rw z (written-nil xs a h)
-
-pub fill-room : {xs ys t : List ℕ} {a p : ℕ} (end : ℕ) → p < end → end ≤ length xs → Written xs a t ys p → p < length ys
-fill-room end h k w = omega (arith, written-length w)
-
-pub fill_more : {xs ys : List ℕ} {a : ℕ} (p end : ℕ) → a ≤ p → p < end → end ≤ length xs → length xs < 2 ^ 64 → Written xs a (replicate (p - a) 59) ys p
-    → Written xs a (replicate (p + 1 - a) 59) (set ys p 59) (p + 1)
-fill_more {xs} {ys} {a} p end h k m g w =
-    let u : Written ys p (59 ∷ []) (set ys p 59) (p + 1) = record { elements = refl; next = omega arith } in
-    let z : p + 1 - a ≡ p - a + 1 = omega arith in
-    rw z (gap_more (p - a) g w u)
-
-pub fill-all : {xs ys : List ℕ} {a : ℕ} (p end n : ℕ) → a ≤ p → p ≤ end → end ≤ p → end ≡ a + n → Written xs a (replicate (p - a) 59) ys p
-    → Written xs a (replicate n 59) ys end
-fill-all {a = a} p end n h k m e w =
-    let z : p - a ≡ n = omega arith in
-    let y : p ≡ end = omega arith in
-    rw (z, y) at w
-
 pub closed-gap : (a d : ℕ) (ls : List (At ℕ)) → ((j : ℕ) → a < j → j < suc (a + d) → look j ls ≡ none)
     → closed (suc (a + d)) ls ≡ closed a ls ++ (show_entry (look a ls) ++ (59 ∷ replicate d 59))
 unfolding closed show_entry
@@ -188,13 +157,9 @@ through-all ls atom last h k g w u = let e : last ≡ atom = omega arith in rw (
 -- ---- the next atom with a label
 
 module _ (a j n : ℕ) where
-  pub near-here : a < j → j < n → j ≡ nearest a j n
+  pub near-past : (r : ℕ) → a < j → r ≡ min j n → r ≡ nearest a j n
   unfolding nearest
-  near-here h k = rw (lt-ltb a j h) (omega arith)
-
-  pub near-far : a < j → n ≤ j → n ≡ nearest a j n
-  unfolding nearest
-  near-far h k = rw (lt-ltb a j h) (omega arith)
+  near-past r h e = rw (e, lt-ltb a j h)
 
   pub near-low : j ≤ a → n ≡ nearest a j n
   unfolding nearest
@@ -239,9 +204,6 @@ module _ (l : List Site) (k : length l ≡ 4) (count i a last : ℕ) (b : count 
   next_more d n r h g e =
       rw (labels-snoc l i d (omega arith))
       (gap-snoc a last n (get_or l i d).atom (get_or l i d).sn r (labels_of (take i l)) g e (near a (get_or l i d).atom n))
-
-  pub next-all : (n : ℕ) → i ≤ count → count ≤ i → Gap a last (labels_of (take i l)) n → Gap a last (labels_of (take count l)) n
-  next-all n h j g = let z : i ≡ count = omega arith in rw z at g
 
 pub list-entries : {xs ys : List ℕ} {a p : ℕ} (ls : List (At ℕ)) (n : ℕ) → n ≡ up_to_last ls → Written xs a (joined 59 (map show_entry (entries n 0 ls))) ys p
     → Written xs a (joined 59 (map show_entry (entries (up_to_last ls) 0 ls))) ys p

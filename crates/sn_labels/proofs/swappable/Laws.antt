@@ -39,10 +39,6 @@ module _ {xs ys : List ℕ} {a p : ℕ} (l : List Site) (k : length l ≡ 4) (co
       rw (labels-snoc l i d (omega arith), notes-snoc (labels_of (take i l)) (get_or l i d).atom (get_or l i d).sn, map-append show_label (notes_of (labels_of (take i l))) ((get_or l i d).sn ∷ []))
       (part-more 44 (map show_label (notes_of (labels_of (take i l)))) (show_label (get_or l i d).sn) i n g w u)
 
-  pub labels-all : i ≤ count → count ≤ i → Written xs a (joined 44 (map show_label (notes_of (labels_of (take i l))))) ys p
-      → Written xs a (joined 44 (map show_label (notes_of (labels_of (take count l))))) ys p
-  labels-all h j w = let e : i ≡ count = omega arith in rw e at w
-
 pub swap-text : {xs ys zs ws : List ℕ} {a p q r : ℕ} (sns : List ℕ) → length xs < 2 ^ 64 → Written xs a (ascii "swappable(") ys p
     → Written ys p (joined 44 (map show_label sns)) zs q → Written zs q (ascii ")") ws r → Written xs a (show_swap sns) ws r
 unfolding show_swap

@@ -8,6 +8,7 @@ use mathlib.Core.List.{List, [], ◌∷◌}
 use lib.ListN.{length, drop, get_or}
 use lib.Seq.{drop-cons, drop-length}
 use lib.Dec.{eqb}
+use Rattle.std.specs.Prelude.{Some, None}
 use borrow.Author.Tests.{not-true, not-false}
 use Rattle.reading_rules.specs.reading.Lexer.{within}
 use Rattle.reading_rules.proofs.reading.ShowLex.{within_both}
@@ -60,36 +61,34 @@ pub a-digit : (x : ℕ) (a : Bool) → a ≡ within 49 57 x → not a ≡ false 
 a-digit x a e f = let w : (49 ≤ x) × (x ≤ 57) = within_both 49 57 x (sym e ∙ not-false a f) in record { low = w.0; high = w.1 }
 
 module _ (s : List ℕ) (at : ℕ) (q₀ : Rings) (i : ℕ) (q : Rings) (v : InDigits s at q₀ i q) where
-  pub digits-end : length s ≤ i → PastDigits s at q₀ (record { ok = true; next = i; rings = q })
+  pub digits-end : length s ≤ i → PastDigits s at q₀ (Some (length s)) q
   unfolding done
   digits-end h =
       let k : i ≡ length s = omega (arith, v.within) in
       record {
-        same = λ stk. v.same stk ∙ (scan-end (stands whole stk q) s i k ∙ sym (scan-end (stands closed stk q) s i k));
-        least = v.least;
-        bounds = record { within = v.within; few = v.few };
+        same = λ stk. v.same stk ∙ (scan-end (stands whole stk q) s i k ∙ sym (scan-end (stands closed stk q) s (length s) refl));
+        least = omega (arith, v.least);
+        within = omega arith;
+        few = omega (arith, v.few);
       }
 
   module _ (h : i < length s) (a : Bool) (e : a ≡ within 49 57 (get_or s i 0)) where
-    pub digits-over : not a ≡ true → PastDigits s at q₀ (record { ok = true; next = i; rings = q })
+    pub digits-over : not a ≡ true → PastDigits s at q₀ (Some i) q
     unfolding step digit_or
     digits-over f =
         record {
           same = λ stk. v.same stk ∙ same_at (stands whole stk q) (stands closed stk q) s i h (rw (sym e ∙ not-true a f));
           least = v.least;
-          bounds = record { within = v.within; few = v.few };
+          within = v.within;
+          few = v.few;
         }
 
     module _ (f : not a ≡ false) (d : ℕ) (k : d ≡ get_or s i 0 - 48) (c : Bool) (j : c ≡ clashes d q) where
-      pub digit-clash : c ≡ true → PastDigits s at q₀ (record { ok = false; next = i; rings = q })
+      pub digit-clash : c ≡ true → PastDigits s at q₀ None q
       unfolding step digit_or
       digit-clash g =
           let m : clashes (get_or s i 0 - 48) q ≡ true = ap (λ (z : ℕ). clashes z q) (sym k) ∙ (sym j ∙ g) in
-          record {
-            same = λ stk. v.same stk ∙ wrong-at (stands whole stk q) s i h (rw (sym e ∙ not-false a f, m));
-            least = v.least;
-            bounds = record { within = v.within; few = v.few };
-          }
+          λ stk. v.same stk ∙ wrong-at (stands whole stk q) s i h (rw (sym e ∙ not-false a f, m))
 
       pub digit-on : (w : Rings) → c ≡ false → w ≡ with_digit d q → InDigits s at q₀ (i + 1) w
       unfolding step digit_or

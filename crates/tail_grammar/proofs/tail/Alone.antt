@@ -22,7 +22,7 @@ use Rattle.reading_rules.proofs.reading.OpenLabels.{lookup-same, lookup-other, l
 use Rattle.reading_rules.proofs.reading.Frame.{EachOf, EachLabel, each-label-append}
 use Rattle.reading_rules.proofs.reading.LexShow.{feed-digit, feed-inside, feed-bracket-end, feed-ended, feed-second, begin-mark, true-T, or-both}
 use Rattle.reading_rules.proofs.reading.ShowLex.{within_both, and_both}
-use Rattle.tail_grammar.proofs.tailatom.Bytes.{or-false}
+use Rattle.std.proofs.Math.Bool.{or-false}
 use Rattle.tail_grammar.proofs.ringdigits.Scan.{digit-last, scan-wrong}
 use Rattle.tail_grammar.specs.ringdigits.Grammar.{Rings, no_rings, with_atom, bonded, clashes, with_digit, none_open, State, wrong, stands, opening, after_bond, whole, closed, letter, inside, atom_begins, bond_or_atom, branch_closes, branch_opens, goes_on, digit_or, bracket_on, step, finished, done, scan, atoms_of_tail, is_tail}
 

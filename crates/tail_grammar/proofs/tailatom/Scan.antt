@@ -12,8 +12,7 @@ use borrow.Author.Tests.{eqb-true, ltb-true, ltb-false}
 use Rattle.reading_rules.specs.reading.Lexer.{memb, within, organic, marks, bracketed, pairs}
 use Rattle.tail_grammar.specs.ringdigits.Grammar.{Rings, with_atom, wrong, stands, opening, after_bond, whole, letter, inside, atom_begins, bond_or_atom, bracket_on, step, done, scan}
 use Rattle.tail_grammar.proofs.ringdigits.Scan.{scan-wrong, scan-at, scan-end, same_at}
-use Rattle.tail_grammar.specs.declared.tailatom.Found.{Found}
-use Rattle.tail_grammar.specs.declared.tailatom.Found.TheVariants.{Next, Nothing}
+use Rattle.std.specs.Prelude.{Option, Some, None}
 use Rattle.tail_grammar.specs.tailatom.Atom.{bond_at, bracket_run, closed_at, bracket_at, atom_at, Says, AtomIs}
 
 pub past_end : (s : List ℕ) (i : ℕ) → length s ≤ i → get_or s i 0 ≡ 0
@@ -50,9 +49,9 @@ bond-scans s at next h e stk q = rw e (by_end s at h none one)
 -- ---- a bracket
 
 -- how a tail goes on after an atom that is found or not
-abbrev pub after_found : List ℕ → List ℕ → Rings → Found → ℕ
-after_found s stk q (Next p) = scan (stands whole stk q) (drop p s)
-after_found s stk q Nothing = 0
+abbrev pub after_found : List ℕ → List ℕ → Rings → Option ℕ → ℕ
+after_found s stk q (Some p) = scan (stands whole stk q) (drop p s)
+after_found s stk q None = 0
 
 run-le : (xs : List ℕ) → bracket_run xs ≤ length xs
 unfolding bracket_run
@@ -106,7 +105,7 @@ bracket-scans s at h stk q =
         let over : bracketed (get_or s (at + n) 0) ≡ false = rw (← get_or-drop at s n 0) (run_ends (drop at s) (omega (arith, w, length-drop at s))) in
         scan-at (stands (inside n) stk q) s (at + n) w ∙ rw over (go (eqb (get_or s (at + n) 0) 93 && within 1 16 n))
       where
-        go : (b : Bool) → scan (cond b (stands whole stk q) wrong) (drop (at + n + 1) s) ≡ after_found s stk q (cond b (Next (at + n + 1)) Nothing)
+        go : (b : Bool) → scan (cond b (stands whole stk q) wrong) (drop (at + n + 1) s) ≡ after_found s stk q (cond b (Some (at + n + 1)) None)
         go true = refl
         go false = scan-wrong (drop (at + n + 1) s)
 
@@ -149,7 +148,7 @@ atom-scans s at h stk q = by_end s at h none some
     some w = scan-at (stands after_bond stk q) s at w ∙ go (memb (get_or s at 0) organic) (eqb (get_or s at 0) 91)
       where
         go : (a b : Bool) → scan (cond a (stands (letter (get_or s at 0)) stk (with_atom q)) (cond b (stands (inside 0) stk (with_atom q)) wrong)) (drop (at + 1) s)
-            ≡ after_found s stk (with_atom q) (cond a (Next (cond (pairs (get_or s at 0) (get_or s (at + 1) 0)) (at + 1 + 1) (at + 1))) (cond b (bracket_at s (at + 1)) Nothing))
+            ≡ after_found s stk (with_atom q) (cond a (Some (cond (pairs (get_or s at 0) (get_or s (at + 1) 0)) (at + 1 + 1) (at + 1))) (cond b (bracket_at s (at + 1)) None))
         go true b = letter-scans s at w stk (with_atom q)
         go false true = bracket-scans s (at + 1) (omega arith) stk (with_atom q)
         go false false = scan-wrong (drop (at + 1) s)
@@ -157,9 +156,9 @@ atom-scans s at h stk q = by_end s at h none some
 -- ---- what each answer says
 
 -- an atom that is found ends on the text
-abbrev Passed : List ℕ → ℕ → Found → Type 0
-Passed s at (Next p) = (at < p) × (p ≤ length s)
-Passed s at Nothing = Unit {0}
+abbrev Passed : List ℕ → ℕ → Option ℕ → Type 0
+Passed s at (Some p) = (at < p) × (p ≤ length s)
+Passed s at None = Unit {0}
 
 -- a byte that is not 0 stands on the text
 on-text : (s : List ℕ) (i : ℕ) → (get_or s i 0 ≡ 0 → ⊥) → i < length s
@@ -171,16 +170,16 @@ closed-passed : (s : List ℕ) (at n : ℕ) → Passed s at (closed_at s at n)
 unfolding closed_at
 closed-passed s at n = go (eqb (get_or s (at + n) 0) 93) refl (within 1 16 n)
   where
-    go : (a : Bool) → eqb (get_or s (at + n) 0) 93 ≡ a → (b : Bool) → Passed s at (cond (a && b) (Next (at + n + 1)) Nothing)
+    go : (a : Bool) → eqb (get_or s (at + n) 0) 93 ≡ a → (b : Bool) → Passed s at (cond (a && b) (Some (at + n + 1)) None)
     go true e true =
         let z : get_or s (at + n) 0 ≡ 93 = eqb-true (get_or s (at + n) 0) 93 e in
         (omega arith, omega (arith, on-text s (at + n) (λ w. absurd (omega (arith, z, w)))))
     go true e false = tt
     go false e b = tt
 
-passed-more : (s : List ℕ) (at : ℕ) (r : Found) → Passed s (at + 1) r → Passed s at r
-passed-more s at (Next p) h = (omega (arith, h.0), h.1)
-passed-more s at Nothing h = tt
+passed-more : (s : List ℕ) (at : ℕ) (r : Option ℕ) → Passed s (at + 1) r → Passed s at r
+passed-more s at (Some p) h = (omega (arith, h.0), h.1)
+passed-more s at None h = tt
 
 atom-passed : (s : List ℕ) (at : ℕ) → Passed s at (atom_at s at)
 unfolding atom_at bracket_at memb organic
@@ -190,24 +189,24 @@ atom-passed s at = go (memb (get_or s at 0) organic) refl (eqb (get_or s at 0) 9
     first e = on-text s at (λ z. absurd (true≢false (sym (rw z at e))))
 
     go : (a : Bool) → memb (get_or s at 0) organic ≡ a → (b : Bool)
-        → Passed s at (cond a (Next (cond (pairs (get_or s at 0) (get_or s (at + 1) 0)) (at + 1 + 1) (at + 1))) (cond b (bracket_at s (at + 1)) Nothing))
+        → Passed s at (cond a (Some (cond (pairs (get_or s at 0) (get_or s (at + 1) 0)) (at + 1 + 1) (at + 1))) (cond b (bracket_at s (at + 1)) None))
     go true e b = two (pairs (get_or s at 0) (get_or s (at + 1) 0)) refl
       where
-        two : (c : Bool) → pairs (get_or s at 0) (get_or s (at + 1) 0) ≡ c → Passed s at (Next (cond c (at + 1 + 1) (at + 1)))
+        two : (c : Bool) → pairs (get_or s at 0) (get_or s (at + 1) 0) ≡ c → Passed s at (Some (cond c (at + 1 + 1) (at + 1)))
         two true k = (omega arith, omega (arith, on-text s (at + 1) (λ z. absurd (true≢false (sym k ∙ alone (get_or s at 0) (get_or s (at + 1) 0) z)))))
         two false k = (omega arith, omega (arith, first e))
     go false e true = passed-more s at (bracket_at s (at + 1)) (closed-passed s (at + 1) (bracket_run (drop (at + 1) s)))
     go false e false = tt
 
 -- how a tail goes on after what is found, where it is found as the definition says
-pub found-scans : (s : List ℕ) (at : ℕ) → at ≤ length s → (r : Found) → r ≡ atom_at s at → (stk : List ℕ) (q : Rings)
+pub found-scans : (s : List ℕ) (at : ℕ) → at ≤ length s → (r : Option ℕ) → r ≡ atom_at s at → (stk : List ℕ) (q : Rings)
     → scan (stands after_bond stk q) (drop at s) ≡ after_found s stk (with_atom q) r
 found-scans s at h r e stk q = rw e (atom-scans s at h stk q)
 
 -- what is found so is the atom
-pub atom-is : (s : List ℕ) (at : ℕ) → at ≤ length s → (r : Found) → r ≡ atom_at s at → AtomIs s at r
+pub atom-is : (s : List ℕ) (at : ℕ) → at ≤ length s → (r : Option ℕ) → r ≡ atom_at s at → AtomIs s at r
 atom-is s at h r e = record { is = e; says = go r (found-scans s at h r e) (rw e (atom-passed s at)) }
   where
-    go : (f : Found) → ((stk : List ℕ) (q : Rings) → scan (stands after_bond stk q) (drop at s) ≡ after_found s stk (with_atom q) f) → Passed s at f → Says s at f
-    go (Next p) w g = g
-    go Nothing w g = w
+    go : (f : Option ℕ) → ((stk : List ℕ) (q : Rings) → scan (stands after_bond stk q) (drop at s) ≡ after_found s stk (with_atom q) f) → Passed s at f → Says s at f
+    go (Some p) w g = g
+    go None w g = w

@@ -10,7 +10,7 @@ use lib.Dec.{eqb, ltb}
 use borrow.Author.Tests.{lt-ltb, le-ltb, ne_eqb, not-true, not-false, ltb-false}
 use Rattle.scanner.specs.scan.Part.{starts_with}
 use Rattle.scanner.specs.scan.Number.{is_digit, number_up_to, number_limit}
-use Rattle.std.specs.Prelude.{Option, Some, None}
+use Rattle.std.specs.Prelude.{Option, Some, None, Result, Ok, Err}
 use Rattle.scanner.proofs.scan.Laws.{to_end, starts-length}
 use Rattle.group_table.specs.groups.Groups.{methyl}
 use Rattle.chain_record.specs.declared.plain.ChainPrefix.{ChainPrefix}
@@ -21,8 +21,8 @@ use Rattle.chain_record.proofs.parsed.Laws.{holds-none, stands_read}
 use Rattle.token_head.specs.declared.opening.Branch.{Branch}
 use Rattle.token_head.specs.declared.opening.Branch.TheVariants.{Straight, Iso, Anteiso}
 use Rattle.token_head.specs.declared.opening.Start.{Start}
-use Rattle.token_head.specs.declared.opening.Started.{Started}
-use Rattle.token_head.specs.declared.opening.Started.TheVariants.{Read as Started-as-Read, Refused as Started-as-Refused}
+use Rattle.chain_record.specs.declared.refusal.Refusal.{Refusal}
+use Rattle.chain_record.specs.declared.refusal.Refusal.TheVariants.{OverLimit, Unreadable}
 use Rattle.token_head.specs.opening.Opening.{iso_text, anteiso_text, branch_of, branch_length, ether_text, alkenyl_text, sphingoid_of, before_digit, prefix_of, prefix_length, second_word, opening_of, branch_offset, branched, start_chain, carbons_by, carbons_of, Word, Prefixed, Opened, start_as, Starts}
 
 -- ---- the branch word
@@ -170,12 +170,12 @@ opened-digit (x ∷ y ∷ s) d p m h e n f g =
 -- ---- the carbons
 
 module _ (p : ChainPrefix) (offset w : ℕ) where
-  pub too_few : (gs : List ℕ) → w < offset + 3 → Starts (Started-as-Refused 11) gs (branched p offset w)
+  pub too_few : (gs : List ℕ) → w < offset + 3 → Starts (Err Unreadable) gs (branched p offset w)
   unfolding branched
   too_few gs h = record { stands = λ bs rs. rw (lt-ltb w (offset + 3) h) refl }
 
   pub methyl-on : (m : ℕ) (gs ys : List ℕ) → offset + 3 ≤ w → Grows groups_as (first 0 gs) (first m ys) (with_group (record { pos = w - 1 - offset; row = 1 }))
-      → Starts (Started-as-Read (record { prefix = p; written = w; carbon = w - 1; branched = true; groups = m })) ys (branched p offset w)
+      → Starts (Ok (record { prefix = p; written = w; carbon = w - 1; branched = true; groups = m })) ys (branched p offset w)
   unfolding branched
   methyl-on m gs ys h t =
       record {
@@ -185,25 +185,25 @@ module _ (p : ChainPrefix) (offset w : ℕ) where
       }
 
 module _ (p : ChainPrefix) (b : Branch) (w : ℕ) (gs : List ℕ) where
-  pub start-straight : b ≡ Straight → Starts (Started-as-Read (record { prefix = p; written = w; carbon = w; branched = false; groups = 0 })) gs (start_chain p b w)
+  pub start-straight : b ≡ Straight → Starts (Ok (record { prefix = p; written = w; carbon = w; branched = false; groups = 0 })) gs (start_chain p b w)
   start-straight e = rw e (record { stands = λ bs rs. holds-none p w w false bs gs rs })
 
-  pub start-iso : (o : ℕ) (r : Started) → b ≡ Iso → o ≡ branch_offset b → Starts r gs (branched p o w) → Starts r gs (start_chain p b w)
+  pub start-iso : (o : ℕ) (r : Result Start Refusal) → b ≡ Iso → o ≡ branch_offset b → Starts r gs (branched p o w) → Starts r gs (start_chain p b w)
   start-iso o r e f s = let g : o ≡ 1 = f ∙ ap branch_offset e in rw e (rw g at s)
 
-  pub start-anteiso : (o : ℕ) (r : Started) → b ≡ Anteiso → o ≡ branch_offset b → Starts r gs (branched p o w) → Starts r gs (start_chain p b w)
+  pub start-anteiso : (o : ℕ) (r : Result Start Refusal) → b ≡ Anteiso → o ≡ branch_offset b → Starts r gs (branched p o w) → Starts r gs (start_chain p b w)
   start-anteiso o r e f s = let g : o ≡ 2 = f ∙ ap branch_offset e in rw e (rw g at s)
 
 module _ (p : ChainPrefix) (b : Branch) (t : List ℕ) (v : Option ℕ) (e : v ≡ number_up_to 4294967295 t) (gs : List ℕ) where
-  pub carbons-unreadable : v ≡ None → Starts (Started-as-Refused 11) gs (carbons_of p b t)
+  pub carbons-unreadable : v ≡ None → Starts (Err Unreadable) gs (carbons_of p b t)
   unfolding carbons_of
   carbons-unreadable f = record { stands = λ bs rs. rw (sym e ∙ f) refl }
 
-  pub carbons-over : (n : ℕ) → v ≡ Some n → 255 < n → Starts (Started-as-Refused 31) gs (carbons_of p b t)
+  pub carbons-over : (n : ℕ) → v ≡ Some n → 255 < n → Starts (Err OverLimit) gs (carbons_of p b t)
   unfolding carbons_of
   carbons-over n f h = record { stands = λ bs rs. rw (sym e ∙ f, lt-ltb max_carbons n h) refl }
 
-  pub carbons-read : (n : ℕ) (r : Started) → v ≡ Some n → n ≤ 255 → Starts r gs (start_chain p b n) → Starts r gs (carbons_of p b t)
+  pub carbons-read : (n : ℕ) (r : Result Start Refusal) → v ≡ Some n → n ≤ 255 → Starts r gs (start_chain p b n) → Starts r gs (carbons_of p b t)
   unfolding carbons_of
   carbons-read n r f h s = record { stands = λ bs rs. rw (sym e ∙ f, le-ltb max_carbons n h) (s.stands bs rs) }
 
@@ -238,8 +238,8 @@ carbons-few p b t d h = value (number_up_to number_limit t) h
     value None h = let z : ◌≡◌ {A = ℕ} 0 1 = cc in absurd (omega arith)
 
 -- its carbons are within the limit
-pub start-few : (p : ChainPrefix) (b : Branch) (t gs : List ℕ) (r : Started) (s : Start) → Starts r gs (carbons_of p b t) → r ≡ Started-as-Read s → s.carbon ≤ max_carbons
+pub start-few : (p : ChainPrefix) (b : Branch) (t gs : List ℕ) (r : Result Start Refusal) (s : Start) → Starts r gs (carbons_of p b t) → r ≡ Ok s → s.carbon ≤ max_carbons
 start-few p b t gs r s w e =
-    let v : Starts (Started-as-Read s) gs (carbons_of p b t) = rw e at w in
+    let v : Starts (Ok s) gs (carbons_of p b t) = rw e at w in
     let q = stands_read (start_as s [] gs []) (carbons_of p b t) (v.stands [] []) in
     omega (arith, carbons-few p b t q.0 q.1, q.2.carbon)

@@ -13,14 +13,14 @@ use mir.Syntax.{w32}
 use mir.Val.{Fits}
 use Rattle.scanner.specs.scan.Part.{trimmed, Place, index_of}
 use Rattle.scanner.specs.scan.Number.{number_up_to, number_limit}
-use Rattle.std.specs.Prelude.{Option, Some, None}
+use Rattle.std.specs.Prelude.{Option, Some, None, Result}
 use Rattle.scanner.proofs.scan.Laws.{number_bound}
 use Rattle.token_syntax.specs.form.Parts.{parts_at, list_parts}
 use Rattle.chain_record.specs.declared.plain.DbPos.{DbPos}
 use Rattle.chain_record.specs.declared.plain.Geometry.{Geometry}
 use Rattle.chain_record.specs.declared.plain.Geometry.TheVariants.{Unstated, Cis, Trans}
 use Rattle.chain_record.specs.plain.Chain.{Chain, Outcome, Refused, unreadable, with_bond}
-use Rattle.chain_record.specs.declared.parsed.Pushed.{Pushed}
+use Rattle.chain_record.specs.declared.refusal.Refusal.{Refusal}
 use Rattle.chain_record.specs.parsed.Parsed.{Has, Refuses, Counting, bonds_as, Grows, Fills, Pushes}
 use Rattle.chain_record.proofs.parsed.Laws.{fills-refused, fills-read, fills_same}
 use Rattle.token_head.specs.positions.Positions.{geometry_of, positioned, numbered, lettered, position_of, with_position, bond_at, bond_list, inside, within, ring_position, ring_bond_at, ring_bond_list}
@@ -63,9 +63,9 @@ module _ (s t : List ℕ) (e : t ≡ trimmed s) where
 -- ---- a position of a ring
 
 module _ (s : List ℕ) (start end : ℕ) (p : Option DbPos) (e : p ≡ position_of s) where
-  pub ring-unreadable : p ≡ None → None ≡ ring_position start end s
+  pub ring-unreadable : (r : Option DbPos) → p ≡ None → r ≡ None → r ≡ ring_position start end s
   unfolding ring_position
-  ring-unreadable f = sym (rw (sym e ∙ f))
+  ring-unreadable r f g = g ∙ sym (rw (sym e ∙ f))
 
   module _ (b : DbPos) (f : p ≡ Some b) where
     pub ring-below : b.pos < start → None ≡ ring_position start end s
@@ -162,6 +162,6 @@ any-bond s d = go (position_of s) refl
     go (Some b) e = rw (le-ltb b.pos 0 (omega arith), lt-ltb b.pos 4294967296 (position-below s (Some b) b e refl))
     go None e = refl
 
-pub any-list : (s xs ys : List ℕ) (n : ℕ) (r : Pushed) → Pushes bonds_as n xs r ys (ring_bond_list 0 4294967296 s) → Pushes bonds_as n xs r ys (bond_list s)
+pub any-list : (s xs ys : List ℕ) (n : ℕ) (r : Result ℕ Refusal) → Pushes bonds_as n xs r ys (ring_bond_list 0 4294967296 s) → Pushes bonds_as n xs r ys (bond_list s)
 unfolding ring_bond_list bond_list
 any-list s xs ys n r w = fills_same w (λ x d k. each_same (ring_bond_at 0 4294967296) bond_at any-bond (list_parts s) d)

@@ -1,6 +1,6 @@
 -- 01, Token reader: what stands before the bond count. "Otherwise `iso-` or `anteiso-`, then `O-`, `P-`, or d/D/t/T before a digit, then the
 -- branch word if not yet seen. Carbon text to the first colon". Assumes nothing.
-use Rattle.std.specs.Prelude.{ℕ, ◌+◌, ◌-◌, ◌≤◌, ◌≡◌, List, [], ◌∷◌, true, false, cond, length, drop, eqb, ltb, Option, Some, None}
+use Rattle.std.specs.Prelude.{ℕ, ◌+◌, ◌-◌, ◌≤◌, ◌≡◌, List, [], ◌∷◌, true, false, cond, length, drop, eqb, ltb, Option, Some, None, Result, Ok, Err}
 use Rattle.scanner.specs.scan.Part.{starts_with}
 use Rattle.scanner.specs.scan.Number.{is_digit, number_up_to, number_limit}
 use Rattle.group_table.specs.groups.Groups.{methyl}
@@ -13,8 +13,8 @@ use Rattle.token_head.specs.declared.opening.Branch.{Branch}
 use Rattle.token_head.specs.declared.opening.Branch.TheVariants.{Straight, Iso, Anteiso}
 use Rattle.token_head.specs.declared.opening.Opening.{Opening}
 use Rattle.token_head.specs.declared.opening.Start.{Start}
-use Rattle.token_head.specs.declared.opening.Started.{Started}
-use Rattle.token_head.specs.declared.opening.Started.TheVariants.{Read as Started-as-Read, Refused as Started-as-Refused}
+use Rattle.chain_record.specs.declared.refusal.Refusal.{Refusal}
+use Rattle.chain_record.specs.refusal.Refusal.{number_of}
 
 -- `iso-`
 abbrev pub iso_text : List ℕ
@@ -125,10 +125,10 @@ start_as r bs gs rs =
     record { prefix = r.prefix; written = r.written; carbon = r.carbon; branched = r.branched; unlocated = 0; oxygens = 0; bond_count = 0; bonds = bs; group_count = r.groups; groups = gs; ring_count = 0; rings = rs }
 
 -- 01's number and the values of each case: that record, or 11 or 31
-abbrev pub started : Started → List ℕ → List ℕ → List ℕ → Answer ParsedChain
-started (Started-as-Read r) bs gs rs = Has (start_as r bs gs rs)
-started (Started-as-Refused n) bs gs rs = Refuses n
+abbrev pub started : Result Start Refusal → List ℕ → List ℕ → List ℕ → Answer ParsedChain
+started (Ok r) bs gs rs = Has (start_as r bs gs rs)
+started (Err r) bs gs rs = Refuses (number_of r)
 
 -- r stands for an outcome, with the groups gs
-pub record Starts (r : Started) (gs : List ℕ) (o : Outcome) : Type 0 where
+pub record Starts (r : Result Start Refusal) (gs : List ℕ) (o : Outcome) : Type 0 where
   pub stands : (bs rs : List ℕ) → Stands (started r bs gs rs) o

@@ -11,7 +11,7 @@ use mathlib.Core.Path.{◌≡◌, refl, sym, ap, ◌∙◌}
 use mathlib.Core.Bool.{Bool, true, false, not, cond, true≢false}
 use mathlib.Core.List.{List, [], ◌∷◌, ◌++◌, map, map-append}
 use lib.ListN.{length, get_or, set, take, length-set, replicate}
-use lib.Seq.{get_or-set_same, get_or-set_other, set_out, take-suc, take_all}
+use lib.Seq.{get_or-set_same, get_or-set_other, set_out, take-suc}
 use lib.Dec.{eqb, ltb}
 use borrow.Author.Tests.{lt-ltb, le-ltb, eq-eqb, ne_eqb, ltb-true, ltb-false}
 use Rattle.std.specs.Prelude.{Option, Some, None}
@@ -22,18 +22,9 @@ use Rattle.token_reader.specs.seats.Seats.{among, also, free, Found, SeatIs, fir
 
 -- ---- a free seat
 
-module _ (xs : List Bool) (p : ℕ) where
-  pub used-itself : get_or xs p false ≡ true → false ≡ free (used_in xs) p
-  unfolding free
-  used-itself e = rw e
-
-  pub used-below : get_or xs p false ≡ false → get_or xs (p - 1) false ≡ true → false ≡ free (used_in xs) p
-  unfolding free
-  used-below e f = rw (e, f)
-
-  pub used-above : get_or xs p false ≡ false → get_or xs (p - 1) false ≡ false → not (get_or xs (p + 1) false) ≡ free (used_in xs) p
-  unfolding free
-  used-above e f = rw (e, f)
+pub used-above : (xs : List Bool) (p : ℕ) → get_or xs p false ≡ false → get_or xs (p - 1) false ≡ false → not (get_or xs (p + 1) false) ≡ free (used_in xs) p
+unfolding free
+used-above xs p e f = rw (e, f)
 
 first_range : (u : ℕ → Bool) (n a p : ℕ) → first_free u n a ≡ Some p → (a ≤ p) × (p < a + n)
 unfolding first_free
@@ -140,9 +131,6 @@ seat-range c u s p h k e = go (ltb s c) refl e
 pub not-marked : (xs : List Bool) (p : ℕ) → length xs ≤ p → Marks xs p xs
 not-marked xs p h = record { marked = sym (set_out xs p true h) }
 
-pub marks-length : (n : ℕ) (xs : List Bool) (p : ℕ) (ys : List Bool) → Marks xs p ys → length xs ≡ n → length ys ≡ n
-marks-length n xs p ys m l = ap length m.marked ∙ length-set xs p true ∙ l
-
 also-set : (xs : List Bool) (p k : ℕ) → k < length xs → also p (used_in xs) k ≡ used_in (set xs p true) k
 unfolding also
 also-set xs p k h = go (ℕ_discrete p k)
@@ -191,10 +179,6 @@ marks-one xs ys zs bs i b h f m n = record { same_length = ap length n.marked �
         go : (a b : Bool) → cond a true (cond b true (used_in xs k)) ≡ cond (cond a true b) true (used_in xs k)
         go true b = refl
         go false b = refl
-
--- all of them
-pub marks-whole : (xs ys : List Bool) (bs : List ℕ) (i : ℕ) → length bs ≤ i → MarksAll xs (positions (map bond_in (take i bs))) ys → MarksAll xs (positions (map bond_in bs)) ys
-marks-whole xs ys bs i h m = rw (take_all i bs h) at m
 
 -- two ways to say what is used, up to the carbon c
 abbrev pub Agree : ℕ → (ℕ → Bool) → (ℕ → Bool) → Type 0
@@ -263,10 +247,6 @@ pub seat-next-fits : (c : ℕ) (u : ℕ → Bool) (s r : Option ℕ) (p : ℕ) �
 seat-next-fits c u s r p l w f = let g : Found u 2 c (Some p) = rw f at w.found in record { fits = omega (arith, g.1) }
 
 -- ---- the whole
-
-pub first_small : (c : ℕ) → c < 3 → 2 ≡ first_start c
-unfolding first_start
-first_small c h = omega arith
 
 pub first-last : (c : ℕ) → 3 ≤ c → c < 10 → c - 1 ≡ first_start c
 unfolding first_start

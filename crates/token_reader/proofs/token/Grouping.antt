@@ -12,7 +12,8 @@ use mathlib.Core.Logic.{◌⊎◌, inl, inr}
 use lib.ListN.{length, take, drop, get_or, set, length-drop, length-take, length-map, length-set, drop_of_length-le}
 use lib.Seq.{take-suc, take-suc-set, take_all, take-nil, drop-cons, split_at, take-append_seam, drop-append_seam, take-append-add, drop-append-add}
 use lib.Dec.{eqb, ltb, eqb-zero-suc}
-use borrow.Author.Tests.{lt-ltb, le-ltb, eq-eqb, ne_eqb, eqb-false, ltb-false, not-false}
+use borrow.Author.Tests.{le-ltb, eq-eqb, ne_eqb, eqb-false, ltb-false, not-false}
+use Rattle.std.specs.Prelude.{Option, Some, None, IfSome, unwrap_or}
 use Rattle.scanner.specs.scan.Part.{first_byte, index_of, index_of_text, starts_with, trimmed, ending, Place}
 use Rattle.scanner.specs.scan.Number.{is_digit, digit_run}
 use Rattle.scanner.proofs.scan.Laws.{to_end, digit-from}
@@ -75,40 +76,6 @@ unfolding is_plain
 digit-plain x e =
     rw (le-ltb x 48 (digit-from x e), le-ltb 122 x (omega (arith, digit-most x e)), ne_eqb x 59 (λ z. omega (arith, digit-most x e)), ne_eqb x 91 (λ z. omega (arith, digit-most x e)), ne_eqb x 93 (λ z. omega (arith, digit-most x e)), ne_eqb x 99 (λ z. omega (arith, digit-most x e)))
 
-module _ (b : ℕ) where
-  pub plain-low : b < 48 → false ≡ is_plain b
-  unfolding is_plain
-  plain-low h = rw (lt-ltb b 48 h)
-
-  module _ (l : 48 ≤ b) where
-    pub plain-high : 122 < b → false ≡ is_plain b
-    unfolding is_plain
-    plain-high h = rw (le-ltb b 48 l, lt-ltb 122 b h)
-
-    module _ (h : b ≤ 122) where
-      pub plain-next : b ≡ 59 → false ≡ is_plain b
-      unfolding is_plain
-      plain-next e = rw (le-ltb b 48 l, le-ltb 122 b h, eq-eqb b 59 e)
-
-      module _ (i : b ≡ 59 → ⊥) where
-        pub plain-open : b ≡ 91 → false ≡ is_plain b
-        unfolding is_plain
-        plain-open e = rw (le-ltb b 48 l, le-ltb 122 b h, ne_eqb b 59 i, eq-eqb b 91 e)
-
-        module _ (j : b ≡ 91 → ⊥) where
-          pub plain-close : b ≡ 93 → false ≡ is_plain b
-          unfolding is_plain
-          plain-close e = rw (le-ltb b 48 l, le-ltb 122 b h, ne_eqb b 59 i, ne_eqb b 91 j, eq-eqb b 93 e)
-
-          module _ (k : b ≡ 93 → ⊥) where
-            pub plain-cy : b ≡ 99 → false ≡ is_plain b
-            unfolding is_plain
-            plain-cy e = rw (le-ltb b 48 l, le-ltb 122 b h, ne_eqb b 59 i, ne_eqb b 91 j, ne_eqb b 93 k, eq-eqb b 99 e)
-
-            pub plain_other : (b ≡ 99 → ⊥) → true ≡ is_plain b
-            unfolding is_plain
-            plain_other e = rw (le-ltb b 48 l, le-ltb 122 b h, ne_eqb b 59 i, ne_eqb b 91 j, ne_eqb b 93 k, ne_eqb b 99 e)
-
 plainly-append : (a b : List ℕ) → Plainly a → Plainly b → Plainly (a ++ b)
 plainly-append [] b h k = k
 plainly-append (x ∷ a) b h k = (h.0, plainly-append a b h.1 k)
@@ -117,9 +84,6 @@ pub run_more : (s : List ℕ) (i : ℕ) (b : Bool) → Plainly (take i s) → i 
 run_more s i b h l e n =
     let k : is_plain (get_or s i 0) ≡ true = sym e ∙ not-false b n in
     rw (add-one i, take-suc s i 0 l) (plainly-append (take i s) (get_or s i 0 ∷ []) h (k, tt))
-
-pub run_end : (s : List ℕ) (i : ℕ) → i ≤ length s → Plainly (take i s) → PlainRun s i
-run_end s i l h = record { within = l; plain = h }
 
 passed-plain : (n : ℕ) (t : List ℕ) → n ≤ length t → Plainly (take n t) → Passed t (drop n t)
 passed-plain zero t l h = passed_here t
@@ -166,14 +130,22 @@ numeral-two x y e f =
     let w : x ∷ y ∷ [] ≡ trimmed (x ∷ y ∷ []) = trim-whole (x ∷ y ∷ []) (λ z. omega arith) (λ z. omega (arith, digit-from x e)) (λ z. omega (arith, digit-from y f)) in
     record { digits = (e, (f, tt)); some = omega arith; number = rw (← w) (no_plus x (y ∷ []) e ∙ two_digits x y e f) }
 
-pub lead-none : (t : List ℕ) → Leads t (record { pos = 0; length = 0 })
-lead-none t = record { within = omega arith; plain = tt; small = omega arith; figures = λ n. absurd (n refl); says = λ c x b e. part_none c x b e }
+-- the position that t starts with, or none, which is 0
+record Before (t : List ℕ) (r : Lead) : Type 0 where
+  within : r.length ≤ length t
+  plain : Plainly (take r.length t)
+  small : r.pos ≤ 99
+  says : (c x : ℕ) (b : List ℕ) → is_digit x ≡ false → part_of (take r.length t ++ x ∷ b) c ≡ item_at (x ∷ b) r.pos c
+
+before-either : (t : List ℕ) (o : Option Lead) (r : Lead) → IfSome o (λ r. Leads t r) → r ≡ unwrap_or o (record { pos = 0; length = 0 }) → Before t r
+before-either t None r w e = rw e (record { within = omega arith; plain = tt; small = omega arith; says = λ c x b e. part_none c x b e })
+before-either t (Some q) r w e = rw e (record { within = w.within; plain = w.plain; small = w.small; says = w.says })
 
 pub lead-one : (t : List ℕ) (a : Bool) (x : ℕ) → 2 ≤ length t → a ≡ is_digit (get_or t 0 0) → not a ≡ false → x ≡ get_or t 0 0 - 48 → Leads t (record { pos = x; length = 1 })
 lead-one [] a x l e n f = absurd (omega arith)
 lead-one (y ∷ t) a x l e n f =
     let d = digit-is y a e n in
-    rw f (record { within = omega arith; plain = (digit-plain y d, tt); small = omega (arith, digit-most y d); figures = λ n. numeral-one y d; says = λ c x b e. part-one c y x b d e })
+    rw f (record { within = omega arith; plain = (digit-plain y d, tt); small = omega (arith, digit-most y d); figures = numeral-one y d; says = λ c x b e. part-one c y x b d e })
 
 pub lead-two : (t : List ℕ) (a b : Bool) (x y : ℕ) → 2 ≤ length t → a ≡ is_digit (get_or t 0 0) → not a ≡ false → b ≡ is_digit (get_or t 1 0) → not b ≡ false → x ≡ get_or t 0 0 - 48 → y ≡ get_or t 1 0 - 48
     → Leads t (record { pos = x * 10 + y; length = 2 })
@@ -182,7 +154,7 @@ lead-two (i ∷ []) a b x y l e n f m g h = absurd (omega arith)
 lead-two (i ∷ j ∷ t) a b x y l e n f m g h =
     let d = digit-is i a e n in
     let k = digit-is j b f m in
-    rw (g, h) (record { within = omega arith; plain = (digit-plain i d, (digit-plain j k, tt)); small = omega (arith, digit-most i d, digit-most j k); figures = λ n. numeral-two i j d k; says = λ c x b e. part-two c i j x b d k e })
+    rw (g, h) (record { within = omega arith; plain = (digit-plain i d, (digit-plain j k, tt)); small = omega (arith, digit-most i d, digit-most j k); figures = numeral-two i j d k; says = λ c x b e. part-two c i j x b d k e })
 
 -- ---- a group
 
@@ -208,7 +180,7 @@ abbrev head_of : List ℕ → ℕ
 head_of [] = 0
 head_of (x ∷ s) = x
 
-item_from : (t : List ℕ) (q : Lead) (m : ℕ) (u : List ℕ) (row code : ℕ) → Leads t q → drop q.length t ≡ u → (q.length ≡ length t → ⊥) → is_digit (get_or t q.length 0) ≡ false → PlainRun u m → (m ≡ 0 → ⊥)
+item_from : (t : List ℕ) (q : Lead) (m : ℕ) (u : List ℕ) (row code : ℕ) → Before t q → drop q.length t ≡ u → (q.length ≡ length t → ⊥) → is_digit (get_or t q.length 0) ≡ false → PlainRun u m → (m ≡ 0 → ⊥)
     → feature_of (take m u) ≡ Feature-as-Group row → code ≡ group_code (record { pos = q.pos; row = row }) → Itemed t (record { code = code; next = q.length + m })
 item_from t q zero u row code w i n d p z g e = absurd (z refl)
 item_from t q (suc k) [] row code w i n d p z g e = absurd (omega (arith, p.within))
@@ -220,19 +192,20 @@ item_from t q (suc k) (x ∷ u) row code w i n d p z g e =
     let j : take (q.length + suc k) t ≡ take q.length t ++ x ∷ take k u = take-plus q.length (suc k) t ∙ rw i in
     let b : group_in code ≡ record { pos = q.pos; row = row } = ap group_in e ∙ group-back (record { pos = q.pos; row = row }) (omega (arith, w.small)) (omega (arith, group-row (x ∷ take k u) row g)) in
     record {
+      some = omega arith;
       room = omega (arith, r, p.within, w.within);
       plain = rw j (plainly-append (take q.length t) (x ∷ take k u) w.plain p.plain);
       says = λ c. rw (j, b) (w.says c x (take k u) v ∙ item-group (x ∷ take k u) row q.pos c g);
     }
 
-pub item-read : (t : List ℕ) (q : Lead) (a : Bool) (m : ℕ) (f : Feature) (row code : ℕ) → Leads t q → (q.length ≡ length t → ⊥) → a ≡ is_digit (get_or t q.length 0) → a ≡ false
+pub item-read : (t : List ℕ) (q : Lead) (a : Bool) (m : ℕ) (f : Feature) (row code : ℕ) (o : Option Lead) → IfSome o (λ r. Leads t r) → q ≡ unwrap_or o (record { pos = 0; length = 0 }) → (q.length ≡ length t → ⊥) → a ≡ is_digit (get_or t q.length 0) → a ≡ false
     → PlainRun (take (length t - q.length) (drop q.length t)) m → (m ≡ 0 → ⊥) → f ≡ feature_of (take (q.length + m - q.length) (drop q.length t)) → f ≡ Feature-as-Group row
     → code ≡ group_code (record { pos = q.pos; row = row }) → Itemed t (record { code = code; next = q.length + m })
-item-read t q a m f row code w n e b p z g h k =
+item-read t q a m f row code o w y n e b p z g h k =
     let cut : q.length + m - q.length ≡ m = omega arith in
     let r : PlainRun (drop q.length t) m = rw (to_end q.length t) at p in
     let i : feature_of (take m (drop q.length t)) ≡ Feature-as-Group row = sym (rw cut at g) ∙ h in
-    item_from t q m (drop q.length t) row code w refl n (sym e ∙ b) r z i k
+    item_from t q m (drop q.length t) row code (before-either t o q w y) refl n (sym e ∙ b) r z i k
 
 -- ---- a segment without marks
 
@@ -469,14 +442,13 @@ may-follow : (s : List ℕ) → get_or s 0 0 ≡ 59 → may_follow s ≡ true
 may-follow [] e = refl
 may-follow (x ∷ s) e = eq-eqb x 59 e
 
-module _ (s t hs : List ℕ) (n : ℕ) (o : Onto s t hs n) (r : Item) (f : (r.next ≡ 0 → ⊥) → Itemed t r) (z : r.next ≡ 0 → ⊥) (few : n < 16) (roomy : 16 ≤ length hs) where
+module _ (s t hs : List ℕ) (n : ℕ) (o : Onto s t hs n) (r : Item) (v : Itemed t r) (few : n < 16) (roomy : 16 ≤ length hs) where
   item-long : 0 < length (take r.next t)
-  item-long = omega (arith, length-take r.next t, (f z).room, z)
+  item-long = omega (arith, length-take r.next t, v.room, v.some)
 
   -- the last group
   pub onto-last : get_or s 0 0 ≡ 59 → r.next ≡ length t → Grouped s (set hs n r.code) (n + 1)
   onto-last c e =
-      let v = f z in
       let y : t ≡ take r.next t = sym (take_all r.next t (omega arith)) in
       let k : drop r.next t ≡ [] = drop_of_length-le t {i = r.next} (omega arith) in
       let q : Passed s [] = rw k at (passed_on s t (drop r.next t) o.passed (passed-plain r.next t v.room v.plain)) in
@@ -484,18 +456,15 @@ module _ (s t hs : List ℕ) (n : ℕ) (o : Onto s t hs n) (r : Item) (f : (r.ne
 
   item-past : r.next < length t → 33 ≤ get_or t r.next 0 → get_or t r.next 0 ≤ 126 → Passed s (drop (suc r.next) t)
   item-past l i j =
-      let v = f z in
       let k : Passed t (get_or t r.next 0 ∷ drop (suc r.next) t) = rw (drop-cons t r.next 0 l) at (passed-plain r.next t v.room v.plain) in
       passed_on s t _ o.passed (passed_on t _ _ k (passed-one (get_or t r.next 0) _ _ i j (passed_here _)))
 
   item-more : (r.next ≡ length t → ⊥) → (get_or t r.next 0 ≡ 44) ⊎ (get_or t r.next 0 ≡ 59) → Onto s (drop (suc r.next) t) (set hs n r.code) (n + 1)
   item-more e (inl c) =
-      let v = f z in
       let l : r.next < length t = omega (arith, v.room, e) in
       let y : t ≡ take r.next t ++ 44 ∷ drop (suc r.next) t = split_at t r.next 0 l ∙ ap (λ (x : ℕ). take r.next t ++ x ∷ drop (suc r.next) t) c in
       onto-comma s t (take r.next t) hs n r.code o v.plain item-long v.says few roomy (drop (suc r.next) t) y (item-past l (omega arith) (omega arith))
   item-more e (inr c) =
-      let v = f z in
       let l : r.next < length t = omega (arith, v.room, e) in
       let y : t ≡ take r.next t ++ 59 ∷ drop (suc r.next) t = split_at t r.next 0 l ∙ ap (λ (x : ℕ). take r.next t ++ x ∷ drop (suc r.next) t) c in
       onto-next s t (take r.next t) hs n r.code o v.plain item-long v.says few roomy (drop (suc r.next) t) y (item-past l (omega arith) (omega arith))

@@ -35,7 +35,6 @@ use Rattle.token_segments.specs.segment.Segment.{modification, segment_at, segme
 use Rattle.token_segments.proofs.segment.Laws.{segments-none}
 use Rattle.token_reader.specs.declared.token.Lead.{Lead}
 use Rattle.token_reader.specs.declared.token.Item.{Item}
-use Rattle.token_reader.specs.declared.token.Listed.{Listed}
 use Rattle.token_reader.specs.token.Short.{Passed, bonded, may_follow, Digits, Numeral, Leads, laden, Sized, Spanned, Enclosed, rings_in, RingFirst}
 use Rattle.token_reader.proofs.token.Short.{digit-most, passed_here, passed-one}
 use Rattle.token_reader.proofs.token.Grouping.{first-empty, laden-counts}
@@ -215,26 +214,26 @@ ring-kept start end n c g l e = go (ltb end start) (ltb c end) (eqb (end - start
         rw (← z) (ring-back (record { start = start; end = end; bridge = Carbocycle }) (omega arith) (omega arith))
 
 -- the size
-pub sized-read : (start end carbon : ℕ) (t : List ℕ) (q : Lead) (s : Segment) (g : Ring) (code : ℕ) → carbon < 65536 → Leads t q → (q.length ≡ 0 → ⊥) → (q.length ≡ length t → ⊥) → get_or t q.length 0 ≡ 93
+pub sized-read : (start end carbon : ℕ) (t : List ℕ) (q : Lead) (s : Segment) (g : Ring) (code : ℕ) → carbon < 65536 → Leads t q → (q.length ≡ length t → ⊥) → get_or t q.length 0 ≡ 93
     → s ≡ ring_of start end q.pos carbon → s ≡ Cycle g → code ≡ ring_code g → Sized start end carbon t (record { code = code; next = q.length + 1 })
-sized-read start end carbon t q s g code l w n m e f h k =
+sized-read start end carbon t q s g code l w m e f h k =
     let i : q.length < length t = omega (arith, w.within, m) in
     let o : ring_of start end q.pos carbon ≡ Cycle g = sym f ∙ h in
     record {
       size = take q.length t;
       span = q.pos;
-      spans = w.figures n;
+      spans = w.figures;
       room = omega arith;
       split = split_at t q.length 0 i ∙ rw (e, add-one q.length);
       closes = o ∙ ap Cycle (sym (ap ring_in k ∙ ring-kept start end q.pos carbon g l o));
     }
 
 -- the last carbon
-pub span-read : (start carbon : ℕ) (t : List ℕ) (q : Lead) (r : Item) → Leads t q → (q.length ≡ 0 → ⊥) → q.length + 2 ≤ length t → get_or t q.length 0 ≡ 99 → get_or t (q.length + 1) 0 ≡ 121
-    → ((r.next ≡ 0 → ⊥) → Sized start q.pos carbon (take (length t - (q.length + 2)) (drop (q.length + 2) t)) r) → (r.next ≡ 0 → ⊥)
+pub span-read : (start carbon : ℕ) (t : List ℕ) (q : Lead) (r : Item) → Leads t q → q.length + 2 ≤ length t → get_or t q.length 0 ≡ 99 → get_or t (q.length + 1) 0 ≡ 121
+    → Sized start q.pos carbon (take (length t - (q.length + 2)) (drop (q.length + 2) t)) r
     → Spanned start carbon t (record { code = r.code; next = q.length + 2 + r.next })
-span-read start carbon t q r w n l e f v m =
-    let k : Sized start q.pos carbon (drop (q.length + 2) t) r = rw (to_end (q.length + 2) t) at (v m) in
+span-read start carbon t q r w l e f v =
+    let k : Sized start q.pos carbon (drop (q.length + 2) t) r = rw (to_end (q.length + 2) t) at v in
     let i : suc (suc q.length) ≡ q.length + 2 = omega arith in
     let j : suc q.length ≡ q.length + 1 = omega arith in
     let a : t ≡ take q.length t ++ 99 ∷ drop (suc q.length) t = split_at t q.length 0 (omega arith) ∙ rw e in
@@ -243,7 +242,7 @@ span-read start carbon t q r w n l e f v m =
     record {
       last = take q.length t;
       end = q.pos;
-      ends = w.figures n;
+      ends = w.figures;
       size = k.size;
       span = k.span;
       spans = k.spans;
@@ -253,18 +252,18 @@ span-read start carbon t q r w n l e f v m =
     }
 
 -- the first carbon
-pub bracket-read : (carbon : ℕ) (t : List ℕ) (q : Lead) (r : Item) → Leads t q → (q.length ≡ 0 → ⊥) → (q.length ≡ length t → ⊥) → get_or t q.length 0 ≡ 45
-    → ((r.next ≡ 0 → ⊥) → Spanned q.pos carbon (take (length t - (q.length + 1)) (drop (q.length + 1) t)) r) → (r.next ≡ 0 → ⊥)
+pub bracket-read : (carbon : ℕ) (t : List ℕ) (q : Lead) (r : Item) → Leads t q → (q.length ≡ length t → ⊥) → get_or t q.length 0 ≡ 45
+    → Spanned q.pos carbon (take (length t - (q.length + 1)) (drop (q.length + 1) t)) r
     → Enclosed carbon t (record { code = r.code; next = q.length + 1 + r.next })
-bracket-read carbon t q r w n l e v m =
-    let k : Spanned q.pos carbon (drop (q.length + 1) t) r = rw (to_end (q.length + 1) t) at (v m) in
+bracket-read carbon t q r w l e v =
+    let k : Spanned q.pos carbon (drop (q.length + 1) t) r = rw (to_end (q.length + 1) t) at v in
     let i : q.length < length t = omega (arith, w.within, l) in
     let a : t ≡ take q.length t ++ 45 ∷ drop (q.length + 1) t = split_at t q.length 0 i ∙ rw (e, add-one q.length) in
     let c : drop r.next (drop (q.length + 1) t) ≡ drop (q.length + 1 + r.next) t = drop-drop r.next (q.length + 1) t in
     record {
       first = take q.length t;
       start = q.pos;
-      starts = w.figures n;
+      starts = w.figures;
       last = k.last;
       end = k.end;
       ends = k.ends;
@@ -277,9 +276,6 @@ bracket-read carbon t q r w n l e v m =
     }
 
 -- ---- the ring
-
-pub ring-none : (w : ℕ) (v zs : List ℕ) (r : Listed) → r ≡ record { count = 0; rest = 0 } → RingFirst w v zs r
-ring-none w v zs r e = rw e (record { room = omega arith; few = omega arith; stored = omega arith; follows = λ f. f; says = λ f p l h. refl })
 
 text-joined : (a b c v : List ℕ) → a ++ 45 ∷ (b ++ 99 ∷ 121 ∷ (c ++ 93 ∷ v)) ≡ ring_text a b c ++ 93 ∷ v
 text-joined a b c v = sym (append_assoc a (45 ∷ (b ++ 99 ∷ 121 ∷ c)) (93 ∷ v) ∙ ap (λ (x : List ℕ). a ++ 45 ∷ x) (append_assoc b (99 ∷ 121 ∷ c) (93 ∷ v)))
@@ -322,11 +318,11 @@ module _ (w : ℕ) (t rs : List ℕ) (r : Item) (k : Enclosed w t r) (roomy : 8 
         says = λ f p l h. rw (one_in rs r.code roomy) (ring-says p l h f.start);
       }
 
-pub ring-one : (w : ℕ) (v rs : List ℕ) (r : Item) → 2 ≤ length v → get_or v 0 0 ≡ 59 → get_or v 1 0 ≡ 91 → ((r.next ≡ 0 → ⊥) → Enclosed w (take (length v - 2) (drop 2 v)) r) → (r.next ≡ 0 → ⊥) → 8 ≤ length rs
+pub ring-one : (w : ℕ) (v rs : List ℕ) (r : Item) → 2 ≤ length v → get_or v 0 0 ≡ 59 → get_or v 1 0 ≡ 91 → Enclosed w (take (length v - 2) (drop 2 v)) r → 8 ≤ length rs
     → RingFirst w v (set rs 0 r.code) (record { count = 1; rest = r.next + 2 })
-ring-one w [] rs r l a b f n h = absurd (omega arith)
-ring-one w (x ∷ []) rs r l a b f n h = absurd (omega arith)
-ring-one w (x ∷ y ∷ t) rs r l a b f n h =
-    let k : Enclosed w t r = rw (to_end 2 (x ∷ y ∷ t)) at (f n) in
+ring-one w [] rs r l a b f h = absurd (omega arith)
+ring-one w (x ∷ []) rs r l a b f h = absurd (omega arith)
+ring-one w (x ∷ y ∷ t) rs r l a b f h =
+    let k : Enclosed w t r = rw (to_end 2 (x ∷ y ∷ t)) at f in
     let e : r.next + 2 ≡ suc (suc r.next) = omega arith in
     rw (a, b, e) (ring-first w t rs r k h)

@@ -14,7 +14,7 @@ use lib.Dec.{eqb, ltb, leb, eqb-suc-suc}
 use borrow.Author.Tests.{le-ltb, le-leb, leb-true, eq-eqb, ne_eqb, eqb-true, not-false}
 use Rattle.scanner.specs.scan.Part.{first_byte, index_of, ending_after, ending, trimmed, starts_with, same_bytes, Place}
 use Rattle.scanner.specs.scan.Number.{is_digit, digit_run, all_digits, value_from, checked, digits_up_to, after_plus, number_up_to, number_limit}
-use Rattle.std.specs.Prelude.{Some}
+use Rattle.std.specs.Prelude.{Some, Result, Ok, Err}
 use Rattle.scanner.proofs.scan.Laws.{to_end, digit-from}
 use Rattle.scanner.proofs.part.Laws.{first-within}
 use Rattle.scanner.proofs.spaces.Laws.{trim-whole, end-here}
@@ -41,14 +41,16 @@ use Rattle.token_reader.specs.token.Token.{missing_of, bare_oxygens, finished, r
 use Rattle.token_reader.specs.declared.token.Spot.{Spot}
 use Rattle.token_reader.specs.declared.token.Listed.{Listed}
 use Rattle.token_reader.specs.declared.token.Usual.{Usual}
-use Rattle.std.specs.Prelude.{Option, Some, None}
+use Rattle.std.specs.Prelude.{Option, Some, None, IfSome, unwrap_or}
 use Rattle.token_reader.specs.declared.token.Ended.{Ended}
-use Rattle.token_reader.specs.declared.token.ReadToken.{ReadToken}
-use Rattle.token_reader.specs.declared.token.ReadToken.TheVariants.{Read as ReadToken-as-Read, Refused as ReadToken-as-Refused}
+use Rattle.chain_record.specs.declared.refusal.Refusal.{Refusal}
+use Rattle.chain_record.specs.declared.refusal.Refusal.TheVariants.{Unreadable}
+use Rattle.token_reader.specs.declared.token.Ending.{Ending}
+use Rattle.token_reader.specs.declared.token.ReadChain.{ReadChain}
 use Rattle.token_reader.specs.token.Lent.{bonds_in, Ends, ended_as, Tells}
 use Rattle.token_segments.proofs.segment.Laws.{segments-none}
 use Rattle.token_reader.proofs.token.Laws.{rest-empty, with-start}
-use Rattle.token_reader.specs.token.Short.{Numbered, Passed, HeadAt, Headed, bonded, list_left, SpotOf, Spotted, Listing, may_follow, Follows, Lists, laden, groups_in, Grouped, rings_in, RingFirst, Starts, Plain, PlainIn}
+use Rattle.token_reader.specs.token.Short.{Passed, HeadAt, Headed, bonded, list_left, SpotOf, Spotted, Listing, may_follow, Follows, Lists, laden, groups_in, Grouped, rings_in, RingFirst, Starts, Plain, PlainIn}
 
 -- ---- the bytes that are passed
 
@@ -147,23 +149,10 @@ letter-range x h = go (eqb x 100) (eqb x 68) (eqb x 116) (eqb x 84) refl refl re
     go false false false true a b c d h = (omega (arith, eqb-true x 84 d), omega (arith, eqb-true x 84 d))
     go false false false false a b c d h = absurd (omega arith)
 
-pub counted_is : (t : List ℕ) (a b d : Bool) → 4 ≤ length t → a ≡ is_digit (get_or t 0 0) → not a ≡ false → b ≡ is_digit (get_or t 1 0) → not b ≡ false → get_or t 2 0 ≡ 58
-    → d ≡ is_digit (get_or t 3 0) → d ≡ true → Numbered t
-counted_is t a b d l ea na eb nb c ed nd = record { room = l; ten = digit-is _ a ea na; one = digit-is _ b eb nb; colon = c; bonds = sym ed ∙ nd }
-
-pub numbered_is : (t : List ℕ) (b : Bool) → (b ≡ true → Numbered t) → not b ≡ false → Numbered t
-numbered_is t b w n = w (not-false b n)
-
-pub head-counted : (t : List ℕ) (p : ChainPrefix) (at : ℕ) (b : Bool) (x y z : ℕ) → (b ≡ true → Numbered t) → not b ≡ false → x ≡ get_or t 0 0 - 48 → y ≡ get_or t 1 0 - 48 → z ≡ get_or t 3 0 - 48
-    → HeadAt t p at (record { prefix = p; carbon = x * 10 + y; declared = z; rest = at + 4 })
-head-counted t p at b x y z w n e f g = rw (e, f, g) (record { counted = numbered_is t b w n; is = refl })
-
-pub head-room : (s : List ℕ) (r : Head) → ((r.rest ≡ 0 → ⊥) → Headed s r) → (r.rest ≡ 0 → ⊥) → r.rest ≤ length s
-head-room s r w n = (w n).room
-
 -- without prefix
-pub head_plain : (s : List ℕ) (r : Head) → ((r.rest ≡ 0 → ⊥) → HeadAt s Acyl 0 r) → (r.rest ≡ 0 → ⊥) → Headed s r
-head_plain s r w n = go s (w n)
+pub head_plain : (s : List ℕ) (o : Option Head) → IfSome o (λ r. HeadAt s Acyl 0 r) → IfSome o (λ r. Headed s r)
+head_plain s None w = tt
+head_plain s (Some r) w = go s w
   where
     go : (s : List ℕ) → HeadAt s Acyl 0 r → Headed s r
     go [] h = absurd (omega (arith, h.counted.room))
@@ -185,8 +174,9 @@ head_plain s r w n = go s (w n)
         })
 
 -- with a letter as prefix
-pub head-letter : (s : List ℕ) (o : Opening) (r : Head) → 2 ≤ length s → Opened s o → o.carbons ≡ 1 → ((r.rest ≡ 0 → ⊥) → HeadAt (take (length s - 1) (drop 1 s)) o.prefix 1 r) → (r.rest ≡ 0 → ⊥) → Headed s r
-head-letter s o r l q e w n = go s q (rw (to_end 1 s) at (w n))
+pub head-letter : (s : List ℕ) (o : Opening) (h : Option Head) → 2 ≤ length s → Opened s o → o.carbons ≡ 1 → IfSome h (λ r. HeadAt (take (length s - 1) (drop 1 s)) o.prefix 1 r) → IfSome h (λ r. Headed s r)
+head-letter s o None l q e w = tt
+head-letter s o (Some r) l q e w = go s q (rw (to_end 1 s) at w)
   where
     go : (s : List ℕ) → Opened s o → HeadAt (drop 1 s) o.prefix 1 r → Headed s r
     go [] q h = absurd (omega (arith, h.counted.room))
@@ -216,13 +206,13 @@ head-letter s o r l q e w n = go s q (rw (to_end 1 s) at (w n))
 
 -- ---- one double bond of a list
 
-pub letter-cis : (pos b next code : ℕ) → b ≡ 90 → code ≡ bond_code (record { pos = pos; geom = Cis }) → SpotOf pos b next (record { code = code; next = next })
+pub letter-cis : (pos b next code : ℕ) (g : Geometry) → b ≡ 90 → g ≡ Cis → code ≡ bond_code (record { pos = pos; geom = g }) → SpotOf pos b next (record { code = code; next = next })
 unfolding geometry_of
-letter-cis pos b next code e f = rw (e, f) (record { is = refl; low = omega arith; high = omega arith; stated = λ h. let z : ◌≡◌ {A = ℕ} 0 1 = cc in absurd (omega arith) })
+letter-cis pos b next code g e i f = rw (e, f, i) (record { is = refl; low = omega arith; high = omega arith; stated = λ h. let z : ◌≡◌ {A = ℕ} 0 1 = cc in absurd (omega arith) })
 
-pub letter-trans : (pos b next code : ℕ) → b ≡ 69 → code ≡ bond_code (record { pos = pos; geom = Trans }) → SpotOf pos b next (record { code = code; next = next })
+pub letter-trans : (pos b next code : ℕ) (g : Geometry) → b ≡ 69 → g ≡ Trans → code ≡ bond_code (record { pos = pos; geom = g }) → SpotOf pos b next (record { code = code; next = next })
 unfolding geometry_of
-letter-trans pos b next code e f = rw (e, f) (record { is = refl; low = omega arith; high = omega arith; stated = λ h. let z : ◌≡◌ {A = ℕ} 0 1 = cc in absurd (omega arith) })
+letter-trans pos b next code g e i f = rw (e, f, i) (record { is = refl; low = omega arith; high = omega arith; stated = λ h. let z : ◌≡◌ {A = ℕ} 0 1 = cc in absurd (omega arith) })
 
 -- the number before a letter
 number_at : (g : Geometry) (s : List ℕ) (n : ℕ) → number_up_to number_limit s ≡ Some n → numbered g s ≡ Some (record { pos = n; geom = g })
@@ -339,8 +329,9 @@ module _ (declared : ℕ) (d : Chain) (x v y : ℕ) (u : List ℕ) (e : is_digit
       let p : parts_at 44 (x ∷ v ∷ y ∷ []) ≡ (x ∷ v ∷ y ∷ []) ∷ [] = not-comma x _ (omega (arith, digit-from x e)) ∙ ap (onto x) (not-comma v _ (omega (arith, digit-from v f)) ∙ ap (onto v) (not-comma y _ (omega arith) ∙ ap (onto y) no-comma)) in
       left-at declared 3 (x ∷ v ∷ y ∷ 41 ∷ u) d i ∙ rw (ne_eqb 3 (length (x ∷ v ∷ y ∷ 41 ∷ u)) (λ z. omega arith), p, only_part (x ∷ v ∷ y ∷ []) b d (position-two x v y e f l h n))
 
-pub spot-one : (t : List ℕ) (pos : ℕ) (r : Spot) (a : Bool) → 3 ≤ length t → a ≡ is_digit (get_or t 0 0) → not a ≡ false → pos ≡ get_or t 0 0 - 48 → ((r.next ≡ 0 → ⊥) → SpotOf pos (get_or t 1 0) 2 r) → (r.next ≡ 0 → ⊥) → Spotted t r
-spot-one t pos r a l e k f w n = go t l (digit-is _ a e k) f (w n)
+pub spot-one : (t : List ℕ) (pos : ℕ) (o : Option Spot) (a : Bool) → 3 ≤ length t → a ≡ is_digit (get_or t 0 0) → not a ≡ false → pos ≡ get_or t 0 0 - 48 → IfSome o (λ r. SpotOf pos (get_or t 1 0) 2 r) → IfSome o (λ r. Spotted t r)
+spot-one t pos None a l e k f w = tt
+spot-one t pos (Some r) a l e k f w = go t l (digit-is _ a e k) f w
   where
     go : (t : List ℕ) → 3 ≤ length t → is_digit (get_or t 0 0) ≡ true → pos ≡ get_or t 0 0 - 48 → SpotOf pos (get_or t 1 0) 2 r → Spotted t r
     go [] l e f s = absurd (omega arith)
@@ -358,9 +349,10 @@ spot-one t pos r a l e k f w n = go t l (digit-is _ a e k) f (w n)
           last = λ declared d c. rw (k, c) (last_one declared d x y u e s.low s.high s.stated);
         })
 
-pub spot-two : (t : List ℕ) (a b : ℕ) (r : Spot) (i j : Bool) → 4 ≤ length t → i ≡ is_digit (get_or t 0 0) → not i ≡ false → j ≡ is_digit (get_or t 1 0) → not j ≡ false → a ≡ get_or t 0 0 - 48 → b ≡ get_or t 1 0 - 48
-    → ((r.next ≡ 0 → ⊥) → SpotOf (a * 10 + b) (get_or t 2 0) 3 r) → (r.next ≡ 0 → ⊥) → Spotted t r
-spot-two t a b r i j l e m f k g h w n = go t l (digit-is _ i e m) (digit-is _ j f k) g h (w n)
+pub spot-two : (t : List ℕ) (a b : ℕ) (o : Option Spot) (i j : Bool) → 4 ≤ length t → i ≡ is_digit (get_or t 0 0) → not i ≡ false → j ≡ is_digit (get_or t 1 0) → not j ≡ false → a ≡ get_or t 0 0 - 48 → b ≡ get_or t 1 0 - 48
+    → IfSome o (λ r. SpotOf (a * 10 + b) (get_or t 2 0) 3 r) → IfSome o (λ r. Spotted t r)
+spot-two t a b None i j l e m f k g h w = tt
+spot-two t a b (Some r) i j l e m f k g h w = go t l (digit-is _ i e m) (digit-is _ j f k) g h w
   where
     go : (t : List ℕ) → 4 ≤ length t → is_digit (get_or t 0 0) ≡ true → is_digit (get_or t 1 0) ≡ true → a ≡ get_or t 0 0 - 48 → b ≡ get_or t 1 0 - 48 → SpotOf (a * 10 + b) (get_or t 2 0) 3 r → Spotted t r
     go [] l e f g h s = absurd (omega arith)
@@ -426,20 +418,19 @@ so-none s bs =
       says = λ h declared p w. rw (parts-some (index_of 41 s) s h (first-within (λ x. eqb x 41) s));
     }
 
-module _ (s t bs : List ℕ) (n : ℕ) (h : So s t bs n) (r : Spot) (f : (r.next ≡ 0 → ⊥) → Spotted t r) (z : r.next ≡ 0 → ⊥) (few : n < 32) (roomy : 32 ≤ length bs) where
+module _ (s t bs : List ℕ) (n : ℕ) (h : So s t bs n) (r : Spot) (v : Spotted t r) (few : n < 32) (roomy : 32 ≤ length bs) where
   rest_at : drop (r.next + 1) t ≡ drop (length s - length t + r.next + 1) s
   rest_at =
       let k : length s - length t + (r.next + 1) ≡ length s - length t + r.next + 1 = omega arith in
       ap (drop (r.next + 1)) h.left ∙ drop-drop (r.next + 1) (length s - length t) s ∙ ap (λ (m : ℕ). drop m s) k
 
   passed_to : get_or t r.next 0 ≡ 44 ⊎ get_or t r.next 0 ≡ 41 → Passed s (drop (r.next + 1) t)
-  passed_to (inl e) = passed-past s t r.next (f z).room (omega arith) (omega arith) h.passed (f z).passed
-  passed_to (inr e) = passed-past s t r.next (f z).room (omega arith) (omega arith) h.passed (f z).passed
+  passed_to (inl e) = passed-past s t r.next v.room (omega arith) (omega arith) h.passed v.passed
+  passed_to (inr e) = passed-past s t r.next v.room (omega arith) (omega arith) h.passed v.passed
 
   -- a double bond more, and more to come
   pub so-more : get_or t r.next 0 ≡ 44 → So s (take (length t - (r.next + 1)) (drop (r.next + 1) t)) (set bs n r.code) (n + 1)
   so-more e =
-      let v = f z in
       let m : length (drop (r.next + 1) t) ≡ length t - (r.next + 1) = length-drop (r.next + 1) t in
       let k : length s - length t + r.next + 1 ≡ length s - length (drop (r.next + 1) t) = omega (arith, m, h.within, v.room) in
       rw (to_end (r.next + 1) t)
@@ -453,7 +444,6 @@ module _ (s t bs : List ℕ) (n : ℕ) (h : So s t bs n) (r : Spot) (f : (r.next
   -- the last one
   pub list-last : get_or t r.next 0 ≡ 41 → Listing s (set bs n r.code) (record { count = n + 1; rest = length s - length t + r.next + 1 })
   list-last e =
-      let v = f z in
       record {
         room = omega (arith, h.within, v.room);
         few = omega arith;
@@ -466,9 +456,6 @@ module _ (s t bs : List ℕ) (n : ℕ) (h : So s t bs n) (r : Spot) (f : (r.next
       }
 
 -- ---- a list or none
-
-abbrev pub rest-of : Listed → ℕ
-rest-of r = r.rest
 
 abbrev no_list : Listed
 no_list = record { count = 0; rest = 0 }
@@ -490,13 +477,16 @@ module _ (ys : List ℕ) where
   none-start [] m = refl
   none-start (x ∷ u) m = rw (eqb-true x 59 m)
 
-  pub lists-none : (u : List ℕ) (r : Listed) → r ≡ no_list → Lists u ys r
+  lists-none : (u : List ℕ) (r : Listed) → r ≡ no_list → Lists u ys r
   lists-none u r e = rw e (record { room = omega arith; few = omega arith; stored = omega arith; passed = passed_here u; start = none-start u; says = none-says u })
 
-  pub lists-read : (u : List ℕ) (r : Listed) → (length u ≡ 0 → ⊥) → get_or u 0 0 ≡ 40 → ((r.rest ≡ 0 → ⊥) → Listing (take (length u - 1) (drop 1 u)) ys r) → (r.rest ≡ 0 → ⊥)
-      → Lists u ys (record { count = r.count; rest = r.rest + 1 })
+  lists-either : (u : List ℕ) (o : Option Listed) (r : Listed) → IfSome o (λ r. Lists u ys r) → r ≡ unwrap_or o no_list → Lists u ys r
+  lists-either u None r w e = lists-none u r e
+  lists-either u (Some q) r w e = rw e w
+
+  pub lists-read : (u : List ℕ) (r : Listed) → (length u ≡ 0 → ⊥) → get_or u 0 0 ≡ 40 → Listing (take (length u - 1) (drop 1 u)) ys r → Lists u ys (record { count = r.count; rest = r.rest + 1 })
   unfolding after_count starts_with first_byte is_digit
-  lists-read u r l e w n = go u l e (rw (to_end 1 u) at (w n))
+  lists-read u r l e w = go u l e (rw (to_end 1 u) at w)
     where
       go : (u : List ℕ) → (length u ≡ 0 → ⊥) → get_or u 0 0 ≡ 40 → Listing (drop 1 u) ys r → Lists u ys (record { count = r.count; rest = r.rest + 1 })
       go [] l e k = absurd (l refl)
@@ -528,6 +518,15 @@ follows-some v b l e n f g =
     first [] l e = refl
     first (x ∷ v) l e = eq-eqb x 59 e
 
+-- ---- a ring or none
+
+ring-none : (w : ℕ) (v zs : List ℕ) (r : Listed) → r ≡ no_list → RingFirst w v zs r
+ring-none w v zs r e = rw e (record { room = omega arith; few = omega arith; stored = omega arith; follows = λ f. f; says = λ f p l h. refl })
+
+ring-either : (w : ℕ) (v zs : List ℕ) (o : Option Listed) (r : Listed) → IfSome o (λ r. RingFirst w v zs r) → r ≡ unwrap_or o no_list → RingFirst w v zs r
+ring-either w v zs None r f e = ring-none w v zs r e
+ring-either w v zs (Some q) r f e = rw e f
+
 -- ---- the start of the token
 
 empty-is : (v : List ℕ) → length v ≡ 0 → v ≡ []
@@ -548,9 +547,9 @@ left-read s ys h l few k g i =
     let c : trimmed s ≡ s = ending-last s k.some k.first (p.solid i.solid) in
     rw (le-ltb 255 (length s) few, p.bytes ∙ i.bytes, c) (k.says (g.start i.start) ∙ g.says i.start h.declared h.prefix h.carbon)
 
-module _ (s ys hs zs : List ℕ) (h : Head) (l : Listed) (few : length s ≤ 255) (w : (h.rest ≡ 0 → ⊥) → Headed s h) (n : h.rest ≡ 0 → ⊥) (q : Lists (take (length s - h.rest) (drop h.rest s)) ys l) where
+module _ (s ys hs zs : List ℕ) (h : Head) (l : Listed) (few : length s ≤ 255) (k : Headed s h) (o : Option Listed) (q : IfSome o (λ r. Lists (take (length s - h.rest) (drop h.rest s)) ys r)) (li : l ≡ unwrap_or o no_list) where
   listing : Lists (drop h.rest s) ys l
-  listing = rw (to_end h.rest s) at q
+  listing = rw (to_end h.rest s) at (lists-either ys (take (length s - h.rest) (drop h.rest s)) o l q li)
 
   abbrev left : List ℕ
   left = take (length (take (length s - h.rest) (drop h.rest s)) - l.rest) (drop l.rest (take (length s - h.rest) (drop h.rest s)))
@@ -564,7 +563,6 @@ module _ (s ys hs zs : List ℕ) (h : Head) (l : Listed) (few : length s ≤ 255
   pub usual-bare : length (take (length (take (length s - h.rest) (drop h.rest s)) - l.rest) (drop l.rest (take (length s - h.rest) (drop h.rest s)))) ≡ 0
       → Starts s ys hs zs (record { prefix = h.prefix; carbon = h.carbon; declared = h.declared; count = l.count; groups = 0; rings = 0; rest = length s })
   usual-bare e =
-      let k = w n in
       let g = listing in
       let i : length (drop l.rest (drop h.rest s)) ≡ 0 = rw (← left_is) e in
       let m : drop l.rest (drop h.rest s) ≡ [] = empty-is (drop l.rest (drop h.rest s)) i in
@@ -580,9 +578,9 @@ module _ (s ys hs zs : List ℕ) (h : Head) (l : Listed) (few : length s ≤ 255
         says = left-read s ys h l few k g (follows-none _ i) ∙ rw (m, drop-length s);
       }
 
-  module _ (z : Listed) (v : RingFirst h.carbon (take (length (take (length s - h.rest) (drop h.rest s)) - l.rest) (drop l.rest (take (length s - h.rest) (drop h.rest s)))) zs z) where
+  module _ (z : Listed) (y : Option Listed) (v : IfSome y (λ r. RingFirst h.carbon (take (length (take (length s - h.rest) (drop h.rest s)) - l.rest) (drop l.rest (take (length s - h.rest) (drop h.rest s)))) zs r)) (zi : z ≡ unwrap_or y no_list) where
     ringing : RingFirst h.carbon (drop l.rest (drop h.rest s)) zs z
-    ringing = rw left_is at v
+    ringing = rw left_is at (ring-either h.carbon _ zs y z v zi)
 
     -- what is left after the ring
     left-ring : Follows (drop z.rest (drop l.rest (drop h.rest s)))
@@ -590,7 +588,7 @@ module _ (s ys hs zs : List ℕ) (h : Head) (l : Listed) (few : length s ≤ 255
     unfolding rest_of
     left-ring f =
         let x = ringing in
-        left-read s ys h l few (w n) listing (x.follows f) ∙ rw (x.says f h.prefix (bonds_in l.count ys) (omega (arith, bonds-few l.count ys, listing.few)))
+        left-read s ys h l few k listing (x.follows f) ∙ rw (x.says f h.prefix (bonds_in l.count ys) (omega (arith, bonds-few l.count ys, listing.few)))
 
     rings-few : length (rings_in z.count zs) ≤ 8
     rings-few = omega (arith, ringing.few, length-map (take z.count zs) ring_in, length-take z.count zs)
@@ -602,7 +600,6 @@ module _ (s ys hs zs : List ℕ) (h : Head) (l : Listed) (few : length s ≤ 255
       read-then : (b : Bool) → (b ≡ true → Follows t) → not b ≡ false
           → Starts s ys hs zs (record { prefix = h.prefix; carbon = h.carbon; declared = h.declared; count = l.count; groups = 0; rings = z.count; rest = h.rest + l.rest + z.rest })
       read-then b f i =
-          let k = w n in
           let g = listing in
           let x = ringing in
           let j : Follows (drop z.rest (drop l.rest (drop h.rest s))) = rw after_is at (f (not-false b i)) in
@@ -618,14 +615,12 @@ module _ (s ys hs zs : List ℕ) (h : Head) (l : Listed) (few : length s ≤ 255
             says = left-ring j ∙ rw (drop-drop l.rest h.rest s, drop-drop z.rest (h.rest + l.rest) s);
           }
 
-      groups-then : (m : ℕ) → ((m ≡ 0 → ⊥) → Grouped t hs m) → (m ≡ 0 → ⊥)
-          → Starts s ys hs zs (record { prefix = h.prefix; carbon = h.carbon; declared = h.declared; count = l.count; groups = m; rings = z.count; rest = length s })
+      groups-then : (m : ℕ) → Grouped t hs m → Starts s ys hs zs (record { prefix = h.prefix; carbon = h.carbon; declared = h.declared; count = l.count; groups = m; rings = z.count; rest = length s })
       unfolding rest_of
-      groups-then m f i =
-          let k = w n in
+      groups-then m f =
           let g = listing in
           let x = ringing in
-          let j : Grouped (drop z.rest (drop l.rest (drop h.rest s))) hs m = rw after_is at (f i) in
+          let j : Grouped (drop z.rest (drop l.rest (drop h.rest s))) hs m = rw after_is at f in
           let e = j.says h.prefix h.carbon (bonds_in l.count ys) (rings_in z.count zs) (omega (arith, bonds-few l.count ys, g.few)) rings-few in
           record {
             room = le_refl (length s);
@@ -646,10 +641,9 @@ module _ (s ys hs zs : List ℕ) (h : Head) (l : Listed) (few : length s ≤ 255
     usual-read b f i = read-then _ refl b f i
 
     pub usual-groups : (m : ℕ)
-        → ((m ≡ 0 → ⊥) → Grouped (take (length (take (length (take (length s - h.rest) (drop h.rest s)) - l.rest) (drop l.rest (take (length s - h.rest) (drop h.rest s)))) - z.rest) (drop z.rest (take (length (take (length s - h.rest) (drop h.rest s)) - l.rest) (drop l.rest (take (length s - h.rest) (drop h.rest s)))))) hs m)
-        → (m ≡ 0 → ⊥)
+        → Grouped (take (length (take (length (take (length s - h.rest) (drop h.rest s)) - l.rest) (drop l.rest (take (length s - h.rest) (drop h.rest s)))) - z.rest) (drop z.rest (take (length (take (length s - h.rest) (drop h.rest s)) - l.rest) (drop l.rest (take (length s - h.rest) (drop h.rest s)))))) hs m
         → Starts s ys hs zs (record { prefix = h.prefix; carbon = h.carbon; declared = h.declared; count = l.count; groups = m; rings = z.count; rest = length s })
-    usual-groups m f i = groups-then _ refl m f i
+    usual-groups m f = groups-then _ refl m f
 
 -- ---- the whole token
 
@@ -671,10 +665,10 @@ keeps-rings n rs h l =
     record { counted = omega (arith, length-map (take n rs) ring_in, length-take n rs); kept = rw a (sym (take_all 8 (rings_in n rs) (omega arith))) }
 
 module _ (p : ChainPrefix) (w : ℕ) (m : Option ℕ) (n g c : ℕ) where
-  pub plain-unseated : m ≡ None → Plain p w m n g c (ReadToken-as-Refused 11)
+  pub plain-unseated : m ≡ None → Plain p w m n g c (Err Unreadable)
   plain-unseated e = rw e (record { tells = λ bs gs rs h l i j x y. record { stands = refl } })
 
-  pub plain-seated : (k : ℕ) → m ≡ Some k → Plain p w m n g c (ReadToken-as-Read (record { prefix = p; written = w; carbon = w; branched = false; unlocated = k; counts = record { bonds = n; groups = g; rings = c; oxygens = 0 } }))
+  pub plain-seated : (k : ℕ) → m ≡ Some k → Plain p w m n g c (Ok (record { prefix = p; written = w; carbon = w; branched = false; unlocated = k; counts = record { bonds = n; groups = g; rings = c; oxygens = 0 } }))
   unfolding bare_oxygens with_unlocated
   plain-seated k e =
       rw e
@@ -692,14 +686,14 @@ all-given w n bs l =
     let z : n - n ≡ 0 = omega arith in
     rw (k, le-ltb n n (le_refl n), z)
 
-module _ (p : ChainPrefix) (w declared n g c : ℕ) (bs : List ℕ) (r : ReadToken) where
+module _ (p : ChainPrefix) (w declared n g c : ℕ) (bs : List ℕ) (r : Result ReadChain Refusal) where
   pub plain-all : declared ≡ n → Plain p w (Some 0) n g c r → PlainIn p w declared n g c bs r
   plain-all e k = rw e (record { tells = λ gs rs h l i j x y. rw (all-given w n bs l) (k.tells bs gs rs h l i j x y) })
 
   pub plain_in : (m : Option ℕ) → m ≡ missing_of w (bonds_in n bs) declared → Plain p w m n g c r → PlainIn p w declared n g c bs r
   plain_in m v k = record { tells = λ gs rs h l i j x y. rw (← v) (k.tells bs gs rs h l i j x y) }
 
-pub segments-end : (u : Usual) (s bs gs rs : List ℕ) (m : Option ℕ) (e : Ended) (r : ReadToken) (ys hs zs : List ℕ) → u.count ≤ 32 → u.groups ≤ 16 → u.rings ≤ 8 → 32 ≤ length bs → 16 ≤ length gs → 8 ≤ length rs
+pub segments-end : (u : Usual) (s bs gs rs : List ℕ) (m : Option ℕ) (e : Result Ending Refusal) (r : Result ReadChain Refusal) (ys hs zs : List ℕ) → u.count ≤ 32 → u.groups ≤ 16 → u.rings ≤ 8 → 32 ≤ length bs → 16 ≤ length gs → 8 ≤ length rs
     → m ≡ missing_of u.carbon (bonds_in u.count bs) u.declared → Ends u.carbon (record { bonds = u.count; groups = u.groups; rings = u.rings; oxygens = 0 }) bs gs rs e ys hs zs (rest_of m s)
     → r ≡ ended_as (record { prefix = u.prefix; written = u.carbon; carbon = u.carbon; branched = false; groups = u.groups }) e
     → Tells r ys hs zs (rest_of (missing_of u.carbon (bonds_in u.count bs) u.declared) s (laden u.prefix u.carbon (bonds_in u.count bs) (groups_in u.groups gs) (rings_in u.rings rs)))
@@ -710,15 +704,9 @@ segments-end u s bs gs rs m e r ys hs zs h g c l o q v w f =
     ((w.gives x).stands (laden u.prefix u.carbon (bonds_in u.count bs) (groups_in u.groups gs) (rings_in u.rings rs))
     (record { prefix = refl; written = refl; carbon = refl; branched = refl; unlocated = refl; oxygens = refl; bonds = keeps-in u.count bs h (omega arith); groups = keeps-groups u.groups gs g (omega arith); rings = keeps-rings u.rings rs c (omega arith) })))
 
-module _ (s ys hs zs : List ℕ) (u : Usual) (r : ReadToken) (w : (u.rest ≡ 0 → ⊥) → Starts s ys hs zs u) (n : u.rest ≡ 0 → ⊥) where
+module _ (s ys hs zs : List ℕ) (u : Usual) (r : Result ReadChain Refusal) (q : Starts s ys hs zs u) where
   pub token-plain : u.rest ≡ length s → PlainIn u.prefix u.carbon u.declared u.count u.groups u.rings ys r → Tells r ys hs zs (token_of s)
   token-plain e k =
-      let q = w n in
       let v : drop u.rest s ≡ [] = rw e (drop-length s) in
       let z : token_of s ≡ finished (missing_of u.carbon (bonds_in u.count ys) u.declared) (laden u.prefix u.carbon (bonds_in u.count ys) (groups_in u.groups hs) (rings_in u.rings zs)) = (rw v at q.says) ∙ rest-empty _ _ in
       rw z (k.tells hs zs q.listed q.stored q.grown q.kept q.closed q.held)
-
-  pub token-segments : (bs gs rs : List ℕ)
-      → Tells r bs gs rs (rest_of (missing_of u.carbon (bonds_in u.count ys) u.declared) (take (length s - u.rest) (drop u.rest s)) (laden u.prefix u.carbon (bonds_in u.count ys) (groups_in u.groups hs) (rings_in u.rings zs)))
-      → Tells r bs gs rs (token_of s)
-  token-segments bs gs rs k = rw ((w n).says, ← to_end u.rest s) k

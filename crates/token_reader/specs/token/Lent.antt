@@ -1,22 +1,18 @@
 -- What the readers of a token answer on lent arrays: what the contracts of `token` cite beside the definitions of specs/token/Token.antt. Assumes
 -- nothing.
-use Rattle.std.specs.Prelude.{ℕ, ◌≤◌, ◌≡◌, List, [], map, Bool, false, cond, take, ltb}
+use Rattle.std.specs.Prelude.{ℕ, ◌≤◌, ◌≡◌, List, [], map, Bool, false, cond, take, ltb, Result, Ok, Err}
 use Rattle.chain_record.specs.declared.plain.ChainPrefix.TheVariants.{Acyl}
 use Rattle.chain_record.specs.declared.plain.DbPos.{DbPos}
 use Rattle.chain_record.specs.plain.Chain.{Chain, Outcome, Refused, over_limit, max_bonds, max_groups, max_rings}
 use Rattle.chain_record.specs.codes.Codes.{bond_in}
 use Rattle.chain_record.specs.declared.parsed.ParsedChain.{ParsedChain}
 use Rattle.chain_record.specs.declared.parsed.Counts.{Counts}
-use Rattle.chain_record.specs.declared.parsed.Counted.{Counted}
-use Rattle.chain_record.specs.declared.parsed.Counted.TheVariants.{Read as Counted-as-Read, Refused as Counted-as-Refused}
+use Rattle.chain_record.specs.declared.refusal.Refusal.{Refusal}
+use Rattle.chain_record.specs.refusal.Refusal.{number_of}
 use Rattle.chain_record.specs.parsed.Parsed.{Holds, Answer, Has, Refuses, Stands, counts_as, Gathered, gather, on, Fills, Collects}
 use Rattle.token_head.specs.declared.opening.Start.{Start}
 use Rattle.token_reader.specs.declared.token.Ending.{Ending}
-use Rattle.token_reader.specs.declared.token.Ended.{Ended}
-use Rattle.token_reader.specs.declared.token.Ended.TheVariants.{Read as Ended-as-Read, Refused as Ended-as-Refused}
 use Rattle.token_reader.specs.declared.token.ReadChain.{ReadChain}
-use Rattle.token_reader.specs.declared.token.ReadToken.{ReadToken}
-use Rattle.token_reader.specs.declared.token.ReadToken.TheVariants.{Read as ReadToken-as-Read, Refused as ReadToken-as-Refused}
 use Rattle.token_reader.specs.token.Token.{bare_oxygens, counted_list, token_of}
 
 -- the double bonds of an array
@@ -50,20 +46,20 @@ telling_as x c =
     record { prefix = x.prefix; written = x.written; carbon = x.carbon; branched = x.branched; unlocated = c.unlocated; oxygens = c.counts.oxygens; bond_count = c.counts.bonds; bonds = c.bonds; group_count = c.counts.groups; groups = c.groups; ring_count = c.counts.rings; rings = c.rings }
 
 -- 01's number and the values of each case: what is read, alone and with the arrays, or 11 or 31
-abbrev pub ended : Ended → Answer Ending
-ended (Ended-as-Read e) = Has e
-ended (Ended-as-Refused n) = Refuses n
+abbrev pub ended : Result Ending Refusal → Answer Ending
+ended (Ok e) = Has e
+ended (Err r) = Refuses (number_of r)
 
-abbrev pub told : Ended → List ℕ → List ℕ → List ℕ → Answer Telling
-told (Ended-as-Read e) bs gs rs = Has (tell e.unlocated e.counts bs gs rs)
-told (Ended-as-Refused n) bs gs rs = Refuses n
+abbrev pub told : Result Ending Refusal → List ℕ → List ℕ → List ℕ → Answer Telling
+told (Ok e) bs gs rs = Has (tell e.unlocated e.counts bs gs rs)
+told (Err r) bs gs rs = Refuses (number_of r)
 
 -- the answer of what is judged after the segments
-abbrev pub Finishes : Counts → Ended → (Chain → Outcome) → Type 0
+abbrev pub Finishes : Counts → Result Ending Refusal → (Chain → Outcome) → Type 0
 Finishes k r f = Fills ending_as (record { unlocated = 0; counts = k }) (ended r) f
 
 -- the answer of a reader that reads to the end of the token
-abbrev pub Ends : ℕ → Counts → List ℕ → List ℕ → List ℕ → Ended → List ℕ → List ℕ → List ℕ → (Chain → Outcome) → Type 0
+abbrev pub Ends : ℕ → Counts → List ℕ → List ℕ → List ℕ → Result Ending Refusal → List ℕ → List ℕ → List ℕ → (Chain → Outcome) → Type 0
 Ends carbon k bs gs rs r ys hs zs f = Fills (on carbon telling_as) (tell 0 k bs gs rs) (told r ys hs zs) f
 
 -- ---- the position list
@@ -74,12 +70,12 @@ listed_as x c =
     record { prefix = x.prefix; written = x.written; carbon = x.carbon; branched = x.branched; unlocated = x.unlocated; oxygens = c.counts.oxygens; bond_count = c.counts.bonds; bonds = c.bonds; group_count = c.counts.groups; groups = x.groups; ring_count = c.counts.rings; rings = x.rings }
 
 -- where a list is read, its double bonds are within the limit
-abbrev pub FewBonds : Counted → Type 0
-FewBonds (Counted-as-Read k) = k.bonds ≤ max_bonds
-FewBonds (Counted-as-Refused n) = Unit {0}
+abbrev pub FewBonds : Result Counts Refusal → Type 0
+FewBonds (Ok k) = k.bonds ≤ max_bonds
+FewBonds (Err r) = Unit {0}
 
 -- the answer of the list s, with the double bonds ys
-pub record ListIs (s : List ℕ) (k : Counts) (bs : List ℕ) (r : Counted) (ys : List ℕ) : Type 0 where
+pub record ListIs (s : List ℕ) (k : Counts) (bs : List ℕ) (r : Result Counts Refusal) (ys : List ℕ) : Type 0 where
   pub collects : Collects listed_as (gather k bs [] []) r ys [] [] (counted_list s)
   pub few : FewBonds r
 
@@ -90,9 +86,9 @@ abbrev pub empty_chain : ReadChain
 empty_chain = record { prefix = Acyl; written = 0; carbon = 0; branched = false; unlocated = 0; counts = record { bonds = 0; groups = 0; rings = 0; oxygens = 0 } }
 
 -- a chain that was started, with each case of what was read from its bond count on
-abbrev pub ended_as : Start → Ended → ReadToken
-ended_as s (Ended-as-Read e) = ReadToken-as-Read (record { prefix = s.prefix; written = s.written; carbon = s.carbon; branched = s.branched; unlocated = e.unlocated; counts = e.counts })
-ended_as s (Ended-as-Refused n) = ReadToken-as-Refused n
+abbrev pub ended_as : Start → Result Ending Refusal → Result ReadChain Refusal
+ended_as s (Ok e) = Ok (record { prefix = s.prefix; written = s.written; carbon = s.carbon; branched = s.branched; unlocated = e.unlocated; counts = e.counts })
+ended_as s (Err r) = Err r
 
 -- the record of a chain that was read, with its arrays
 abbrev pub chain_as : ReadChain → List ℕ → List ℕ → List ℕ → ParsedChain
@@ -100,12 +96,12 @@ chain_as r bs gs rs =
     record { prefix = r.prefix; written = r.written; carbon = r.carbon; branched = r.branched; unlocated = r.unlocated; oxygens = r.counts.oxygens; bond_count = r.counts.bonds; bonds = bs; group_count = r.counts.groups; groups = gs; ring_count = r.counts.rings; rings = rs }
 
 -- 01's number and the values of each case: that record, or 11 or 31
-abbrev pub token_as : ReadToken → List ℕ → List ℕ → List ℕ → Answer ParsedChain
-token_as (ReadToken-as-Read r) bs gs rs = Has (chain_as r bs gs rs)
-token_as (ReadToken-as-Refused n) bs gs rs = Refuses n
+abbrev pub token_as : Result ReadChain Refusal → List ℕ → List ℕ → List ℕ → Answer ParsedChain
+token_as (Ok r) bs gs rs = Has (chain_as r bs gs rs)
+token_as (Err r) bs gs rs = Refuses (number_of r)
 
 -- r and the arrays stand for an outcome
-pub record Tells (r : ReadToken) (bs gs rs : List ℕ) (o : Outcome) : Type 0 where
+pub record Tells (r : Result ReadChain Refusal) (bs gs rs : List ℕ) (o : Outcome) : Type 0 where
   pub stands : Stands (token_as r bs gs rs) o
 
 -- what a token says where the arrays have so much room: 31 where that is less than its limits ask

@@ -1,6 +1,6 @@
 -- What the short way reads of a token that starts as nearly all do, `18:1(9Z)`: what the contracts of its functions cite. Each says what is left
 -- of the definitions of specs/token/Token.antt once so many bytes are read. Assumes nothing.
-use Rattle.std.specs.Prelude.{ℕ, ◌+◌, ◌*◌, ◌-◌, ◌≤◌, ◌<◌, ◌≡◌, List, [], ◌∷◌, ◌++◌, map, Bool, true, false, cond, length, take, drop, get_or, eqb, ltb, Some, Option}
+use Rattle.std.specs.Prelude.{ℕ, ◌+◌, ◌*◌, ◌-◌, ◌≤◌, ◌<◌, ◌≡◌, List, [], ◌∷◌, ◌++◌, map, Bool, true, false, cond, length, take, drop, get_or, eqb, ltb, Some, Option, Result}
 use Rattle.scanner.specs.scan.Part.{index_of, ending}
 use Rattle.scanner.specs.scan.Number.{is_digit, digit_run}
 use Rattle.chain_record.specs.declared.plain.ChainPrefix.{ChainPrefix}
@@ -23,7 +23,8 @@ use Rattle.token_segments.specs.segment.Segment.{segments}
 use Rattle.token_reader.specs.declared.token.Lead.{Lead}
 use Rattle.token_reader.specs.declared.token.Item.{Item}
 use Rattle.token_reader.specs.declared.token.Usual.{Usual}
-use Rattle.token_reader.specs.declared.token.ReadToken.{ReadToken}
+use Rattle.chain_record.specs.declared.refusal.Refusal.{Refusal}
+use Rattle.token_reader.specs.declared.token.ReadChain.{ReadChain}
 use Rattle.token_reader.specs.token.Token.{missing_of, finished, rest_of, listed_of, after_count, trimmed_of, all_printable, token_of}
 use Rattle.token_reader.specs.token.Lent.{bonds_in, Tells}
 
@@ -137,11 +138,12 @@ pub record Leads (t : List ℕ) (r : Lead) : Type 0 where
   pub within : r.length ≤ length t
   pub plain : Plainly (take r.length t)
   pub small : r.pos ≤ 99
-  pub figures : (r.length ≡ 0 → ⊥) → Numeral (take r.length t) r.pos
+  pub figures : Numeral (take r.length t) r.pos
   pub says : (c x : ℕ) (b : List ℕ) → is_digit x ≡ false → part_of (take r.length t ++ x ∷ b) c ≡ item_at (x ∷ b) r.pos c
 
 -- r is the group that t starts with
 pub record Itemed (t : List ℕ) (r : Item) : Type 0 where
+  pub some : 0 < r.next
   pub room : r.next ≤ length t
   pub plain : Plainly (take r.next t)
   pub says : (c : ℕ) → part_of (take r.next t) c ≡ Located (group_in r.code)
@@ -241,10 +243,10 @@ pub record Starts (s ys hs zs : List ℕ) (r : Usual) : Type 0 where
 -- ---- the token
 
 -- r is what is judged of a chain of which all is read
-pub record Plain (p : ChainPrefix) (w : ℕ) (m : Option ℕ) (n k j : ℕ) (r : ReadToken) : Type 0 where
+pub record Plain (p : ChainPrefix) (w : ℕ) (m : Option ℕ) (n k j : ℕ) (r : Result ReadChain Refusal) : Type 0 where
   pub tells : (bs gs rs : List ℕ) → n ≤ max_bonds → n ≤ length bs → k ≤ max_groups → k ≤ length gs → j ≤ max_rings → j ≤ length rs
       → Tells r bs gs rs (finished m (laden p w (bonds_in n bs) (groups_in k gs) (rings_in j rs)))
 
-pub record PlainIn (p : ChainPrefix) (w declared n k j : ℕ) (bs : List ℕ) (r : ReadToken) : Type 0 where
+pub record PlainIn (p : ChainPrefix) (w declared n k j : ℕ) (bs : List ℕ) (r : Result ReadChain Refusal) : Type 0 where
   pub tells : (gs rs : List ℕ) → n ≤ max_bonds → n ≤ length bs → k ≤ max_groups → k ≤ length gs → j ≤ max_rings → j ≤ length rs
       → Tells r bs gs rs (finished (missing_of w (bonds_in n bs) declared) (laden p w (bonds_in n bs) (groups_in k gs) (rings_in j rs)))

@@ -9,7 +9,8 @@ use mathlib.Core.List.{List, []}
 use lib.ListN.{length, take, drop}
 use borrow.Author.Tests.{lt-ltb, le-ltb, eq-eqb, ne_eqb, not-true, not-false}
 use Rattle.scanner.specs.scan.Part.{Place, index_of}
-use Rattle.std.specs.Prelude.{Option, Some, None}
+use Rattle.std.specs.Prelude.{Option, Some, None, Result, Ok, Err}
+use Rattle.std.specs.Result.{IsErrAnd}
 use Rattle.scanner.proofs.scan.Laws.{to_end}
 use Rattle.token_syntax.specs.form.Parts.{list_parts}
 use Rattle.token_syntax.specs.form.Form.{ends_in_parenthesis, after_place}
@@ -18,10 +19,10 @@ use Rattle.chain_record.specs.declared.plain.Ring.{Ring}
 use Rattle.chain_record.specs.plain.Chain.{Chain, Outcome, Read, Refused, with_ring}
 use Rattle.chain_record.specs.declared.parsed.ParsedChain.{ParsedChain}
 use Rattle.chain_record.specs.declared.parsed.Counts.{Counts}
-use Rattle.chain_record.specs.declared.parsed.Pushed.{Pushed}
-use Rattle.chain_record.specs.declared.parsed.Pushed.TheVariants.{Read as Pushed-as-Read, Refused as Pushed-as-Refused}
-use Rattle.chain_record.specs.parsed.Parsed.{Answer, Has, Refuses, first, bonds_as, rings_as, Gathered, gather, ungrouped_as, on, Grows, Fills, Pushes}
-use Rattle.chain_record.proofs.parsed.Laws.{fills-refused, fills-read, fills_same, fills-stop, fills-then, fills-on, ring-ungrouped, bonds-ungrouped, bonds-ungrouped-refused}
+use Rattle.chain_record.specs.declared.refusal.Refusal.{Refusal}
+use Rattle.chain_record.specs.refusal.Refusal.{number_of}
+use Rattle.chain_record.specs.parsed.Parsed.{Answer, Has, Refuses, first, bonds_as, rings_as, Gathered, gather, ungrouped_as, on, Grows, Fills, Pushes, Collects}
+use Rattle.chain_record.proofs.parsed.Laws.{err_kept, fills-refused, fills-read, fills_same, fills-stop, fills-then, fills-on, ring-ungrouped, bonds-ungrouped, bonds-ungrouped-refused}
 use Rattle.token_head.specs.positions.Positions.{ring_bond_list}
 use Rattle.token_features.specs.features.Features.{ring_of}
 use Rattle.token_features.specs.declared.features.Segment.{Segment}
@@ -46,14 +47,14 @@ module _ (g : Ring) (n : ℕ) (list : List ℕ) (k : Counts) (bs rs : List ℕ) 
   unfolding ring_list
   list-many h = fills-refused 11 (gather k bs [] rs) (ring_list g n list) (λ x d u. rw (← e, lt-ltb n m h))
 
-  module _ (h : m ≤ n) (q : Pushed) (ys : List ℕ) (w : Pushes bonds_as k.bonds bs q ys (ring_bond_list g.start g.end list)) where
-    pub list-refused : (a : ℕ) → q ≡ Pushed-as-Refused a → Fills ungrouped_as (gather k bs [] rs) (Refuses a) (ring_list g n list)
+  module _ (h : m ≤ n) (q : Result ℕ Refusal) (ys : List ℕ) (w : Pushes bonds_as k.bonds bs q ys (ring_bond_list g.start g.end list)) where
+    pub list-refused : (a : Refusal) (r : Result Counts Refusal) → q ≡ Err a → IsErrAnd r (λ (y : Refusal). y ≡ a) → Collects ungrouped_as (gather k bs [] rs) r ys [] rs (ring_list g n list)
     unfolding ring_list
-    list-refused a z =
-        let v = bonds-ungrouped-refused k bs [] rs (ring_bond_list g.start g.end list) a (rw z at w) in
-        fills_same (fills-stop (λ e. Read (with_ring g e)) v) (λ x d u. sym (rw (← e, le-ltb n m h)))
+    list-refused a r z t =
+        let v = bonds-ungrouped-refused k bs [] rs (ring_bond_list g.start g.end list) (number_of a) (rw z at w) in
+        rw (err_kept r a t) (fills_same (fills-stop (λ e. Read (with_ring g e)) v) (λ x d u. sym (rw (← e, le-ltb n m h))))
 
-    pub list_read : (a i : ℕ) (zs : List ℕ) → q ≡ Pushed-as-Read a → Grows rings_as (first k.rings rs) (first i zs) (with_ring g)
+    pub list_read : (a i : ℕ) (zs : List ℕ) → q ≡ Ok a → Grows rings_as (first k.rings rs) (first i zs) (with_ring g)
         → Fills ungrouped_as (gather k bs [] rs) (Has (gather (record { bonds = a; groups = k.groups; rings = i; oxygens = k.oxygens }) ys [] zs)) (ring_list g n list)
     unfolding ring_list
     list_read a i zs z t =

@@ -23,13 +23,13 @@ use Rattle.chain_record.specs.declared.plain.Mod.{Mod}
 use Rattle.chain_record.specs.declared.plain.Ring.{Ring}
 use Rattle.chain_record.specs.plain.Chain.{Chain, Outcome, Read, with_group, with_ring, counts_of, max_groups}
 use Rattle.chain_record.specs.declared.parsed.Counts.{Counts}
-use Rattle.chain_record.specs.declared.parsed.Counted.{Counted}
-use Rattle.chain_record.specs.declared.parsed.Counted.TheVariants.{Read as Counted-as-Read}
-use Rattle.chain_record.specs.declared.parsed.Pushed.{Pushed}
-use Rattle.chain_record.specs.declared.parsed.Pushed.TheVariants.{Read as Pushed-as-Read, Refused as Pushed-as-Refused}
+use Rattle.std.specs.Prelude.{Result, Ok, Err}
+use Rattle.std.specs.Result.{IsErrAnd}
+use Rattle.chain_record.specs.declared.refusal.Refusal.{Refusal}
+use Rattle.chain_record.specs.refusal.Refusal.{number_of}
 use Rattle.chain_record.specs.declared.parsed.ParsedChain.{ParsedChain}
 use Rattle.chain_record.specs.parsed.Parsed.{Answer, Has, Refuses, Counting, first, groups_as, rings_as, Gathered, gather, unbonded_as, ungrouped_as, all_as, on, Grows, Fills, Pushes, Collects, checked}
-use Rattle.chain_record.proofs.parsed.Laws.{NotRead, not-read, fills-none, fills-refused, fills-read, fills_same, fills-stop, fills-then, fills-on, ring-unbonded, group-unbonded, groups-unbonded, groups-unbonded-refused, oxygens-set, ungrouped-all, unbonded-all, counts_all, checked-judges}
+use Rattle.chain_record.proofs.parsed.Laws.{err_kept, fills-none, fills-refused, fills-read, fills_same, fills-stop, fills-then, fills-on, ring-unbonded, group-unbonded, groups-unbonded, groups-unbonded-refused, oxygens-set, ungrouped-all, unbonded-all, counts_all, checked-judges}
 use Rattle.token_head.specs.positions.Each.{each}
 use Rattle.token_head.proofs.positions.Each.{Onward, onward-start, each-stop, each_last, each_more}
 use Rattle.token_features.specs.features.Features.{feature_of, listed_as, part_of, repeated_of}
@@ -90,13 +90,13 @@ module _ (s : Segment) (k : Counts) (gs rs : List ℕ) where
       → Fills unbonded_as (gather k [] gs rs) (Has (gather (record { bonds = k.bonds; groups = k.groups; rings = k.rings; oxygens = n }) [] gs rs)) (with_segment s)
   adds-oxygens n e = fills_same (fills-read (oxygens-set k n [] gs rs)) (λ x d u. rw e)
 
-  module _ (row n : ℕ) (q : Pushed) (ys : List ℕ) (e : s ≡ Repeated row n) (w : Pushes groups_as k.groups gs q ys (many_times n (record { pos = 0; row = row }))) where
-    pub adds-many : (m : ℕ) → q ≡ Pushed-as-Read m
+  module _ (row n : ℕ) (q : Result ℕ Refusal) (ys : List ℕ) (e : s ≡ Repeated row n) (w : Pushes groups_as k.groups gs q ys (many_times n (record { pos = 0; row = row }))) where
+    pub adds-many : (m : ℕ) → q ≡ Ok m
         → Fills unbonded_as (gather k [] gs rs) (Has (gather (record { bonds = k.bonds; groups = m; rings = k.rings; oxygens = k.oxygens }) [] ys rs)) (with_segment s)
     adds-many m z = fills_same (groups-unbonded k [] gs rs (many_times n (record { pos = 0; row = row })) m ys (rw z at w)) (λ x d u. rw e)
 
-    pub adds-too-many : (m : ℕ) → q ≡ Pushed-as-Refused m → Fills unbonded_as (gather k [] gs rs) (Refuses m) (with_segment s)
-    adds-too-many m z = fills_same (groups-unbonded-refused k [] gs rs (many_times n (record { pos = 0; row = row })) m (rw z at w)) (λ x d u. rw e)
+    pub adds-too-many : (m : Refusal) (r : Result Counts Refusal) → q ≡ Err m → IsErrAnd r (λ (y : Refusal). y ≡ m) → Collects unbonded_as (gather k [] gs rs) r [] ys rs (with_segment s)
+    adds-too-many m r z t = rw (err_kept r m t) (fills_same (groups-unbonded-refused k [] gs rs (many_times n (record { pos = 0; row = row })) (number_of m) (rw z at w)) (λ x d u. rw e))
 
 pub adds-nothing : (s : Segment) (c : Gathered) → s ≡ Unreadable → Fills unbonded_as c (Refuses 11) (with_segment s)
 adds-nothing s c e = fills-refused 11 c (with_segment s) (λ x d u. rw e)
@@ -131,14 +131,14 @@ module _ (carbon : ℕ) (c : Gathered) where
 -- ---- a loop over parts, with the arrays that its turns leave
 
 module _ {put : ParsedChain → Gathered → ParsedChain} (f : List ℕ → Chain → Outcome) (b : ℕ) (e c : Gathered) (whole : Chain → Outcome) (t : List ℕ) (n : ℕ)
-    (o : Onward put e c whole (each f (parts_at b t))) (p : Place t (index_of b t) n) (r : Counted) (ys hs zs : List ℕ) (w : Collects put c r ys hs zs (f (take (n - 0) t))) where
-  pub turn-stop : NotRead r → Collects put e r ys hs zs whole
-  turn-stop h = let m = not-read r h in rw m.1 (each-stop f b e c whole t n o p m.0 (rw m.1 at w))
+    (o : Onward put e c whole (each f (parts_at b t))) (p : Place t (index_of b t) n) (r : Result Counts Refusal) (ys hs zs : List ℕ) (w : Collects put c r ys hs zs (f (take (n - 0) t))) where
+  pub turn-stop : (m : Refusal) (q : Result Counts Refusal) → r ≡ Err m → IsErrAnd q (λ (y : Refusal). y ≡ m) → Collects put e q ys hs zs whole
+  turn-stop m q h k = rw (err_kept q m k) (each-stop f b e c whole t n o p (number_of m) (rw h at w))
 
-  pub turn_last : (k : Counts) → r ≡ Counted-as-Read k → n ≡ length t → Collects put e (Counted-as-Read k) ys hs zs whole
+  pub turn_last : (k : Counts) → r ≡ Ok k → n ≡ length t → Collects put e (Ok k) ys hs zs whole
   turn_last k h l = each_last f b e c whole t n o p (Has (gather k ys hs zs)) (rw h at w) l
 
-  pub turn_more : (k : Counts) → r ≡ Counted-as-Read k → (n ≡ length t → ⊥) → Onward put e (gather k ys hs zs) whole (each f (parts_at b (take (length t - (n + 1)) (drop (n + 1) t))))
+  pub turn_more : (k : Counts) → r ≡ Ok k → (n ≡ length t → ⊥) → Onward put e (gather k ys hs zs) whole (each f (parts_at b (take (length t - (n + 1)) (drop (n + 1) t))))
   turn_more k h l = each_more f b e c whole t n o p (gather k ys hs zs) (rw h at w) l
 
 -- ---- parts between commas
@@ -148,23 +148,23 @@ unfolding comma_parts
 parting-start carbon s c = onward-start c (each part_at (parts_at 44 s))
 
 module _ (carbon : ℕ) (e c : Gathered) (whole : Chain → Outcome) (t : List ℕ) (n : ℕ) (g : Segment) (o : Onward (on carbon unbonded_as) e c whole (each part_at (parts_at 44 t)))
-    (f : Place t (index_of 44 t) n) (k : g ≡ part_of (take (n - 0) t) carbon) (r : Counted) (ys hs zs : List ℕ) (w : Collects unbonded_as c r ys hs zs (with_segment g)) where
+    (f : Place t (index_of 44 t) n) (k : g ≡ part_of (take (n - 0) t) carbon) (r : Result Counts Refusal) (ys hs zs : List ℕ) (w : Collects unbonded_as c r ys hs zs (with_segment g)) where
   one : Collects (on carbon unbonded_as) c r ys hs zs (part_at (take (n - 0) t))
   unfolding part_at
   one = fills_same (fills-on carbon w) (λ x d u. rw (← u.carbon, ← k))
 
-  pub part-stop : NotRead r → Collects (on carbon unbonded_as) e r ys hs zs whole
+  pub part-stop : (m : Refusal) (q : Result Counts Refusal) → r ≡ Err m → IsErrAnd q (λ (y : Refusal). y ≡ m) → Collects (on carbon unbonded_as) e q ys hs zs whole
   part-stop = turn-stop part_at 44 e c whole t n o f r ys hs zs one
 
-  pub part-last : (q : Counts) → r ≡ Counted-as-Read q → n ≡ length t → Collects (on carbon unbonded_as) e (Counted-as-Read q) ys hs zs whole
+  pub part-last : (q : Counts) → r ≡ Ok q → n ≡ length t → Collects (on carbon unbonded_as) e (Ok q) ys hs zs whole
   part-last = turn_last part_at 44 e c whole t n o f r ys hs zs one
 
-  pub part-more : (q : Counts) → r ≡ Counted-as-Read q → (n ≡ length t → ⊥) → Onward (on carbon unbonded_as) e (gather q ys hs zs) whole (each part_at (parts_at 44 (take (length t - (n + 1)) (drop (n + 1) t))))
+  pub part-more : (q : Counts) → r ≡ Ok q → (n ≡ length t → ⊥) → Onward (on carbon unbonded_as) e (gather q ys hs zs) whole (each part_at (parts_at 44 (take (length t - (n + 1)) (drop (n + 1) t))))
   part-more = turn_more part_at 44 e c whole t n o f r ys hs zs one
 
 -- ---- a segment
 
-module _ (s : List ℕ) (carbon : ℕ) (k : Counts) (bs gs rs : List ℕ) (r : Counted) (f : Form) (w : Formed s (form_of s) f) where
+module _ (s : List ℕ) (carbon : ℕ) (k : Counts) (bs gs rs : List ℕ) (r : Result Counts Refusal) (f : Form) (w : Formed s (form_of s) f) where
   pub as-ring : (dash cy : ℕ) (ys zs : List ℕ) → f ≡ Form-as-Ring dash cy → Collects (on carbon ungrouped_as) (gather k bs [] rs) r ys [] zs (ring_segment s dash cy)
       → Collects (on carbon all_as) (gather k bs gs rs) r ys gs zs (modification s)
   unfolding modification
@@ -193,14 +193,12 @@ module _ (s t : List ℕ) (carbon : ℕ) (c : Gathered) (e : t ≡ segment_text 
   unfolding segment_at
   segment-empty h = fills_same (fills-none c) (λ x d k. sym (rw (← e, eq-eqb (length t) 0 h)))
 
-  module _ (n : length t ≡ 0 → ⊥) (q : Counted) (bs gs rs : List ℕ) (w : Collects (on carbon all_as) c q bs gs rs (modification t)) where
-    pub segment-refused : NotRead q → Collects (on carbon all_as) c q bs gs rs (segment_at s)
+  module _ (n : length t ≡ 0 → ⊥) (q : Result Counts Refusal) (bs gs rs : List ℕ) (w : Collects (on carbon all_as) c q bs gs rs (modification t)) where
+    pub segment-refused : (m : Refusal) (r : Result Counts Refusal) → q ≡ Err m → IsErrAnd r (λ (y : Refusal). y ≡ m) → Collects (on carbon all_as) c r bs gs rs (segment_at s)
     unfolding segment_at
-    segment-refused h =
-        let m = not-read q h in
-        rw m.1 (fills_same (fills-stop counts_of (rw m.1 at w)) (λ x d k. sym (rw (← e, ne_eqb (length t) 0 n))))
+    segment-refused m r h k = rw (err_kept r m k) (fills_same (fills-stop counts_of (rw h at w)) (λ x d u. sym (rw (← e, ne_eqb (length t) 0 n))))
 
-    pub segment-counted : (k : Counts) (r : Counted) → q ≡ Counted-as-Read k → r ≡ checked k → Collects (on carbon all_as) c r bs gs rs (segment_at s)
+    pub segment-counted : (k : Counts) (r : Result Counts Refusal) → q ≡ Ok k → r ≡ checked k → Collects (on carbon all_as) c r bs gs rs (segment_at s)
     unfolding segment_at
     segment-counted k r h v =
         rw v (fills_same (fills-then (rw h at w) (counts_all carbon k bs gs rs (checked k) counts_of (checked-judges k))) (λ x d k. sym (rw (← e, ne_eqb (length t) 0 n))))
@@ -208,7 +206,7 @@ module _ (s t : List ℕ) (carbon : ℕ) (c : Gathered) (e : t ≡ segment_text 
 -- ---- the segments of a token, one after the other: the part that starts at a place, and the place after it
 
 module _ (carbon : ℕ) (e c : Gathered) (whole : Chain → Outcome) (s : List ℕ) (at : ℕ) (p : Part) (o : Onward (on carbon all_as) e c whole (each segment_at (parts_at 59 (drop at s))))
-    (l : at ≤ length s) (h : p ≡ part_from 59 s at) (r : Counted) (ys hs zs : List ℕ) (w : Collects (on carbon all_as) c r ys hs zs (segment_at (take (p.to - p.from) (drop p.from s)))) where
+    (l : at ≤ length s) (h : p ≡ part_from 59 s at) (r : Result Counts Refusal) (ys hs zs : List ℕ) (w : Collects (on carbon all_as) c r ys hs zs (segment_at (take (p.to - p.from) (drop p.from s)))) where
   place : Place (drop at s) (index_of 59 (drop at s)) (p.to - at)
   place = part-place 59 s at p h l
 
@@ -216,13 +214,13 @@ module _ (carbon : ℕ) (e c : Gathered) (whole : Chain → Outcome) (s : List �
   here : Collects (on carbon all_as) c r ys hs zs (segment_at (take (p.to - at - 0) (drop at s)))
   here = rw (sub-zero (p.to - at), ← part-starts 59 s at p h l) w
 
-  pub segments-stop : NotRead r → Collects (on carbon all_as) e r ys hs zs whole
+  pub segments-stop : (m : Refusal) (q : Result Counts Refusal) → r ≡ Err m → IsErrAnd q (λ (y : Refusal). y ≡ m) → Collects (on carbon all_as) e q ys hs zs whole
   segments-stop = turn-stop segment_at 59 e c whole (drop at s) (p.to - at) o place r ys hs zs here
 
-  pub segments-last : (q : Counts) → r ≡ Counted-as-Read q → p.to ≡ length s → Collects (on carbon all_as) e (Counted-as-Read q) ys hs zs whole
+  pub segments-last : (q : Counts) → r ≡ Ok q → p.to ≡ length s → Collects (on carbon all_as) e (Ok q) ys hs zs whole
   segments-last q k n = turn_last segment_at 59 e c whole (drop at s) (p.to - at) o place r ys hs zs here q k (omega (arith, length-drop at s))
 
-  pub segments-more : (q : Counts) → r ≡ Counted-as-Read q → (p.to ≡ length s → ⊥) → Onward (on carbon all_as) e (gather q ys hs zs) whole (each segment_at (parts_at 59 (drop p.next s)))
+  pub segments-more : (q : Counts) → r ≡ Ok q → (p.to ≡ length s → ⊥) → Onward (on carbon all_as) e (gather q ys hs zs) whole (each segment_at (parts_at 59 (drop p.next s)))
   segments-more q k n =
       let t = drop at s in
       let m = p.to - at + 1 in

@@ -7,7 +7,7 @@ use native.Mathlib.Decide.{dec_le}
 use native.Mathlib.Omega.{arith}
 use mathlib.Core.Path.{◌≡◌, refl, sym, ap, ◌∙◌}
 use mathlib.Core.List.{List, [], ◌∷◌, ◌++◌}
-use lib.ListN.{length, set, take, get_or, length-append}
+use lib.ListN.{length, replicate, set, take, get_or, length-append}
 use lib.Seq.{take-suc, take_all, sets, length-sets, set_out, drop-drop}
 use Rattle.std.proofs.Common.{append_assoc}
 use borrow.Rule.Slice.PartMut.{put_mid}
@@ -65,6 +65,31 @@ written-whole t i h k w = rw (take_all i t k) at w
 -- a list stored at once
 pub written-part : {A : Type 0} (xs ts : List A) (at : ℕ) → length xs < 2 ^ 64 → at + length ts ≤ length xs → Written xs at ts (put_mid at (length ts) xs ts) (at + length ts)
 written-part xs ts at g h = record { elements = rw (drop-drop (length ts) at xs, ← append_assoc) (sym (sets-eq ts xs at h)); next = omega arith }
+
+-- ---- one element so many times
+
+same-last : {A : Type 0} (n : ℕ) (x : A) → replicate (n + 1) x ≡ replicate n x ++ (x ∷ [])
+same-last {A} n x = rw add-one (go n)
+  where
+    go : (n : ℕ) → x ∷ replicate n x ≡ replicate n x ++ (x ∷ [])
+    go zero = refl
+    go (suc n) = ap (λ (l : List A). x ∷ l) (go n)
+
+pub same-none : {A : Type 0} (xs : List A) (at : ℕ) (x : A) → at < 2 ^ 64 → Written xs at (replicate 0 x) xs at
+same-none xs at x h = written-nil xs at h
+
+-- a turn of a loop that writes it once more
+pub same-more : {A : Type 0} {xs ys zs : List A} {at p q : ℕ} (i : ℕ) (x : A) → length xs < 2 ^ 64
+    → Written xs at (replicate i x) ys p → Written ys p (x ∷ []) zs q → Written xs at (replicate (i + 1) x) zs q
+same-more i x g w u = rw (same-last i x) (written-append g w u)
+
+-- and the same where there is room for it
+pub fill-none : {A : Type 0} (xs : List A) (at : ℕ) (x : A) → at < 2 ^ 64 → Written xs at (replicate 0 x) xs (at + 0)
+fill-none xs at x h = rw add-zero (written-nil xs at h)
+
+pub fill-more : {A : Type 0} {xs ys : List A} {at : ℕ} (i n : ℕ) (x : A) → length xs < 2 ^ 64 → at + n ≤ length xs → i < n → Written xs at (replicate i x) ys (at + i)
+    → Written xs at (replicate (i + 1) x) (set ys (at + i) x) (at + (i + 1))
+fill-more {ys = ys} {at} i n x g h k w = same-more i x g w (record { elements = refl; next = omega arith })
 
 -- the fuel does not matter, once there is enough
 digits-enough : (k j n : ℕ) → n < k → n < j → digits k n ≡ digits j n

@@ -1,4 +1,3 @@
-use Prim.Native.Nat.{◌-◌, ◌≤◌}
 use mathlib.Core.Path.{◌≡◌}
 use mathlib.Core.List.{map}
 use Rattle.writer.specs.emit.Text.{Written}
@@ -9,7 +8,4 @@ use Rattle.line_parts.proofs.marks.put_marks_below.Given as goal
 
 abbrev pub invariant-loop-i : goal.invariant-loop-i
 invariant-loop-i l =
-    (l.i ≤ l.n) × (l.lead ≡ still_first l.first (map show_mark (marks_below l.p l.v l.i))) × Written l.initial.out l.at (shown_blocks l.first (map show_mark (marks_below l.p l.v l.i))) l.out l.next
-
-abbrev pub decreases-loop-i : goal.decreases-loop-i
-decreases-loop-i l = l.n - l.i
+    (l.lead ≡ still_first l.first (map show_mark (marks_below l.p l.v l.i))) × Written l.initial.out l.at (shown_blocks l.first (map show_mark (marks_below l.p l.v l.i))) l.out l.next

@@ -1,19 +1,13 @@
 use native.Mathlib.Omega.{arith}
-use Rattle.writer.proofs.emit.Laws.{written-nil, written-length}
+use Rattle.writer.proofs.emit.Laws.{written-nil}
 use Rattle.reading_rules.specs.reading.Parting.{joined}
 use Rattle.line_parts.specs.shown.Notes.{numbers_from}
-use Rattle.line_parts.proofs.sums.Laws.{variables-more, variables-all}
+use Rattle.line_parts.proofs.sums.Laws.{variables-more}
 use Rattle.line_parts.proofs.sums.put_variables.Goals as goal
 
 pub loop-i-init : goal.loop-i-init
 unfolding joined numbers_from
-loop-i-init c = (omega arith, written-nil _ _ (omega arith))
+loop-i-init c = written-nil _ _ (omega arith)
 
 pub loop-i-preserved : goal.loop-i-preserved
-loop-i-preserved c = (omega arith, search (variables-more, arith))
-
-pub shape_of-out : goal.shape_of-out
-shape_of-out c = search written-length
-
-pub returns : goal.returns
-returns c = search variables-all
+loop-i-preserved c = search (variables-more, arith)

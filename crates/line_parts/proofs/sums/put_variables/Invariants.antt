@@ -1,4 +1,3 @@
-use Prim.Native.Nat.{◌-◌, ◌≤◌}
 use mathlib.Core.List.{map}
 use Rattle.writer.specs.emit.Text.{Written}
 use Rattle.reading_rules.specs.reading.Parting.{joined}
@@ -8,7 +7,4 @@ use Rattle.line_parts.proofs.sums.put_variables.Given as goal
 
 abbrev pub invariant-loop-i : goal.invariant-loop-i
 invariant-loop-i l =
-    (l.i ≤ l.count) × Written l.initial.out l.at (joined 43 (map name_of (numbers_from l.v l.i))) l.out l.p
-
-abbrev pub decreases-loop-i : goal.decreases-loop-i
-decreases-loop-i l = l.count - l.i
+    Written l.initial.out l.at (joined 43 (map name_of (numbers_from l.v l.i))) l.out l.p

@@ -1,17 +1,8 @@
-use borrow.Author.Rules.{rules}
-use native.Mathlib.Omega.{arith}
-use Rattle.sheet_input.proofs.remnant.Laws.{moved-start, moved_more, moved_none, moved_all}
-use mathlib.Core.Path.{refl}
+use Rattle.sheet_input.proofs.remnant.Laws.{moved_none, moved_all}
 use Rattle.sheet_input.proofs.remnant.keep.Goals as goal
 
 pub returns-then-end-from : goal.returns-then-end-from
-returns-then-end-from c = search moved_none
-
-pub loop-i-init : goal.loop-i-init
-loop-i-init c = (search moved-start, refl, omega arith, omega arith)
-
-pub loop-i-preserved : goal.loop-i-preserved
-loop-i-preserved c = (search moved_more, search rules, omega arith, omega arith)
+returns-then-end-from c = moved_none _ _ _ _ c.min-end.ensures c.if-end-from.true
 
 pub returns : goal.returns
-returns c = search moved_all
+returns c = moved_all _ _ _ _ _ _ c.min-end.ensures c.if-end-from.false c.min-n.ensures c.copy_within.ensures.after

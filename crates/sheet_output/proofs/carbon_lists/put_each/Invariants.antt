@@ -1,12 +1,8 @@
-use Prim.Native.Nat.{◌-◌, ◌≤◌}
 use mathlib.Core.List.{map}
-use lib.ListN.{length, take}
+use lib.ListN.{take}
 use Rattle.writer.specs.emit.Text.{Written, decimal}
 use Rattle.reading_rules.specs.reading.Parting.{joined}
 use Rattle.sheet_output.proofs.carbon_lists.put_each.Given as goal
 
 abbrev pub invariant-loop-i : goal.invariant-loop-i
-invariant-loop-i l = (l.i ≤ length l.indices) × Written l.initial.out l.at (joined 46 (map decimal (take l.i l.indices))) l.out l.p
-
-abbrev pub decreases-loop-i : goal.decreases-loop-i
-decreases-loop-i l = length l.indices - l.i
+invariant-loop-i l = Written l.initial.out l.at (joined 46 (map decimal (take l.i l.indices))) l.out l.p

@@ -6,7 +6,4 @@ use Rattle.sn_labels.proofs.label_block.falls.Given as goal
 
 abbrev pub invariant-loop-i : goal.invariant-loop-i
 invariant-loop-i l =
-    (l.i ≤ l.n) × (l.n ≤ 4) × (length l.sites ≡ 4) × Under l.last (drop l.i (take l.n l.sites))
-
-abbrev pub decreases-loop-i : goal.decreases-loop-i
-decreases-loop-i l = l.i
+    (l.n ≤ 4) × (length l.sites ≡ 4) × Under l.last (drop l.i (take l.n l.sites))

@@ -1,4 +1,3 @@
-use Prim.Native.Nat.{◌-◌, ◌≤◌}
 use mathlib.Core.Path.{◌≡◌}
 use lib.ListN.{length, take}
 use Rattle.reading_rules.specs.reading.Show.{up_to_last}
@@ -7,7 +6,4 @@ use Rattle.sn_labels.proofs.label_block.label_end.Given as goal
 
 abbrev pub invariant-loop-i : goal.invariant-loop-i
 invariant-loop-i l =
-    (l.i ≤ l.count) × (l.end ≡ up_to_last (labels_of (take l.i l.sites))) × (length l.sites ≡ 4)
-
-abbrev pub decreases-loop-i : goal.decreases-loop-i
-decreases-loop-i l = l.count - l.i
+    (l.end ≡ up_to_last (labels_of (take l.i l.sites))) × (length l.sites ≡ 4)

@@ -1,4 +1,3 @@
-use Prim.Native.Nat.{◌-◌, ◌≤◌}
 use mathlib.Core.Path.{◌≡◌}
 use lib.ListN.{length, take}
 use Rattle.line_parts.specs.shown.Notes.{labels_of}
@@ -7,7 +6,4 @@ use Rattle.sn_labels.proofs.label_block.next_atom.Given as goal
 
 abbrev pub invariant-loop-i : goal.invariant-loop-i
 invariant-loop-i l =
-    (l.i ≤ l.count) × (length l.sites ≡ 4) × Gap l.atom l.last (labels_of (take l.i l.sites)) l.next
-
-abbrev pub decreases-loop-i : goal.decreases-loop-i
-decreases-loop-i l = l.count - l.i
+    (length l.sites ≡ 4) × Gap l.atom l.last (labels_of (take l.i l.sites)) l.next

@@ -8,7 +8,7 @@ use mathlib.Core.Path.{refl}
 use Rattle.sn_labels.proofs.label_block.put_entry.Goals as goal
 
 pub loop-i-init : goal.loop-i-init
-loop-i-init c = (omega arith, refl, search length-mapped, written-nil _ _ (omega arith))
+loop-i-init c = (refl, search length-mapped, written-nil _ _ (omega arith))
 
 pub put_label-requires : goal.put_label-requires
 put_label-requires c = search site-digit
@@ -17,7 +17,7 @@ pub returns-then-site-atom : goal.returns-then-site-atom
 returns-then-site-atom c = search (entry_here, arith)
 
 pub loop-i-preserved : goal.loop-i-preserved
-loop-i-preserved c = (omega arith, search entry_next, search rules, search rules)
+loop-i-preserved c = (search entry_next, search rules, search rules)
 
 pub returns : goal.returns
 returns c = search entry-none

@@ -1,4 +1,3 @@
-use Prim.Native.Nat.{◌-◌, ◌≤◌}
 use mathlib.Core.Path.{◌≡◌}
 use mathlib.Core.List.{[]}
 use lib.ListN.{length, take, drop}
@@ -9,7 +8,4 @@ use Rattle.sn_labels.proofs.label_block.put_entry.Given as goal
 
 abbrev pub invariant-loop-i : goal.invariant-loop-i
 invariant-loop-i l =
-    (l.i ≤ l.count) × (look l.atom (labels_of (take l.count l.sites)) ≡ look l.atom (labels_of (drop l.i (take l.count l.sites)))) × (length l.sites ≡ 4) × Written l.initial.out l.at [] l.out l.at
-
-abbrev pub decreases-loop-i : goal.decreases-loop-i
-decreases-loop-i l = l.count - l.i
+    (look l.atom (labels_of (take l.count l.sites)) ≡ look l.atom (labels_of (drop l.i (take l.count l.sites)))) × (length l.sites ≡ 4) × Written l.initial.out l.at [] l.out l.at

@@ -7,7 +7,7 @@ use Rattle.sn_labels.proofs.label_block.put_falling.Goals as goal
 
 pub loop-i-init : goal.loop-i-init
 loop-i-init c =
-    (omega arith, omega arith, search length-mapped, search rules, search rules, search top-none, search (shown-none, arith))
+    (omega arith, search length-mapped, search rules, search rules, search top-none, search (shown-none, arith))
 
 pub overflow_sub-site : goal.overflow_sub-site
 overflow_sub-site c = search top_within
@@ -17,7 +17,7 @@ put_label-p-requires c = search digit-behind
 
 pub loop-i-preserved : goal.loop-i-preserved
 loop-i-preserved c =
-    (omega arith, omega arith, omega arith, search rules, search rules, search top-more, search (shown-more, arith))
+    (omega arith, omega arith, search rules, search rules, search top-more, search (shown-more, arith))
 
 pub shape_of-out : goal.shape_of-out
 shape_of-out c = search written-length

@@ -9,8 +9,5 @@ use Rattle.sn_labels.proofs.label_block.put_falling.Given as goal
 
 abbrev pub invariant-loop-i : goal.invariant-loop-i
 invariant-loop-i l =
-    (l.i ≤ l.count) × (l.count ≤ 4) × (length l.sites ≡ 4) × Digits (take l.count l.sites) × Falling (take l.count l.sites)
+    (l.count ≤ 4) × (length l.sites ≡ 4) × Digits (take l.count l.sites) × Falling (take l.count l.sites)
     × (l.from ≡ top_atom (drop l.i (take l.count l.sites))) × Written l.initial.out l.at (fall_text (drop l.i (take l.count l.sites))) l.out l.p
-
-abbrev pub decreases-loop-i : goal.decreases-loop-i
-decreases-loop-i l = l.i

@@ -1,4 +1,3 @@
-use Prim.Native.Nat.{◌-◌, ◌≤◌}
 use mathlib.Core.Path.{◌≡◌}
 use mathlib.Core.List.{map}
 use lib.ListN.{length, take}
@@ -11,7 +10,4 @@ use Rattle.sn_labels.proofs.swappable.put_labels.Given as goal
 
 abbrev pub invariant-loop-i : goal.invariant-loop-i
 invariant-loop-i l =
-    (l.i ≤ l.count) × (length l.sites ≡ 4) × Written l.initial.out l.at (joined 44 (map show_label (notes_of (labels_of (take l.i l.sites))))) l.out l.p
-
-abbrev pub decreases-loop-i : goal.decreases-loop-i
-decreases-loop-i l = l.count - l.i
+    (length l.sites ≡ 4) × Written l.initial.out l.at (joined 44 (map show_label (notes_of (labels_of (take l.i l.sites))))) l.out l.p

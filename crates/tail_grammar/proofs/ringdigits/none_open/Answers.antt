@@ -1,11 +1,11 @@
-use Rattle.tail_grammar.proofs.ringdigits.Digits.{one-open, not-open, all-shut}
+use Rattle.std.proofs.Common.{ℕ, eqb, rules, tests, ◌∙◌}
+use Rattle.std.proofs.lemmas.Iterator.{YieldsList-from_slice}
+use Rattle.std.proofs.lemmas.Iterator.Search.{all_from_yields_List}
+use Rattle.tail_grammar.proofs.ringdigits.Digits.{all-shut}
 use Rattle.tail_grammar.proofs.ringdigits.none_open.Goals as goal
 
-pub returns-then-all-d-ne0 : goal.returns-then-all-d-ne0
-returns-then-all-d-ne0 c = search one-open
-
-pub loop-d-preserved : goal.loop-d-preserved
-loop-d-preserved c = search not-open
-
 pub returns : goal.returns
-returns c = search all-shut
+returns c =
+    let opened = c.args.opened.now in
+    let all = all_from_yields_List (λ (b : ℕ). eqb b 0) _ _ c.all.result c.all.ensures.ran (YieldsList-from_slice opened cc) (λ x b q k. search (rules, tests)) in
+    all ∙ all-shut opened

@@ -1,26 +1,17 @@
-use Rattle.tail_grammar.proofs.tail.Scan.{capital-c, capital-o, capital-n, capital-p, capital-s, capital-f, capital-i, capital-b}
+use Rattle.std.proofs.Common.{arith}
+use Rattle.std.proofs.lemmas.Bool.Decides.{nat_tests}
+use Rattle.reading_rules.specs.reading.Ascii.{ascii}
+use Rattle.reading_rules.specs.reading.Lexer.{memb, organic}
 use Rattle.tail_grammar.proofs.tail.is_capital.Goals as goal
 
-pub returns-then-b-eq67 : goal.returns-then-b-eq67
-returns-then-b-eq67 c = search capital-c
+pub returns-in-66 : goal.returns-in-66
+unfolding memb organic ascii
+returns-in-66 c = λ _. grind (arith, nat_tests)
 
-pub returns-then-b-eq79 : goal.returns-then-b-eq79
-returns-then-b-eq79 c = search capital-o
+pub returns-in-66-2 : goal.returns-in-66-2
+unfolding memb organic ascii
+returns-in-66-2 c = λ _. grind (arith, nat_tests)
 
-pub returns-then-b-eq78 : goal.returns-then-b-eq78
-returns-then-b-eq78 c = search capital-n
-
-pub returns-then-b-eq80 : goal.returns-then-b-eq80
-returns-then-b-eq80 c = search capital-p
-
-pub returns-then-b-eq83 : goal.returns-then-b-eq83
-returns-then-b-eq83 c = search capital-s
-
-pub returns-then-b-eq70 : goal.returns-then-b-eq70
-returns-then-b-eq70 c = search capital-f
-
-pub returns-then-b-eq73 : goal.returns-then-b-eq73
-returns-then-b-eq73 c = search capital-i
-
-pub returns : goal.returns
-returns c = search capital-b
+pub returns-in-66-3 : goal.returns-in-66-3
+unfolding memb organic ascii
+returns-in-66-3 c = λ _. grind (arith, nat_tests)

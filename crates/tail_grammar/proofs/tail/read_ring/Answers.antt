@@ -1,11 +1,11 @@
 use Rattle.tail_grammar.proofs.tail.Scan.{ring-clash, ring-left, ring-read}
 use Rattle.tail_grammar.proofs.tail.read_ring.Goals as goal
 
-pub returns-then-not-ran : goal.returns-then-not-ran
-returns-then-not-ran c = search ring-clash
+pub returns-in_err-next : goal.returns-in_err-next
+returns-in_err-next c = λ t. rw c.from_residual.ensures (ring-clash _ _ c.requires _ _ c.in_err-next.ensures t)
 
-pub returns-then-ran-r : goal.returns-then-ran-r
-returns-then-ran-r c = search ring-left
+pub returns-then-next-r : goal.returns-then-next-r
+returns-then-next-r c = ring-left _ _ c.requires _ _ _ _ _ c.in_ok-next.ensures c.if-next-r.true
 
 pub returns : goal.returns
-returns c = search ring-read
+returns c = ring-read _ _ c.requires _ _ _ _ _ c.in_ok-next.ensures c.if-next-r.false

@@ -1,7 +1,9 @@
+use Rattle.std.proofs.Common.{◌∙◌}
+use Rattle.reading_rules.specs.reading.Ascii.{ascii}
 use Rattle.reading_rules.specs.reading.Lexer.{marks}
-use borrow.Author.Rules.{rules}
+use Rattle.tail_grammar.proofs.tailatom.Bytes.{contains_memb}
 use Rattle.tail_grammar.proofs.tailatom.is_bond.Goals as goal
 
 pub returns : goal.returns
-unfolding marks
-returns c = search rules
+unfolding marks ascii
+returns c = c.contains.ensures.value ∙ contains_memb c.args.b _

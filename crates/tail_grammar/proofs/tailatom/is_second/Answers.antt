@@ -1,11 +1,16 @@
-use Rattle.tail_grammar.proofs.tailatom.Bytes.{second-l, second-r, no_second}
+use Rattle.std.proofs.Common.{arith}
+use Rattle.std.proofs.lemmas.Bool.Decides.{nat_tests}
+use Rattle.reading_rules.specs.reading.Lexer.{pairs}
 use Rattle.tail_grammar.proofs.tailatom.is_second.Goals as goal
 
-pub returns-then-b-eq108 : goal.returns-then-b-eq108
-returns-then-b-eq108 c = search second-l
+pub returns-in-108 : goal.returns-in-108
+unfolding pairs
+returns-in-108 c = grind (arith, nat_tests)
 
-pub returns-then-b-eq114 : goal.returns-then-b-eq114
-returns-then-b-eq114 c = search second-r
+pub returns-in-114 : goal.returns-in-114
+unfolding pairs
+returns-in-114 c = grind (arith, nat_tests)
 
-pub returns : goal.returns
-returns c = search no_second
+pub returns-in_default : goal.returns-in_default
+unfolding pairs
+returns-in_default c = grind (arith, nat_tests)

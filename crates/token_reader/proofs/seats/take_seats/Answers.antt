@@ -1,6 +1,5 @@
 use native.Mathlib.Nat.{sub-zero}
 use native.Mathlib.Omega.{arith}
-use mathlib.Core.Path.{refl}
 use Rattle.token_reader.proofs.seats.Laws.{no-seat, next-seat, all-seated, seat-next-fits}
 use Rattle.token_reader.proofs.seats.take_seats.Goals as goal
 

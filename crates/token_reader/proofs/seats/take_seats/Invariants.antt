@@ -1,6 +1,5 @@
 use Prim.Native.Nat.{◌≤◌, ◌-◌}
 use mathlib.Core.Path.{◌≡◌}
-use lib.ListN.{length}
 use Rattle.token_reader.specs.seats.Seats.{seats_from, used_in}
 use Rattle.token_reader.proofs.seats.take_seats.Given as goal
 

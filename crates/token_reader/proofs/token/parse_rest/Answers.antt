@@ -4,8 +4,8 @@ use Rattle.token_reader.proofs.token.parse_rest.Goals as goal
 pub returns-then-s-eq0 : goal.returns-then-s-eq0
 returns-then-s-eq0 c = search rest-none
 
-pub returns-in-Refused : goal.returns-in-Refused
-returns-in-Refused c = search rest-refused
+pub returns-in_err-more : goal.returns-in_err-more
+returns-in_err-more c = search (rest-refused, c.in_err-more.was, c.from_residual.ensures)
 
-pub returns-in-Read : goal.returns-in-Read
-returns-in-Read c = search rest_read
+pub returns : goal.returns
+returns c = search (rest_read, c.in_ok-more.was)

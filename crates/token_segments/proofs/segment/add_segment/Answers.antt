@@ -7,11 +7,11 @@ returns-in-Cycle c = search adds-ring
 pub returns-in-Located : goal.returns-in-Located
 returns-in-Located c = search adds-group
 
-pub returns-in-Refused : goal.returns-in-Refused
-returns-in-Refused c = search adds-too-many
+pub returns-in_err-more-in-Repeated : goal.returns-in_err-more-in-Repeated
+returns-in_err-more-in-Repeated c = search (adds-too-many, c.in_err-more-in-Repeated.was, c.from_residual.ensures)
 
-pub returns-in-Read : goal.returns-in-Read
-returns-in-Read c = search adds-many
+pub returns-in_ok-more-in-Repeated : goal.returns-in_ok-more-in-Repeated
+returns-in_ok-more-in-Repeated c = search (adds-many, c.in_ok-more-in-Repeated.was)
 
 pub returns-in-Oxygens : goal.returns-in-Oxygens
 returns-in-Oxygens c = search adds-oxygens

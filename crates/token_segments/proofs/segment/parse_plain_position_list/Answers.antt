@@ -10,15 +10,15 @@ pub returns-then-s-eq0 : goal.returns-then-s-eq0
 unfolding plain_list
 returns-then-s-eq0 c = search each_none
 
-pub loop-more-init : goal.loop-more-init
+pub loop-so_far-init : goal.loop-so_far-init
 unfolding plain_list
-loop-more-init c = (search each_start, omega arith, refl, refl)
+loop-so_far-init c = (search each_start, omega arith, refl, refl)
 
-pub returns-in_default : goal.returns-in_default
-returns-in_default c = search turn-stop
+pub returns-in_err-so_far : goal.returns-in_err-so_far
+returns-in_err-so_far c = search (turn-stop, c.in_err-so_far.was, c.from_residual.ensures)
 
 pub returns-then-n-t : goal.returns-then-n-t
-returns-then-n-t c = search turn_last
+returns-then-n-t c = search (turn_last, c.in_ok-so_far.was)
 
-pub loop-more-preserved : goal.loop-more-preserved
-loop-more-preserved c = (search turn_more, search rules, search rules, search rules)
+pub loop-so_far-preserved : goal.loop-so_far-preserved
+loop-so_far-preserved c = (search (turn_more, c.in_ok-so_far.was), search rules, search rules, search rules)

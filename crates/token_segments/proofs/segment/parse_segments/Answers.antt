@@ -7,9 +7,9 @@ use Rattle.token_segments.proofs.segment.Laws.{segments-stop, segments-last, seg
 use borrow.Author.Rules.{rules}
 use Rattle.token_segments.proofs.segment.parse_segments.Goals as goal
 
-pub loop-more-init : goal.loop-more-init
+pub loop-so_far-init : goal.loop-so_far-init
 unfolding segments
-loop-more-init c = (search onward-start, omega arith, refl, refl, refl)
+loop-so_far-init c = (search onward-start, omega arith, refl, refl, refl)
 
 pub slice_bounds-parse_segment-count : goal.slice_bounds-parse_segment-count
 slice_bounds-parse_segment-count c = search part-order
@@ -20,14 +20,14 @@ slice_bounds-parse_segment-start c = search part-order
 pub slice_bounds-parse_segment-end : goal.slice_bounds-parse_segment-end
 slice_bounds-parse_segment-end c = search part-within
 
-pub returns-in_default : goal.returns-in_default
-returns-in_default c = search segments-stop
+pub returns-in_err-so_far : goal.returns-in_err-so_far
+returns-in_err-so_far c = search (segments-stop, c.in_err-so_far.was, c.from_residual.ensures)
 
 pub returns-then-to-cursor : goal.returns-then-to-cursor
-returns-then-to-cursor c = search segments-last
+returns-then-to-cursor c = search (segments-last, c.in_ok-so_far.was)
 
-pub loop-more-smaller : goal.loop-more-smaller
-loop-more-smaller c = search next-further
+pub loop-so_far-smaller : goal.loop-so_far-smaller
+loop-so_far-smaller c = search next-further
 
-pub loop-more-preserved : goal.loop-more-preserved
-loop-more-preserved c = (search segments-more, search next-within, search rules, search rules, search rules)
+pub loop-so_far-preserved : goal.loop-so_far-preserved
+loop-so_far-preserved c = (search (segments-more, c.in_ok-so_far.was), search next-within, search rules, search rules, search rules)

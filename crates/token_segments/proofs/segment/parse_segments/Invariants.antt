@@ -8,8 +8,8 @@ use Rattle.token_head.proofs.positions.Each.{Onward}
 use Rattle.token_segments.specs.segment.Segment.{segment_at, segments}
 use Rattle.token_segments.proofs.segment.parse_segments.Given as goal
 
-abbrev pub invariant-loop-more : goal.invariant-loop-more
-invariant-loop-more l = Onward (on l.carbon all_as) (gather l.initial.so_far l.initial.bonds l.initial.groups l.initial.rings) (gather l.so_far l.bonds l.groups l.rings) (segments l.cursor) (each segment_at (parts_at 59 (drop l.at l.cursor))) × (l.at ≤ length l.cursor) × (length l.bonds ≡ length l.initial.bonds) × (length l.groups ≡ length l.initial.groups) × (length l.rings ≡ length l.initial.rings)
+abbrev pub invariant-loop-so_far : goal.invariant-loop-so_far
+invariant-loop-so_far l = Onward (on l.carbon all_as) (gather l.initial.so_far l.initial.bonds l.initial.groups l.initial.rings) (gather l.so_far l.bonds l.groups l.rings) (segments l.cursor) (each segment_at (parts_at 59 (drop l.at l.cursor))) × (l.at ≤ length l.cursor) × (length l.bonds ≡ length l.initial.bonds) × (length l.groups ≡ length l.initial.groups) × (length l.rings ≡ length l.initial.rings)
 
-abbrev pub decreases-loop-more : goal.decreases-loop-more
-decreases-loop-more l = length l.cursor - l.at
+abbrev pub decreases-loop-so_far : goal.decreases-loop-so_far
+decreases-loop-so_far l = length l.cursor - l.at
