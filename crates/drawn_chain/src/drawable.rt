@@ -1,9 +1,9 @@
 // A chain as it is drawn in its place, and how its lists are read: its double bonds, groups and rings stand in arrays of one struct, which is
 // lent; what is counted of them goes by value. Every function is defined for every slice and count: a count past the slice counts as its
-// length, and past the last element nothing stands. Which lists a drawn chain holds is said by specs/drawable/Drawn.antt, from the definitions
+// length. Which lists a drawn chain holds is said by specs/drawable/Drawn.antt, from the definitions
 // of `chain_rules::chain`.
-ghost use Rattle.std.specs.Prelude.{◌≡◌, ◌≤◌, length, take, get_or};
-ghost use Rattle.drawn_chain.specs.drawable.Drawn.{bonds_in, groups_in, rings_in, no_bond, no_group, no_ring, Length, drawn_of, bonds_drawn, groups_drawn, floats_drawn, rings_drawn};
+ghost use Rattle.std.specs.Prelude.{◌≡◌, ◌≤◌, length, take};
+ghost use Rattle.drawn_chain.specs.drawable.Drawn.{drawn_of, bonds_drawn, groups_drawn, floats_drawn, rings_drawn};
 
 use super::rooms::Lists;
 use chain_record::{Bridge, DbPos, Geometry, Mod, Ring};
@@ -14,7 +14,7 @@ pub const BOND_ROOM: usize = 33;
 // The most chains that a template takes.
 pub const MAX_CHAINS: usize = 4;
 
-// What stands past the last double bond, group and ring.
+// What stands where no double bond, no group and no ring is laid yet.
 pub const NO_BOND: DbPos = DbPos {
     pos: 0,
     geom: Geometry::Unstated,
@@ -44,18 +44,11 @@ pub struct Shape {
     pub ring_count: usize,
 }
 
-// How many elements of a slice a count counts.
-fn within<T>(xs: &[T], count: usize) -> usize
-    ensures { Length (length xs.now) (take count xs.now) result }
-{
-    xs.len().min(count)
-}
-
 // The elements of a slice that a count counts.
 pub fn counted<T>(xs: &[T], count: usize) -> &[T]
     ensures { result.now ≡ take count xs.now }
 {
-    let n = within(xs, count);
+    let n = xs.len().min(count);
     &xs[..n]
 }
 
@@ -90,56 +83,4 @@ impl Shape {
     {
         counted(&part.rings, self.ring_count)
     }
-}
-
-// How many double bonds there are.
-pub fn bonds_len(bonds: &[DbPos], count: usize) -> usize
-    ensures { Length (length bonds.now) (bonds_in count bonds.now) result }
-{
-    within(bonds, count)
-}
-
-// How many groups there are.
-pub fn groups_len(groups: &[Mod], count: usize) -> usize
-    ensures { Length (length groups.now) (groups_in count groups.now) result }
-{
-    within(groups, count)
-}
-
-// How many rings there are.
-pub fn rings_len(rings: &[Ring], count: usize) -> usize
-    ensures { Length (length rings.now) (rings_in count rings.now) result }
-{
-    within(rings, count)
-}
-
-// The element at a place of those that are counted; past the last the one given.
-fn nth<T: Copy>(xs: &[T], count: usize, i: usize, none: T) -> T
-    ensures { result ≡ get_or (take count xs.now) i none }
-{
-    if i < within(xs, count) {
-        return xs[i];
-    }
-    none
-}
-
-// The double bond at a place; past the last an unstated one at 0.
-pub fn nth_bond(bonds: &[DbPos], count: usize, i: usize) -> DbPos
-    ensures { result ≡ get_or (bonds_in count bonds.now) i no_bond }
-{
-    nth(bonds, count, i, NO_BOND)
-}
-
-// The group at a place; past the last the first row of the table, without a position.
-pub fn nth_group(groups: &[Mod], count: usize, i: usize) -> Mod
-    ensures { result ≡ get_or (groups_in count groups.now) i no_group }
-{
-    nth(groups, count, i, NO_GROUP)
-}
-
-// The ring at a place; past the last an epoxide from 0 to 0.
-pub fn nth_ring(rings: &[Ring], count: usize, i: usize) -> Ring
-    ensures { result ≡ get_or (rings_in count rings.now) i no_ring }
-{
-    nth(rings, count, i, NO_RING)
 }

@@ -7,10 +7,7 @@ pub mod fitted;
 pub mod reach;
 mod rooms;
 
-pub use drawable::{
-    BOND_ROOM, MAX_CHAINS, Shape, bonds_len, counted, groups_len, nth_bond, nth_group, nth_ring,
-    rings_len,
-};
+pub use drawable::{BOND_ROOM, MAX_CHAINS, Shape, counted};
 pub use fitted::drawn_as;
 pub use reach::{drawn_count, literal_end, remaining};
 pub use rooms::{Lists, NO_LISTS, chain_part};
