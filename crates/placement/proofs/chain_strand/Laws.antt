@@ -16,7 +16,6 @@ use Rattle.drawn_chain.specs.drawable.Drawn.{Drawn, DrawsSome, no_group, groups_
 use Rattle.chain_record.specs.declared.plain.Mod.{Mod}
 use Rattle.carbons.specs.Tokens.{Rising, Grouped}
 use Rattle.drawn_chain.proofs.drawable.Turns.{left_here, left-none}
-use Rattle.carbons.proofs.Loads.{groups-held}
 use Rattle.chain_pieces.specs.branches.Text.{rows_in, RowsPut}
 use Rattle.chain_pieces.proofs.branches.Laws.{rows-put}
 use Rattle.chain_text.specs.fragment.Segment.{DrawsRead, Segment}
@@ -105,7 +104,7 @@ module _ {f c : ℕ} {gs : List Mod} (k i : ℕ) (w : RiseLeft f c gs k i) where
   pub rise-end : length gs ≤ i → Rising f c gs
   rise-end h = w.so (rw (left-none gs i h) tt)
 
-pub shape-grouped : (x : Shape) (l : Lists) → length l.groups ≤ 18 → x.ring_count ≡ 0 → x.float_count ≡ 0 → x.unlocated ≡ 0 → (x.first ≡ 0 → ⊥) → x.first ≤ x.carbon → x.carbon < 96
+pub shape-grouped : (x : Shape) (l : Lists) → length (groups_drawn (drawn_of x l)) ≤ 18 → x.ring_count ≡ 0 → x.float_count ≡ 0 → x.unlocated ≡ 0 → (x.first ≡ 0 → ⊥) → x.first ≤ x.carbon → x.carbon < 96
     → Rising x.first x.carbon (groups_drawn (drawn_of x l)) → GroupedShape x l
 shape-grouped x l e r f u n s h w =
     record {
@@ -117,7 +116,7 @@ shape-grouped x l e r f u n s h w =
             room = omega arith;
             unlocated = u;
             groups = w;
-            few = groups-held x.group_count l.groups e;
+            few = e;
             floats = rw f;
             rings = rw r;
           };
@@ -137,7 +136,7 @@ grouped-laid s i r l = strand-laid (s l) i r
 no_rows : (x : Shape) (l : Lists) (zs : List ℕ) (row : ℕ) → Grouped (drawn_of x l) → row < 2 ^ 64 → RowsPut (drawn_of x l) zs row zs row
 unfolding rows_in
 no_rows x l zs row e h =
-    rows-put x l (rw e.floats (written-nil zs row h))
+    rows-put x l refl (rw e.floats (written-nil zs row h))
 
 pub bare-laid : {ρ : Role} {first at used row : ℕ} {xs ys xs' ys' : List ℕ} {p : ℕ} {n : ChainAtoms} (x : Shape) (part : Lists) → Grouped (drawn_of x part) → row < 2 ^ 64
     → ((l : ℕ) → Segment (drawn_of x part) l xs at xs' p) → Indexed ρ first (drawn_of x part) ys used ys' n

@@ -24,4 +24,4 @@ returns-then-x-ge-SHORT_ROOM c = λ e. absurd (false≢true e)
 pub returns : goal.returns
 returns c =
     λ e.
-    shape-grouped c.args.x c.args.part.now (omega arith) (omega arith) (omega arith) (omega arith) (λ z. omega arith) (omega arith) (omega arith) (rw c.groups.ensures.are at (c.groups_rise.ensures e))
+    shape-grouped c.args.x c.args.part.now (rw c.groups.ensures.are at c.groups.ensures.fit) (omega arith) (omega arith) (omega arith) (λ z. omega arith) (omega arith) (omega arith) (rw c.groups.ensures.are at (c.groups_rise.ensures e))
