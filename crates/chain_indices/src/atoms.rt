@@ -161,19 +161,16 @@ fn number_each<'a>(
     let mut p = at;
     let mut count = 0;
     let mut next = 0;
-    let mut k = from;
-    while k <= last {
+    for k in from..last + 1 {
         let i = k as usize;
         let bond = bonds[i];
         p = writer::put_index(index, p, writer::to_index(first, next));
         count += 1;
         if busy[i] == 0 {
             next += bare_atoms(bond);
-            k += 1;
             continue;
         }
         next += busy_atoms(x, part, k, busy[i], bond);
-        k += 1;
     }
     Numbers { at: p, count, next }
 }

@@ -17,6 +17,7 @@ fn any_bond_at(bonds: &[DbPos], p: u32) -> bool
 }
 
 // Whether some two double bonds stand at one carbon, each held against all that follow.
+// Kept beside `repeated_ring`: one function over the test would need its relation as a ghost value beside a closure, and be no plainer.
 fn repeated_bond(bonds: &[DbPos]) -> bool
     ensures { result ≡ any_two same_bond bonds.now }
 {

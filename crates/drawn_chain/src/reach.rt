@@ -10,6 +10,7 @@ use super::rooms::Lists;
 use chain_record::{DbPos, Mod, Ring};
 
 // The largest of m and the carbons at which the double bonds end.
+// Kept beside the two below: one function over a closure would need what the closure says as a ghost value, and be no plainer.
 fn bonds_reach(bonds: &[DbPos], m: u64) -> u64
     ensures { result ≡ largest m (map bond_reach bonds.now) }
 {

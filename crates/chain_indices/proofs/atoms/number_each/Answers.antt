@@ -1,4 +1,4 @@
-use Prim.Native.Nat.{◌<◌, ◌^◌}
+use Prim.Native.Nat.{◌<◌, ◌≤◌, ◌^◌}
 use lib.ListN.{length}
 use borrow.Author.Rules.{rules}
 use native.Mathlib.Omega.{arith}
@@ -13,7 +13,8 @@ loop-k-init c = (search rules, search rules, omega arith, omega arith, numbering
 
 pub loop-k-preserved-then-busy-i-eq0 : goal.loop-k-preserved-then-busy-i-eq0
 loop-k-preserved-then-busy-i-eq0 c =
-    let long : length c.args.index.now < 2 ^ 64 = omega arith in (
+    let long : length c.args.index.now < 2 ^ 64 = omega arith in
+    let within : c.loop-k.k ≤ c.args.last = omega arith in (
       search rules,
       search rules,
       omega arith,
@@ -23,7 +24,7 @@ loop-k-preserved-then-busy-i-eq0 c =
 
 pub busy_atoms-next-requires : goal.busy_atoms-next-requires
 busy_atoms-next-requires c =
-    loaded _ c.requires c.loop-k-test.true c.if-busy-i-eq0.false
+    loaded _ c.requires (omega arith) c.if-busy-i-eq0.false
 
 pub loop-k-preserved : goal.loop-k-preserved
 loop-k-preserved c = (
@@ -38,4 +39,6 @@ pub shape_of-index : goal.shape_of-index
 shape_of-index c = search numbers-size
 
 pub returns : goal.returns
-returns c = search (numbers-literal, arith)
+returns c =
+    let past : c.args.last < c.loop-k.k = omega arith in
+    search (numbers-literal, arith)

@@ -11,6 +11,3 @@ use Rattle.chain_indices.proofs.atoms.number_each.Given as goal
 
 abbrev pub invariant-loop-k : goal.invariant-loop-k
 invariant-loop-k l = (l.last < length l.bonds) × (l.last < length l.busy) × (1 ≤ l.k) × (l.count + (suc l.last - l.k) ≡ suc l.last - l.from) × Numbering l.first (literal_of (drawn_of l.x l.part) (tokens l.from l.last l.bonds l.busy)) l.initial.index l.at l.index l.p l.count l.next (values_from (carbon_of l.x.acyl l.bonds (groups_drawn (drawn_of l.x l.part))) l.k (suc l.last - l.k))
-
-abbrev pub decreases-loop-k : goal.decreases-loop-k
-decreases-loop-k l = suc l.last - l.k
