@@ -3,7 +3,7 @@
 // judged, so a push never refuses: an array keeps what its limit allows, its count stops one past the limit, and `check_counts` answers 31 there.
 // What a record holds is said by specs/parsed/Parsed.antt.
 ghost use Rattle.std.specs.Prelude.{◌≡◌, ◌≤◌, length};
-ghost use Rattle.chain_record.specs.plain.Chain.{with_bond, with_group, with_ring, max_bonds, max_groups, max_rings};
+ghost use Rattle.chain_record.specs.plain.Chain.{with_bond, with_group, with_ring, max_bonds};
 ghost use Rattle.chain_record.specs.parsed.Parsed.{Adds, Grows, first, bonds_as, groups_as, rings_as, checked};
 
 use super::plain::{ChainPrefix, DbPos, GROUP_ROOM, MAX_BONDS, MAX_GROUPS, MAX_RINGS, Mod, Ring};
@@ -35,41 +35,37 @@ pub struct Counts {
     pub oxygens: u32,
 }
 
-// One element more, up to so many; how many there are then, one past the limit at most.
-fn push<T: Copy>(items: &mut [T], count: usize, most: usize, item: T) -> usize
-    requires most_bound { most ≤ max_bonds }
-    requires most_in_bounds { most ≤ length items.old }
-    ensures { Adds most (first count items.old) (first result items.new) item }
+// One element more, up to as many as there is room for; how many there are then, one past those at most.
+fn push<T: Copy, const MOST: usize>(items: &mut [T; MOST], count: usize, item: T) -> usize
+    requires { MOST ≤ max_bonds }
+    ensures { Adds MOST (first count items.old) (first result items.new) item }
 {
-    if count < most {
+    if count < MOST {
         items[count] = item;
         return count + 1;
     }
-    most + 1
+    MOST + 1
 }
 
 // One double bond more; how many there are then.
-pub fn push_bond(bonds: &mut [DbPos], count: usize, bond: DbPos) -> usize
-    requires { max_bonds ≤ length bonds.old }
+pub fn push_bond(bonds: &mut [DbPos; MAX_BONDS], count: usize, bond: DbPos) -> usize
     ensures { Grows bonds_as (first count bonds.old) (first result bonds.new) (with_bond bond) }
 {
-    push(bonds, count, MAX_BONDS, bond)
+    push(bonds, count, bond)
 }
 
 // One group more.
-pub fn push_group(groups: &mut [Mod], count: usize, group: Mod) -> usize
-    requires { max_groups ≤ length groups.old }
+pub fn push_group(groups: &mut [Mod; MAX_GROUPS], count: usize, group: Mod) -> usize
     ensures { Grows groups_as (first count groups.old) (first result groups.new) (with_group group) }
 {
-    push(groups, count, MAX_GROUPS, group)
+    push(groups, count, group)
 }
 
 // One ring more.
-pub fn push_ring(rings: &mut [Ring], count: usize, ring: Ring) -> usize
-    requires { max_rings ≤ length rings.old }
+pub fn push_ring(rings: &mut [Ring; MAX_RINGS], count: usize, ring: Ring) -> usize
     ensures { Grows rings_as (first count rings.old) (first result rings.new) (with_ring ring) }
 {
-    push(rings, count, MAX_RINGS, ring)
+    push(rings, count, ring)
 }
 
 // After a list or a segment: 31 where a count is over its limit.

@@ -106,14 +106,11 @@ fn parse_rest(
     missing: Option<u16>,
     s: &[u8],
     carbon: u16,
-    bonds: &mut [DbPos],
-    groups: &mut [Mod],
-    rings: &mut [Ring],
+    bonds: &mut [DbPos; MAX_BONDS],
+    groups: &mut [Mod; MAX_GROUPS],
+    rings: &mut [Ring; MAX_RINGS],
     counts: Counts,
 ) -> Result<Ending, Refusal>
-    requires max_bonds_in_bounds { max_bonds ≤ length bonds.old }
-    requires max_groups_in_bounds { max_groups ≤ length groups.old }
-    requires max_rings_in_bounds { max_rings ≤ length rings.old }
     ensures { Ends carbon counts bonds.old groups.old rings.old result bonds.new groups.new rings.new (rest_of missing s.now) }
 {
     if s.len() == 0 {
@@ -124,8 +121,7 @@ fn parse_rest(
 }
 
 // The `(..)` list, and its count.
-fn parse_list(s: &[u8], bonds: &mut [DbPos], counts: Counts) -> Result<Counts, Refusal>
-    requires { max_bonds ≤ length bonds.old }
+fn parse_list(s: &[u8], bonds: &mut [DbPos; MAX_BONDS], counts: Counts) -> Result<Counts, Refusal>
     ensures { ListIs s.now counts bonds.old result bonds.new }
 {
     let mut more = counts;
@@ -138,15 +134,12 @@ fn parse_listed(
     declared: u64,
     s: &[u8],
     carbon: u16,
-    bonds: &mut [DbPos],
-    groups: &mut [Mod],
-    rings: &mut [Ring],
+    bonds: &mut [DbPos; MAX_BONDS],
+    groups: &mut [Mod; MAX_GROUPS],
+    rings: &mut [Ring; MAX_RINGS],
     counts: Counts,
 ) -> Result<Ending, Refusal>
-    requires carbon_le_max_carbons { carbon ≤ max_carbons }
-    requires max_bonds_in_bounds { max_bonds ≤ length bonds.old }
-    requires max_groups_in_bounds { max_groups ≤ length groups.old }
-    requires max_rings_in_bounds { max_rings ≤ length rings.old }
+    requires { carbon ≤ max_carbons }
     ensures { Ends carbon counts bonds.old groups.old rings.old result bonds.new groups.new rings.new (listed_of declared s.now) }
 {
     let n = scanner::find(s, b')');
@@ -163,16 +156,13 @@ fn parse_after_count(
     declared: u64,
     s: &[u8],
     carbon: u16,
-    bonds: &mut [DbPos],
-    groups: &mut [Mod],
-    rings: &mut [Ring],
+    bonds: &mut [DbPos; MAX_BONDS],
+    groups: &mut [Mod; MAX_GROUPS],
+    rings: &mut [Ring; MAX_RINGS],
     counts: Counts,
 ) -> Result<Ending, Refusal>
     requires carbon_le_max_carbons { carbon ≤ max_carbons }
     requires bonds_le_max_bonds { counts.bonds ≤ max_bonds }
-    requires max_bonds_in_bounds { max_bonds ≤ length bonds.old }
-    requires max_groups_in_bounds { max_groups ≤ length groups.old }
-    requires max_rings_in_bounds { max_rings ≤ length rings.old }
     ensures { Ends carbon counts bonds.old groups.old rings.old result bonds.new groups.new rings.new (after_count declared s.now) }
 {
     if scanner::starts_with(s, b"(") {
@@ -186,16 +176,13 @@ fn parse_after_count(
 fn parse_bonds(
     s: &[u8],
     carbon: u16,
-    bonds: &mut [DbPos],
-    groups: &mut [Mod],
-    rings: &mut [Ring],
+    bonds: &mut [DbPos; MAX_BONDS],
+    groups: &mut [Mod; MAX_GROUPS],
+    rings: &mut [Ring; MAX_RINGS],
     counts: Counts,
 ) -> Result<Ending, Refusal>
     requires carbon_le_max_carbons { carbon ≤ max_carbons }
     requires bonds_le_max_bonds { counts.bonds ≤ max_bonds }
-    requires max_bonds_in_bounds { max_bonds ≤ length bonds.old }
-    requires max_groups_in_bounds { max_groups ≤ length groups.old }
-    requires max_rings_in_bounds { max_rings ≤ length rings.old }
     ensures { Ends carbon counts bonds.old groups.old rings.old result bonds.new groups.new rings.new (bonds_of s.now) }
 {
     let n = scanner::digit_run(s);
@@ -254,13 +241,10 @@ fn parse_named(
     prefix: ChainPrefix,
     branch: Branch,
     s: &[u8],
-    bonds: &mut [DbPos],
-    groups: &mut [Mod],
-    rings: &mut [Ring],
+    bonds: &mut [DbPos; MAX_BONDS],
+    groups: &mut [Mod; MAX_GROUPS],
+    rings: &mut [Ring; MAX_RINGS],
 ) -> Result<ReadChain, Refusal>
-    requires max_bonds_in_bounds { max_bonds ≤ length bonds.old }
-    requires max_groups_in_bounds { max_groups ≤ length groups.old }
-    requires max_rings_in_bounds { max_rings ≤ length rings.old }
     ensures { Tells result bonds.new groups.new rings.new (named_chain prefix branch s.now) }
 {
     let n = scanner::find(s, b':');
@@ -281,13 +265,10 @@ fn parse_named(
 // A trimmed token.
 fn parse_trimmed(
     t: &[u8],
-    bonds: &mut [DbPos],
-    groups: &mut [Mod],
-    rings: &mut [Ring],
+    bonds: &mut [DbPos; MAX_BONDS],
+    groups: &mut [Mod; MAX_GROUPS],
+    rings: &mut [Ring; MAX_RINGS],
 ) -> Result<ReadChain, Refusal>
-    requires max_bonds_in_bounds { max_bonds ≤ length bonds.old }
-    requires max_groups_in_bounds { max_groups ≤ length groups.old }
-    requires max_rings_in_bounds { max_rings ≤ length rings.old }
     ensures { Tells result bonds.new groups.new rings.new (trimmed_of t.now) }
 {
     if scanner::same(t, b"0:0") {
@@ -303,14 +284,11 @@ fn parse_trimmed(
 // A token of at most 255 bytes, into arrays with room for all that it may say.
 fn read_any(
     s: &[u8],
-    bonds: &mut [DbPos],
-    groups: &mut [Mod],
-    rings: &mut [Ring],
+    bonds: &mut [DbPos; MAX_BONDS],
+    groups: &mut [Mod; MAX_GROUPS],
+    rings: &mut [Ring; MAX_RINGS],
 ) -> Result<ReadChain, Refusal>
-    requires s_len_bound { length s.now ≤ max_bytes }
-    requires max_bonds_in_bounds { max_bonds ≤ length bonds.old }
-    requires max_groups_in_bounds { max_groups ≤ length groups.old }
-    requires max_rings_in_bounds { max_rings ≤ length rings.old }
+    requires { length s.now ≤ max_bytes }
     ensures { Tells result bonds.new groups.new rings.new (token_of s.now) }
 {
     if !all_printable(s) {
@@ -435,8 +413,7 @@ pub struct Listed {
 const NOTHING: Listed = Listed { count: 0, rest: 0 };
 
 // The list that follows a `(`, where each position is written as nearly all are.
-fn read_list(s: &[u8], bonds: &mut [DbPos]) -> Option<Listed>
-    requires { max_bonds ≤ length bonds.old }
+fn read_list(s: &[u8], bonds: &mut [DbPos; MAX_BONDS]) -> Option<Listed>
     ensures { IfSome result (λ r. Listing s.now bonds.new r) }
 {
     let mut t = s;
@@ -459,8 +436,7 @@ fn read_list(s: &[u8], bonds: &mut [DbPos]) -> Option<Listed>
 }
 
 // The list straight after the bond count.
-fn usual_list(u: &[u8], bonds: &mut [DbPos]) -> Option<Listed>
-    requires { max_bonds ≤ length bonds.old }
+fn usual_list(u: &[u8], bonds: &mut [DbPos; MAX_BONDS]) -> Option<Listed>
     ensures { IfSome result (λ r. Lists u.now bonds.new r) }
 {
     if u.len() == 0 || u[0] != b'(' {
@@ -565,8 +541,7 @@ fn is_separator(b: u8) -> bool
 }
 
 // The segments, where each is a list of groups that is written as nearly all are: how many groups they give.
-fn read_groups(s: &[u8], groups: &mut [Mod]) -> Option<usize>
-    requires { max_groups ≤ length groups.old }
+fn read_groups(s: &[u8], groups: &mut [Mod; MAX_GROUPS]) -> Option<usize>
     ensures { IfSome result (λ n. Grouped s.now groups.new n) }
 {
     if s.len() == 0 || s[0] != b';' {
@@ -640,8 +615,7 @@ fn read_bracket(t: &[u8], carbon: u16) -> Option<Item<Ring>>
 }
 
 // The ring in brackets that the first segment is.
-fn first_ring(v: &[u8], carbon: u16, rings: &mut [Ring]) -> Option<Listed>
-    requires { max_rings ≤ length rings.old }
+fn first_ring(v: &[u8], carbon: u16, rings: &mut [Ring; MAX_RINGS]) -> Option<Listed>
     ensures { IfSome result (λ r. RingFirst carbon v.now rings.new r) }
 {
     if v.len() < 2 || v[0] != b';' || v[1] != b'[' {
@@ -668,11 +642,13 @@ pub struct Usual {
 }
 
 // The head, the list, a ring and segments of groups. What was looked at here needs no look at its bytes and spaces before.
-fn read_usual(s: &[u8], bonds: &mut [DbPos], groups: &mut [Mod], rings: &mut [Ring]) -> Option<Usual>
-    requires s_len_bound { length s.now ≤ max_bytes }
-    requires max_bonds_in_bounds { max_bonds ≤ length bonds.old }
-    requires max_groups_in_bounds { max_groups ≤ length groups.old }
-    requires max_rings_in_bounds { max_rings ≤ length rings.old }
+fn read_usual(
+    s: &[u8],
+    bonds: &mut [DbPos; MAX_BONDS],
+    groups: &mut [Mod; MAX_GROUPS],
+    rings: &mut [Ring; MAX_RINGS],
+) -> Option<Usual>
+    requires { length s.now ≤ max_bytes }
     ensures { IfSome result (λ r. Starts s.now bonds.new groups.new rings.new r) }
 {
     let head = read_head(s)?;
@@ -758,17 +734,14 @@ fn end_plain(usual: Usual, bonds: &[DbPos]) -> Result<ReadChain, Refusal>
 fn end_segments(
     usual: Usual,
     s: &[u8],
-    bonds: &mut [DbPos],
-    groups: &mut [Mod],
-    rings: &mut [Ring],
+    bonds: &mut [DbPos; MAX_BONDS],
+    groups: &mut [Mod; MAX_GROUPS],
+    rings: &mut [Ring; MAX_RINGS],
 ) -> Result<ReadChain, Refusal>
     requires carbon_le_max_carbons { usual.carbon ≤ max_carbons }
     requires count_le_max_bonds { usual.count ≤ max_bonds }
     requires groups_le_max_groups { usual.groups ≤ max_groups }
     requires rings_le_max_rings { usual.rings ≤ max_rings }
-    requires max_bonds_in_bounds { max_bonds ≤ length bonds.old }
-    requires max_groups_in_bounds { max_groups ≤ length groups.old }
-    requires max_rings_in_bounds { max_rings ≤ length rings.old }
     ensures { Tells result bonds.new groups.new rings.new (rest_of (missing_of usual.carbon (bonds_in usual.count bonds.old) usual.declared) s.now (laden usual.prefix usual.carbon (bonds_in usual.count bonds.old) (groups_in usual.groups groups.old) (rings_in usual.rings rings.old))) }
 {
     let prefix = usual.prefix;
@@ -794,13 +767,10 @@ fn end_segments(
 // A token, into arrays with room for all that it may say. Nearly every token starts in one way, and has no segments.
 fn read_token(
     s: &[u8],
-    bonds: &mut [DbPos],
-    groups: &mut [Mod],
-    rings: &mut [Ring],
+    bonds: &mut [DbPos; MAX_BONDS],
+    groups: &mut [Mod; MAX_GROUPS],
+    rings: &mut [Ring; MAX_RINGS],
 ) -> Result<ReadChain, Refusal>
-    requires max_bonds_in_bounds { max_bonds ≤ length bonds.old }
-    requires max_groups_in_bounds { max_groups ≤ length groups.old }
-    requires max_rings_in_bounds { max_rings ≤ length rings.old }
     ensures { Tells result bonds.new groups.new rings.new (token_of s.now) }
 {
     if MAX_BYTES < s.len() {
@@ -825,14 +795,14 @@ pub fn parse_token(
 ) -> Result<ReadChain, Refusal>
     ensures { Tells result bonds.new groups.new rings.new (token_in (length bonds.old) (length groups.old) (length rings.old) s.now) }
 {
-    if bonds.len() < MAX_BONDS {
+    let Some(bond_room) = bonds.first_chunk_mut::<MAX_BONDS>() else {
         return Err(Refusal::OverLimit);
-    }
-    if groups.len() < MAX_GROUPS {
+    };
+    let Some(group_room) = groups.first_chunk_mut::<MAX_GROUPS>() else {
         return Err(Refusal::OverLimit);
-    }
-    if rings.len() < MAX_RINGS {
+    };
+    let Some(ring_room) = rings.first_chunk_mut::<MAX_RINGS>() else {
         return Err(Refusal::OverLimit);
-    }
-    read_token(s, bonds, groups, rings)
+    };
+    read_token(s, bond_room, group_room, ring_room)
 }

@@ -28,7 +28,7 @@ use Rattle.chain_record.specs.parsed.Parsed.{Keeps, Adds, Holds, Answer, Has, Re
 module _ {A : Type 0} (limit : ℕ) (xs : List A) (n : ℕ) (v : A) where
   module _ (l : List A) (k : Keeps limit xs n l) where
     -- below the limit it is stored
-    keeps-one : limit ≤ length xs → n < limit → Keeps limit (set xs n v) (n + 1) (l ++ (v ∷ []))
+    keeps-one : length xs ≡ limit → n < limit → Keeps limit (set xs n v) (n + 1) (l ++ (v ∷ []))
     keeps-one g h = record { counted = omega (arith, k.counted, length-append l (v ∷ [])); kept = stored }
       where
         before : take n xs ≡ l
@@ -50,7 +50,7 @@ module _ {A : Type 0} (limit : ℕ) (xs : List A) (n : ℕ) (v : A) where
             let a : min (limit + 1) limit ≡ min n limit = omega arith in
             rw a k.kept ∙ sym (take-append-le limit l (v ∷ []) (omega (arith, k.counted)))
 
-  pub adds-one : limit ≤ length xs → n < limit → Adds limit (first n xs) (first (n + 1) (set xs n v)) v
+  pub adds-one : length xs ≡ limit → n < limit → Adds limit (first n xs) (first (n + 1) (set xs n v)) v
   adds-one g h = record { keeps = λ l k. keeps-one l k g h }
 
   pub adds-full : limit ≤ n → Adds limit (first n xs) (first (limit + 1) xs) v

@@ -9,7 +9,7 @@ use mir.Syntax.{w16}
 use mir.Val.{Fits}
 use mathlib.Core.Path.{◌≡◌, refl, sym, ap, ◌∙◌}
 use mathlib.Core.Bool.{Bool, true, false, not, cond, true≢false}
-use mathlib.Core.List.{List, [], ◌∷◌, ◌++◌, map, map-append}
+use mathlib.Core.List.{List, [], ◌∷◌, ◌++◌}
 use lib.ListN.{length, get_or, set, take, length-set, replicate}
 use lib.Seq.{get_or-set_same, get_or-set_other, set_out, take-suc}
 use lib.Dec.{eqb, ltb}

@@ -7,9 +7,9 @@ use native.Mathlib.Omega.{arith}
 use native.Mathlib.Decide.{ℕ_discrete}
 use mathlib.Core.Path.{◌≡◌, refl, sym, ap, ◌∙◌}
 use mathlib.Core.Bool.{Bool, true, false, not, cond, true≢false}
-use mathlib.Core.List.{List, [], ◌∷◌, ◌++◌, map-append, append-nil}
+use mathlib.Core.List.{List, [], ◌∷◌, ◌++◌, append-nil}
 use mathlib.Core.Logic.{◌⊎◌, inl, inr}
-use lib.ListN.{length, take, drop, get_or, set, length-drop, length-take, length-map, length-set, drop_of_length-le}
+use lib.ListN.{length, take, drop, get_or, set, length-drop, length-take, length-set, drop_of_length-le}
 use lib.Seq.{take-suc, take-suc-set, take_all, take-nil, drop-cons, split_at, take-append_seam, drop-append_seam, take-append-add, drop-append-add}
 use lib.Dec.{eqb, ltb, eqb-zero-suc}
 use borrow.Author.Tests.{le-ltb, eq-eqb, ne_eqb, eqb-false, ltb-false, not-false}
@@ -24,9 +24,7 @@ use Rattle.chain_record.specs.declared.plain.DbPos.{DbPos}
 use Rattle.chain_record.specs.declared.plain.Mod.{Mod}
 use Rattle.chain_record.specs.declared.plain.Ring.{Ring}
 use Rattle.chain_record.specs.plain.Chain.{Chain, Outcome, Read, Refused, and_then, with_group, counts_of, max_bonds, max_groups, max_rings}
-use Rattle.group_table.specs.groups.Groups.{substituent_of, alias_ring_size}
 use Rattle.std.specs.Prelude.{Option, Some, None}
-use Rattle.group_table.proofs.groups.Laws.{substituent-row}
 use Rattle.token_syntax.specs.form.Parts.{parts_at}
 use Rattle.token_syntax.specs.form.Form.{segment_text, after_opening, before_closing, cy_text, form_of}
 use Rattle.token_syntax.specs.form.Numbers.{trimmed_number, leading_position}
@@ -36,7 +34,7 @@ use Rattle.token_head.specs.positions.Each.{each}
 use Rattle.token_features.specs.declared.features.Segment.TheVariants.{Located}
 use Rattle.token_features.specs.declared.features.Feature.{Feature}
 use Rattle.token_features.specs.declared.features.Feature.TheVariants.{Group as Feature-as-Group}
-use Rattle.token_features.specs.features.Features.{named, feature_of, item_at, part_of}
+use Rattle.token_features.specs.features.Features.{feature_of, item_at, part_of}
 use Rattle.token_segments.specs.segment.Segment.{part_at, comma_parts, modification, segment_at, segments}
 use Rattle.token_reader.specs.declared.token.Lead.{Lead}
 use Rattle.token_reader.specs.declared.token.Item.{Item}
@@ -383,7 +381,7 @@ clean-only (x ∷ a) h =
     let y = byte_of x h.0 in
     (record { low = omega (arith, y.low); opens = y.opens; closes = y.closes; cy = y.cy }, clean-only a h.1)
 
-module _ (s t a : List ℕ) (hs : List Mod) (n : ℕ) (g : Mod) (o : Onto s t hs n) (h : Plainly a) (long : 0 < length a) (w : (c : ℕ) → part_of a c ≡ Located g) (few : n < 16) (roomy : 16 ≤ length hs) where
+module _ (s t a : List ℕ) (hs : List Mod) (n : ℕ) (g : Mod) (o : Onto s t hs n) (h : Plainly a) (long : 0 < length a) (w : (c : ℕ) → part_of a c ≡ Located g) (few : n < 16) (roomy : length hs ≡ 16) where
   counted : (p : ChainPrefix) (i : ℕ) (l : List DbPos) (z : List Ring) → length l ≤ 32 → length z ≤ 8 → counts_of (with_group g (laden p i l (groups_in n hs) z)) ≡ Read (laden p i l (groups_in (n + 1) (set hs n g)) z)
   counted p i l z k j = rw (groups-more p i l z n g hs (omega arith)) (laden-counts p i l (groups_in (n + 1) (set hs n g)) z k (omega (arith, groups-few (n + 1) (set hs n g))) j)
 
@@ -429,7 +427,7 @@ may-follow : (s : List ℕ) → get_or s 0 0 ≡ 59 → may_follow s ≡ true
 may-follow [] e = refl
 may-follow (x ∷ s) e = eq-eqb x 59 e
 
-module _ (s t : List ℕ) (hs : List Mod) (n : ℕ) (o : Onto s t hs n) (r : Item Mod) (v : Itemed t r) (few : n < 16) (roomy : 16 ≤ length hs) where
+module _ (s t : List ℕ) (hs : List Mod) (n : ℕ) (o : Onto s t hs n) (r : Item Mod) (v : Itemed t r) (few : n < 16) (roomy : length hs ≡ 16) where
   item-long : 0 < length (take r.next t)
   item-long = omega (arith, length-take r.next t, v.room, v.some)
 

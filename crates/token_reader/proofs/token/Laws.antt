@@ -1,6 +1,6 @@
 -- Laws of the token reader: one for each way out of its functions.
 -- Assumes nothing.
-use Prim.Native.Nat.{ℕ, ◌+◌, ◌-◌, ◌≤◌, ◌<◌}
+use Prim.Native.Nat.{ℕ, ◌+◌, ◌-◌, ◌≤◌, ◌<◌, min}
 use native.Mathlib.Nat.{sub-zero}
 use native.Mathlib.Omega.{arith}
 use native.Mathlib.Decide.{ℕ_discrete}
@@ -8,8 +8,9 @@ use mir.Syntax.{w16}
 use mir.Val.{Fits}
 use mathlib.Core.Path.{◌≡◌, refl, sym, ap, ◌∙◌}
 use mathlib.Core.Bool.{Bool, true, false, not, cond}
-use mathlib.Core.List.{List, [], ◌∷◌}
+use mathlib.Core.List.{List, [], ◌∷◌, ◌++◌}
 use lib.ListN.{length, take, drop, get_or, length-take}
+use lib.Seq.{take-append-le}
 use lib.Dec.{eqb, leb}
 use borrow.Author.Tests.{lt-ltb, le-ltb, eq-eqb, ne_eqb, not-true, not-false}
 use Rattle.scanner.specs.scan.Part.{trimmed, index_of, starts_with, same_bytes, Place}
@@ -22,7 +23,7 @@ use Rattle.chain_record.specs.declared.plain.ChainPrefix.TheVariants.{Acyl}
 use Rattle.chain_record.specs.declared.plain.DbPos.{DbPos}
 use Rattle.chain_record.specs.declared.plain.Mod.{Mod}
 use Rattle.chain_record.specs.declared.plain.Ring.{Ring}
-use Rattle.chain_record.specs.plain.Chain.{Chain, Outcome, and_then, counts_of, with_unlocated, max_bonds, max_groups, max_rings}
+use Rattle.chain_record.specs.plain.Chain.{Chain, Outcome, Read, Refused, and_then, counts_of, with_unlocated, max_bonds, max_groups, max_rings}
 use Rattle.chain_record.specs.declared.parsed.Counts.{Counts}
 use Rattle.chain_record.specs.declared.refusal.Refusal.{Refusal}
 use Rattle.chain_record.specs.declared.refusal.Refusal.TheVariants.{OverLimit, Unreadable}
@@ -41,7 +42,7 @@ use Rattle.std.specs.Prelude.{Option, Some, None}
 use Rattle.token_reader.specs.token.Token.{missing_of, bare_oxygens, finished, rest_of, counted_list, listed_of, after_count, bonds_of, named_chain, empty_text, trimmed_of, printable, all_printable, token_of}
 use Rattle.token_reader.specs.declared.token.Ending.{Ending}
 use Rattle.token_reader.specs.declared.token.ReadChain.{ReadChain}
-use Rattle.token_reader.specs.token.Lent.{bonds_in, Bare, ending_as, Finishes, listed_as, FewBonds, ListIs, tell, telling_as, told, Ends, empty_chain, ended_as, Tells, token_in}
+use Rattle.token_reader.specs.token.Lent.{token_as, bonds_in, Bare, ending_as, Finishes, listed_as, FewBonds, ListIs, tell, telling_as, told, Ends, empty_chain, ended_as, Tells, token_in}
 
 -- ---- bytes
 
@@ -350,6 +351,21 @@ module _ (s : List ℕ) (bs : List DbPos) (gs : List Mod) (rs : List Ring) where
 
 -- ---- in arrays of any length
 
+-- what an array keeps, it keeps with more behind it
+keeps-longer : {A : Type 0} (limit : ℕ) (xs us : List A) (n : ℕ) (l : List A) → Keeps limit xs n l → Keeps limit (xs ++ us) n l
+keeps-longer limit xs us n l k =
+    let e : length (take (min n limit) xs) ≡ length (take limit l) = ap length k.kept in
+    let h : min n limit ≤ length xs = omega (arith, e, length-take (min n limit) xs, length-take limit l, k.counted) in
+    record { counted = k.counted; kept = take-append-le (min n limit) xs us h ∙ k.kept }
+
+stands-longer : (r : Result ReadChain Refusal) (bs : List DbPos) (gs : List Mod) (rs : List Ring) (xs : List DbPos) (hs : List Mod) (zs : List Ring) (o : Outcome)
+    → Stands (token_as r bs gs rs) o → Stands (token_as r (bs ++ xs) (gs ++ hs) (rs ++ zs)) o
+stands-longer (Ok r) bs gs rs xs hs zs (Read d) k =
+    record { prefix = k.prefix; written = k.written; carbon = k.carbon; branched = k.branched; unlocated = k.unlocated; oxygens = k.oxygens; bonds = keeps-longer max_bonds bs xs r.counts.bonds d.bonds k.bonds; groups = keeps-longer max_groups gs hs r.counts.groups d.groups k.groups; rings = keeps-longer max_rings rs zs r.counts.rings d.rings k.rings }
+stands-longer (Ok r) bs gs rs xs hs zs (Refused n) k = k
+stands-longer (Err n) bs gs rs xs hs zs (Read d) k = k
+stands-longer (Err n) bs gs rs xs hs zs (Refused m) k = k
+
 module _ (b g n : ℕ) (s : List ℕ) (bs : List DbPos) (gs : List Mod) (rs : List Ring) where
   pub bonds-short : b < 32 → Tells (Err OverLimit) bs gs rs (token_in b g n s)
   unfolding token_in
@@ -363,6 +379,8 @@ module _ (b g n : ℕ) (s : List ℕ) (bs : List DbPos) (gs : List Mod) (rs : Li
   unfolding token_in
   rings-short u v h = record { stands = rw (le-ltb b max_bonds u, le-ltb g max_groups v, lt-ltb n max_rings h) refl }
 
-  pub token-in : (r : Result ReadChain Refusal) → 32 ≤ b → 16 ≤ g → 8 ≤ n → Tells r bs gs rs (token_of s) → Tells r bs gs rs (token_in b g n s)
+  -- a token is read into the first places of each array
+  pub token-in : (xs : List DbPos) (hs : List Mod) (zs : List Ring) (r : Result ReadChain Refusal) → 32 ≤ b → 16 ≤ g → 8 ≤ n → Tells r bs gs rs (token_of s) → Tells r (bs ++ xs) (gs ++ hs) (rs ++ zs) (token_in b g n s)
   unfolding token_in
-  token-in r u v w k = record { stands = rw (le-ltb b max_bonds u, le-ltb g max_groups v, le-ltb n max_rings w) k.stands }
+  token-in xs hs zs r u v w k =
+      record { stands = rw (le-ltb b max_bonds u, le-ltb g max_groups v, le-ltb n max_rings w) (stands-longer r bs gs rs xs hs zs (token_of s) k.stands) }

@@ -4,13 +4,12 @@ use Prim.Native.Nat.{ℕ, suc, ◌+◌, ◌-◌, ◌≤◌, ◌<◌}
 use native.Mathlib.Numerals.{add-one}
 use native.Mathlib.Omega.{arith}
 use mathlib.Core.Path.{◌≡◌, refl, sym, ap, ◌∙◌}
-use mathlib.Core.Bool.{Bool, true, false, cond}
+use mathlib.Core.Bool.{true}
 use mathlib.Core.List.{List, [], ◌∷◌, ◌++◌, append_assoc}
 use mathlib.Core.Logic.{◌⊎◌, inl, inr}
 use lib.ListN.{length, take, drop, get_or, set, length-append, length-drop, length-set, drop_of_length-le}
 use lib.Seq.{take_all, split_at, drop-drop, drop-cons, take-append_seam, take-append-add, drop-append-add}
-use lib.Dec.{eqb, ltb}
-use borrow.Author.Tests.{ne_eqb, eqb-true, ltb-false}
+use borrow.Author.Tests.{ne_eqb, eqb-true}
 use Rattle.scanner.specs.scan.Part.{first_byte, index_of, index_of_text, starts_with, trimmed, ending, part}
 use Rattle.scanner.specs.scan.Number.{is_digit}
 use Rattle.scanner.proofs.scan.Laws.{to_end, digit-from}
@@ -18,7 +17,6 @@ use Rattle.scanner.proofs.spaces.Laws.{trim-whole}
 use Rattle.chain_record.specs.declared.plain.ChainPrefix.{ChainPrefix}
 use Rattle.chain_record.specs.declared.plain.DbPos.{DbPos}
 use Rattle.chain_record.specs.declared.plain.Ring.{Ring}
-use Rattle.chain_record.specs.declared.plain.Bridge.TheVariants.{Carbocycle}
 use Rattle.chain_record.specs.plain.Chain.{Chain, Read, with_ring, counts_of}
 use Rattle.token_syntax.specs.form.Parts.{parts_at}
 use Rattle.token_syntax.specs.form.Form.{segment_text, after_opening, before_closing, cy_text, span_form, form_of}
@@ -26,7 +24,7 @@ use Rattle.token_syntax.specs.form.Numbers.{ring_count}
 use Rattle.token_syntax.specs.declared.form.Form.TheVariants.{Ring as Form-as-Ring}
 use Rattle.token_head.specs.positions.Each.{each}
 use Rattle.token_features.specs.declared.features.Segment.{Segment}
-use Rattle.token_features.specs.declared.features.Segment.TheVariants.{Cycle, Unreadable}
+use Rattle.token_features.specs.declared.features.Segment.TheVariants.{Cycle}
 use Rattle.token_features.specs.features.Features.{ring_of}
 use Rattle.token_segments.specs.ring.Ring.{ring_bonds, ring_sized, ring_segment}
 use Rattle.token_segments.specs.segment.Segment.{modification, segment_at, segments}
@@ -263,11 +261,11 @@ bracket-read carbon t q r w l e v =
 text-joined : (a b c v : List ℕ) → a ++ 45 ∷ (b ++ 99 ∷ 121 ∷ (c ++ 93 ∷ v)) ≡ ring_text a b c ++ 93 ∷ v
 text-joined a b c v = sym (append_assoc a (45 ∷ (b ++ 99 ∷ 121 ∷ c)) (93 ∷ v) ∙ ap (λ (x : List ℕ). a ++ 45 ∷ x) (append_assoc b (99 ∷ 121 ∷ c) (93 ∷ v)))
 
-one_in : (rs : List Ring) (g : Ring) → 8 ≤ length rs → rings_in 1 (set rs 0 g) ≡ g ∷ []
+one_in : (rs : List Ring) (g : Ring) → length rs ≡ 8 → rings_in 1 (set rs 0 g) ≡ g ∷ []
 one_in [] g h = absurd (omega arith)
 one_in (x ∷ rs) g h = refl
 
-module _ (w : ℕ) (t : List ℕ) (rs : List Ring) (r : Item Ring) (k : Enclosed w t r) (roomy : 8 ≤ length rs) where
+module _ (w : ℕ) (t : List ℕ) (rs : List Ring) (r : Item Ring) (k : Enclosed w t r) (roomy : length rs ≡ 8) where
   abbrev text : List ℕ
   text = ring_text k.first k.last k.size
 
@@ -301,7 +299,7 @@ module _ (w : ℕ) (t : List ℕ) (rs : List Ring) (r : Item Ring) (k : Enclosed
         says = λ f p l h. rw (one_in rs r.what roomy) (ring-says p l h f.start);
       }
 
-pub ring-one : (w : ℕ) (v : List ℕ) (rs : List Ring) (r : Item Ring) → 2 ≤ length v → get_or v 0 0 ≡ 59 → get_or v 1 0 ≡ 91 → Enclosed w (take (length v - 2) (drop 2 v)) r → 8 ≤ length rs
+pub ring-one : (w : ℕ) (v : List ℕ) (rs : List Ring) (r : Item Ring) → 2 ≤ length v → get_or v 0 0 ≡ 59 → get_or v 1 0 ≡ 91 → Enclosed w (take (length v - 2) (drop 2 v)) r → length rs ≡ 8
     → RingFirst w v (set rs 0 r.what) (record { count = 1; rest = r.next + 2 })
 ring-one w [] rs r l a b f h = absurd (omega arith)
 ring-one w (x ∷ []) rs r l a b f h = absurd (omega arith)

@@ -6,8 +6,8 @@ use native.Mathlib.Numerals.{add-one}
 use native.Mathlib.Omega.{arith}
 use mathlib.Core.Path.{◌≡◌, refl, sym, ap, ◌∙◌}
 use mathlib.Core.Bool.{Bool, true, false, not, cond, true≢false}
-use mathlib.Core.List.{List, [], ◌∷◌, map-append}
-use lib.ListN.{length, take, drop, get_or, set, length-drop, length-take, length-map, length-set}
+use mathlib.Core.List.{List, [], ◌∷◌}
+use lib.ListN.{length, take, drop, get_or, set, length-drop, length-take, length-set}
 use lib.Seq.{take-suc-set, take_all, drop-cons, drop-drop, drop-length}
 use mathlib.Core.Logic.{◌⊎◌, inl, inr}
 use lib.Dec.{eqb, ltb, leb, eqb-suc-suc}
@@ -415,7 +415,7 @@ so-none s bs =
       says = λ h declared p w. rw (parts-some (index_of 41 s) s h (first-within (λ x. eqb x 41) s));
     }
 
-module _ (s t : List ℕ) (bs : List DbPos) (n : ℕ) (h : So s t bs n) (r : Item DbPos) (v : Spotted t r) (few : n < 32) (roomy : 32 ≤ length bs) where
+module _ (s t : List ℕ) (bs : List DbPos) (n : ℕ) (h : So s t bs n) (r : Item DbPos) (v : Spotted t r) (few : n < 32) (roomy : length bs ≡ 32) where
   rest_at : drop (r.next + 1) t ≡ drop (length s - length t + r.next + 1) s
   rest_at =
       let k : length s - length t + (r.next + 1) ≡ length s - length t + r.next + 1 = omega arith in
@@ -690,7 +690,7 @@ module _ (p : ChainPrefix) (w declared n g c : ℕ) (bs : List DbPos) (r : Resul
   pub plain_in : (m : Option ℕ) → m ≡ missing_of w (bonds_in n bs) declared → Plain p w m n g c r → PlainIn p w declared n g c bs r
   plain_in m v k = record { tells = λ gs rs h l i j x y. rw (← v) (k.tells bs gs rs h l i j x y) }
 
-pub segments-end : (u : Usual) (s : List ℕ) (bs : List DbPos) (gs : List Mod) (rs : List Ring) (m : Option ℕ) (e : Result Ending Refusal) (r : Result ReadChain Refusal) (ys : List DbPos) (hs : List Mod) (zs : List Ring) → u.count ≤ 32 → u.groups ≤ 16 → u.rings ≤ 8 → 32 ≤ length bs → 16 ≤ length gs → 8 ≤ length rs
+pub segments-end : (u : Usual) (s : List ℕ) (bs : List DbPos) (gs : List Mod) (rs : List Ring) (m : Option ℕ) (e : Result Ending Refusal) (r : Result ReadChain Refusal) (ys : List DbPos) (hs : List Mod) (zs : List Ring) → u.count ≤ 32 → u.groups ≤ 16 → u.rings ≤ 8 → length bs ≡ 32 → length gs ≡ 16 → length rs ≡ 8
     → m ≡ missing_of u.carbon (bonds_in u.count bs) u.declared → Ends u.carbon (record { bonds = u.count; groups = u.groups; rings = u.rings; oxygens = 0 }) bs gs rs e ys hs zs (rest_of m s)
     → r ≡ ended_as (record { prefix = u.prefix; written = u.carbon; carbon = u.carbon; branched = false; groups = u.groups }) e
     → Tells r ys hs zs (rest_of (missing_of u.carbon (bonds_in u.count bs) u.declared) s (laden u.prefix u.carbon (bonds_in u.count bs) (groups_in u.groups gs) (rings_in u.rings rs)))
