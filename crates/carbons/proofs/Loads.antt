@@ -14,6 +14,7 @@ use Rattle.group_table.specs.groups.Groups.{Entry, entries, blank, entry_at}
 use Rattle.group_table.proofs.groups.Laws.{every, every-at}
 use Rattle.chain_record.specs.declared.plain.Mod.{Mod}
 use Rattle.chain_record.specs.declared.plain.Ring.{Ring}
+use Rattle.drawn_chain.specs.drawable.Drawn.{Length, groups_in, no_group}
 use Rattle.carbons.specs.ByCarbon.{group_on, ring_on, carbonyl_on, busy_at, RowAtoms, group_atoms, load_at, Added, Busy}
 use Rattle.carbons.proofs.Fronts.{Behind}
 use Rattle.carbons.proofs.BondLaws.{stored}

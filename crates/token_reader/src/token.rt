@@ -10,7 +10,7 @@ ghost use Rattle.token_reader.specs.token.Short.{Numbered, HeadAt, Headed, SpotO
 
 use super::seats;
 use chain_record::{
-    ChainPrefix, Counts, DbPos, Geometry, MAX_BONDS, MAX_GROUPS, MAX_RINGS, Mod, Refusal,
+    ChainPrefix, Counts, DbPos, Geometry, MAX_BONDS, MAX_GROUPS, MAX_RINGS, Mod, Refusal, Ring,
 };
 use token_features::{Feature, Segment};
 use token_head::{Branch, Start};
@@ -50,7 +50,7 @@ fn all_printable(s: &[u8]) -> bool
 }
 
 // The bonds missing beside the first n, which are those of the `(..)` list: how many are declared without a position, where each finds a seat.
-fn missing_bonds(carbon: u16, bonds: &[u64], n: usize, declared: u64) -> Option<u16>
+fn missing_bonds(carbon: u16, bonds: &[DbPos], n: usize, declared: u64) -> Option<u16>
     requires carbon_le_max_carbons { carbon ≤ max_carbons }
     requires n_in_bounds { n ≤ length bonds.now }
     ensures { result ≡ missing_of carbon (bonds_in n bonds.now) declared }
@@ -106,14 +106,11 @@ fn parse_rest(
     missing: Option<u16>,
     s: &[u8],
     carbon: u16,
-    bonds: &mut [u64],
-    groups: &mut [u64],
-    rings: &mut [u64],
+    bonds: &mut [DbPos; MAX_BONDS],
+    groups: &mut [Mod; MAX_GROUPS],
+    rings: &mut [Ring; MAX_RINGS],
     counts: Counts,
 ) -> Result<Ending, Refusal>
-    requires max_bonds_in_bounds { max_bonds ≤ length bonds.old }
-    requires max_groups_in_bounds { max_groups ≤ length groups.old }
-    requires max_rings_in_bounds { max_rings ≤ length rings.old }
     ensures { Ends carbon counts bonds.old groups.old rings.old result bonds.new groups.new rings.new (rest_of missing s.now) }
 {
     if s.len() == 0 {
@@ -124,8 +121,7 @@ fn parse_rest(
 }
 
 // The `(..)` list, and its count.
-fn parse_list(s: &[u8], bonds: &mut [u64], counts: Counts) -> Result<Counts, Refusal>
-    requires { max_bonds ≤ length bonds.old }
+fn parse_list(s: &[u8], bonds: &mut [DbPos; MAX_BONDS], counts: Counts) -> Result<Counts, Refusal>
     ensures { ListIs s.now counts bonds.old result bonds.new }
 {
     let mut more = counts;
@@ -138,15 +134,12 @@ fn parse_listed(
     declared: u64,
     s: &[u8],
     carbon: u16,
-    bonds: &mut [u64],
-    groups: &mut [u64],
-    rings: &mut [u64],
+    bonds: &mut [DbPos; MAX_BONDS],
+    groups: &mut [Mod; MAX_GROUPS],
+    rings: &mut [Ring; MAX_RINGS],
     counts: Counts,
 ) -> Result<Ending, Refusal>
-    requires carbon_le_max_carbons { carbon ≤ max_carbons }
-    requires max_bonds_in_bounds { max_bonds ≤ length bonds.old }
-    requires max_groups_in_bounds { max_groups ≤ length groups.old }
-    requires max_rings_in_bounds { max_rings ≤ length rings.old }
+    requires { carbon ≤ max_carbons }
     ensures { Ends carbon counts bonds.old groups.old rings.old result bonds.new groups.new rings.new (listed_of declared s.now) }
 {
     let n = scanner::find(s, b')');
@@ -163,16 +156,13 @@ fn parse_after_count(
     declared: u64,
     s: &[u8],
     carbon: u16,
-    bonds: &mut [u64],
-    groups: &mut [u64],
-    rings: &mut [u64],
+    bonds: &mut [DbPos; MAX_BONDS],
+    groups: &mut [Mod; MAX_GROUPS],
+    rings: &mut [Ring; MAX_RINGS],
     counts: Counts,
 ) -> Result<Ending, Refusal>
     requires carbon_le_max_carbons { carbon ≤ max_carbons }
     requires bonds_le_max_bonds { counts.bonds ≤ max_bonds }
-    requires max_bonds_in_bounds { max_bonds ≤ length bonds.old }
-    requires max_groups_in_bounds { max_groups ≤ length groups.old }
-    requires max_rings_in_bounds { max_rings ≤ length rings.old }
     ensures { Ends carbon counts bonds.old groups.old rings.old result bonds.new groups.new rings.new (after_count declared s.now) }
 {
     if scanner::starts_with(s, b"(") {
@@ -186,16 +176,13 @@ fn parse_after_count(
 fn parse_bonds(
     s: &[u8],
     carbon: u16,
-    bonds: &mut [u64],
-    groups: &mut [u64],
-    rings: &mut [u64],
+    bonds: &mut [DbPos; MAX_BONDS],
+    groups: &mut [Mod; MAX_GROUPS],
+    rings: &mut [Ring; MAX_RINGS],
     counts: Counts,
 ) -> Result<Ending, Refusal>
     requires carbon_le_max_carbons { carbon ≤ max_carbons }
     requires bonds_le_max_bonds { counts.bonds ≤ max_bonds }
-    requires max_bonds_in_bounds { max_bonds ≤ length bonds.old }
-    requires max_groups_in_bounds { max_groups ≤ length groups.old }
-    requires max_rings_in_bounds { max_rings ≤ length rings.old }
     ensures { Ends carbon counts bonds.old groups.old rings.old result bonds.new groups.new rings.new (bonds_of s.now) }
 {
     let n = scanner::digit_run(s);
@@ -254,13 +241,10 @@ fn parse_named(
     prefix: ChainPrefix,
     branch: Branch,
     s: &[u8],
-    bonds: &mut [u64],
-    groups: &mut [u64],
-    rings: &mut [u64],
+    bonds: &mut [DbPos; MAX_BONDS],
+    groups: &mut [Mod; MAX_GROUPS],
+    rings: &mut [Ring; MAX_RINGS],
 ) -> Result<ReadChain, Refusal>
-    requires max_bonds_in_bounds { max_bonds ≤ length bonds.old }
-    requires max_groups_in_bounds { max_groups ≤ length groups.old }
-    requires max_rings_in_bounds { max_rings ≤ length rings.old }
     ensures { Tells result bonds.new groups.new rings.new (named_chain prefix branch s.now) }
 {
     let n = scanner::find(s, b':');
@@ -281,13 +265,10 @@ fn parse_named(
 // A trimmed token.
 fn parse_trimmed(
     t: &[u8],
-    bonds: &mut [u64],
-    groups: &mut [u64],
-    rings: &mut [u64],
+    bonds: &mut [DbPos; MAX_BONDS],
+    groups: &mut [Mod; MAX_GROUPS],
+    rings: &mut [Ring; MAX_RINGS],
 ) -> Result<ReadChain, Refusal>
-    requires max_bonds_in_bounds { max_bonds ≤ length bonds.old }
-    requires max_groups_in_bounds { max_groups ≤ length groups.old }
-    requires max_rings_in_bounds { max_rings ≤ length rings.old }
     ensures { Tells result bonds.new groups.new rings.new (trimmed_of t.now) }
 {
     if scanner::same(t, b"0:0") {
@@ -303,14 +284,11 @@ fn parse_trimmed(
 // A token of at most 255 bytes, into arrays with room for all that it may say.
 fn read_any(
     s: &[u8],
-    bonds: &mut [u64],
-    groups: &mut [u64],
-    rings: &mut [u64],
+    bonds: &mut [DbPos; MAX_BONDS],
+    groups: &mut [Mod; MAX_GROUPS],
+    rings: &mut [Ring; MAX_RINGS],
 ) -> Result<ReadChain, Refusal>
-    requires s_len_bound { length s.now ≤ max_bytes }
-    requires max_bonds_in_bounds { max_bonds ≤ length bonds.old }
-    requires max_groups_in_bounds { max_groups ≤ length groups.old }
-    requires max_rings_in_bounds { max_rings ≤ length rings.old }
+    requires { length s.now ≤ max_bytes }
     ensures { Tells result bonds.new groups.new rings.new (token_of s.now) }
 {
     if !all_printable(s) {
@@ -386,15 +364,15 @@ fn read_head(s: &[u8]) -> Option<Head>
     head_at(&s[1..], opening.prefix, 1)
 }
 
-// A double bond of a list, as a number of `chain_record::codes`, and how many bytes it has.
+// A double bond, a group or a ring that was read, and how many bytes it has.
 #[derive(Clone, Copy)]
-pub struct Spot {
-    pub code: u64,
+pub struct Item<T> {
+    pub what: T,
     pub next: usize,
 }
 
 // A position with the large letter after it.
-fn lettered(pos: u32, b: u8, next: usize) -> Option<Spot>
+fn lettered(pos: u32, b: u8, next: usize) -> Option<Item<DbPos>>
     ensures { IfSome result (λ r. SpotOf pos b next r) }
 {
     let geom = match b {
@@ -402,12 +380,12 @@ fn lettered(pos: u32, b: u8, next: usize) -> Option<Spot>
         b'E' => Geometry::Trans,
         _ => return None,
     };
-    let code = chain_record::bond_code(DbPos { pos, geom });
-    Some(Spot { code, next })
+    let what = DbPos { pos, geom };
+    Some(Item { what, next })
 }
 
 // One or two digits and a letter, with a byte behind them.
-fn read_spot(t: &[u8]) -> Option<Spot>
+fn read_spot(t: &[u8]) -> Option<Item<DbPos>>
     ensures { IfSome result (λ r. Spotted t.now r) }
 {
     if t.len() < 3 || !scanner::is_digit(t[0]) {
@@ -435,15 +413,14 @@ pub struct Listed {
 const NOTHING: Listed = Listed { count: 0, rest: 0 };
 
 // The list that follows a `(`, where each position is written as nearly all are.
-fn read_list(s: &[u8], bonds: &mut [u64]) -> Option<Listed>
-    requires { max_bonds ≤ length bonds.old }
+fn read_list(s: &[u8], bonds: &mut [DbPos; MAX_BONDS]) -> Option<Listed>
     ensures { IfSome result (λ r. Listing s.now bonds.new r) }
 {
     let mut t = s;
     for count in 0..MAX_BONDS {
         let spot = read_spot(t)?;
         let n = spot.next;
-        bonds[count] = spot.code;
+        bonds[count] = spot.what;
         if t[n] == b')' {
             return Some(Listed {
                 count: count + 1,
@@ -459,8 +436,7 @@ fn read_list(s: &[u8], bonds: &mut [u64]) -> Option<Listed>
 }
 
 // The list straight after the bond count.
-fn usual_list(u: &[u8], bonds: &mut [u64]) -> Option<Listed>
-    requires { max_bonds ≤ length bonds.old }
+fn usual_list(u: &[u8], bonds: &mut [DbPos; MAX_BONDS]) -> Option<Listed>
     ensures { IfSome result (λ r. Lists u.now bonds.new r) }
 {
     if u.len() == 0 || u[0] != b'(' {
@@ -537,15 +513,8 @@ fn read_lead(t: &[u8]) -> Option<Lead>
     })
 }
 
-// A group or a ring of a segment, as a number of `chain_record::codes`, and how many bytes it has.
-#[derive(Clone, Copy)]
-pub struct Item {
-    pub code: u64,
-    pub next: usize,
-}
-
 // A position, which may be missing, and the abbreviation of a group.
-fn read_item(t: &[u8]) -> Option<Item>
+fn read_item(t: &[u8]) -> Option<Item<Mod>>
     ensures { IfSome result (λ r. Itemed t.now r) }
 {
     let lead = read_lead(t).unwrap_or(NOWHERE);
@@ -560,8 +529,8 @@ fn read_item(t: &[u8]) -> Option<Item>
     let Feature::Group(row) = token_features::feature_of(&t[n..n + m]) else {
         return None;
     };
-    let code = chain_record::group_code(Mod { pos: lead.pos, row });
-    Some(Item { code, next: n + m })
+    let what = Mod { pos: lead.pos, row };
+    Some(Item { what, next: n + m })
 }
 
 // Whether a part ends at a byte.
@@ -572,8 +541,7 @@ fn is_separator(b: u8) -> bool
 }
 
 // The segments, where each is a list of groups that is written as nearly all are: how many groups they give.
-fn read_groups(s: &[u8], groups: &mut [u64]) -> Option<usize>
-    requires { max_groups ≤ length groups.old }
+fn read_groups(s: &[u8], groups: &mut [Mod; MAX_GROUPS]) -> Option<usize>
     ensures { IfSome result (λ n. Grouped s.now groups.new n) }
 {
     if s.len() == 0 || s[0] != b';' {
@@ -583,7 +551,7 @@ fn read_groups(s: &[u8], groups: &mut [u64]) -> Option<usize>
     for count in 0..MAX_GROUPS {
         let item = read_item(t)?;
         let n = item.next;
-        groups[count] = item.code;
+        groups[count] = item.what;
         if n == t.len() {
             return Some(count + 1);
         }
@@ -596,7 +564,7 @@ fn read_groups(s: &[u8], groups: &mut [u64]) -> Option<usize>
 }
 
 // The size of a ring and the `]` behind it.
-fn read_size(t: &[u8], start: u32, end: u32, carbon: u16) -> Option<Item>
+fn read_size(t: &[u8], start: u32, end: u32, carbon: u16) -> Option<Item<Ring>>
     ensures { IfSome result (λ r. Sized start end carbon t.now r) }
 {
     let size = read_lead(t)?;
@@ -609,13 +577,13 @@ fn read_size(t: &[u8], start: u32, end: u32, carbon: u16) -> Option<Item>
         return None;
     };
     Some(Item {
-        code: chain_record::ring_code(cycle),
+        what: cycle,
         next: n + 1,
     })
 }
 
 // The last carbon of a ring, `cy` and what follows it.
-fn read_span(t: &[u8], start: u32, carbon: u16) -> Option<Item>
+fn read_span(t: &[u8], start: u32, carbon: u16) -> Option<Item<Ring>>
     ensures { IfSome result (λ r. Spanned start carbon t.now r) }
 {
     let end = read_lead(t)?;
@@ -625,13 +593,13 @@ fn read_span(t: &[u8], start: u32, carbon: u16) -> Option<Item>
     }
     let sized = read_size(&t[n + 2..], start, end.pos, carbon)?;
     Some(Item {
-        code: sized.code,
+        what: sized.what,
         next: n + 2 + sized.next,
     })
 }
 
 // The first carbon of a ring, `-` and what follows it.
-fn read_bracket(t: &[u8], carbon: u16) -> Option<Item>
+fn read_bracket(t: &[u8], carbon: u16) -> Option<Item<Ring>>
     ensures { IfSome result (λ r. Enclosed carbon t.now r) }
 {
     let start = read_lead(t)?;
@@ -641,21 +609,20 @@ fn read_bracket(t: &[u8], carbon: u16) -> Option<Item>
     }
     let span = read_span(&t[n + 1..], start.pos, carbon)?;
     Some(Item {
-        code: span.code,
+        what: span.what,
         next: n + 1 + span.next,
     })
 }
 
 // The ring in brackets that the first segment is.
-fn first_ring(v: &[u8], carbon: u16, rings: &mut [u64]) -> Option<Listed>
-    requires { max_rings ≤ length rings.old }
+fn first_ring(v: &[u8], carbon: u16, rings: &mut [Ring; MAX_RINGS]) -> Option<Listed>
     ensures { IfSome result (λ r. RingFirst carbon v.now rings.new r) }
 {
     if v.len() < 2 || v[0] != b';' || v[1] != b'[' {
         return None;
     }
     let ring = read_bracket(&v[2..], carbon)?;
-    rings[0] = ring.code;
+    rings[0] = ring.what;
     Some(Listed {
         count: 1,
         rest: ring.next + 2,
@@ -675,11 +642,13 @@ pub struct Usual {
 }
 
 // The head, the list, a ring and segments of groups. What was looked at here needs no look at its bytes and spaces before.
-fn read_usual(s: &[u8], bonds: &mut [u64], groups: &mut [u64], rings: &mut [u64]) -> Option<Usual>
-    requires s_len_bound { length s.now ≤ max_bytes }
-    requires max_bonds_in_bounds { max_bonds ≤ length bonds.old }
-    requires max_groups_in_bounds { max_groups ≤ length groups.old }
-    requires max_rings_in_bounds { max_rings ≤ length rings.old }
+fn read_usual(
+    s: &[u8],
+    bonds: &mut [DbPos; MAX_BONDS],
+    groups: &mut [Mod; MAX_GROUPS],
+    rings: &mut [Ring; MAX_RINGS],
+) -> Option<Usual>
+    requires { length s.now ≤ max_bytes }
     ensures { IfSome result (λ r. Starts s.now bonds.new groups.new rings.new r) }
 {
     let head = read_head(s)?;
@@ -749,7 +718,7 @@ fn plain_chain(usual: Usual, missing: Option<u16>) -> Result<ReadChain, Refusal>
 }
 
 // The same, where the bonds are yet to be seated: none are missing where all have a position.
-fn end_plain(usual: Usual, bonds: &[u64]) -> Result<ReadChain, Refusal>
+fn end_plain(usual: Usual, bonds: &[DbPos]) -> Result<ReadChain, Refusal>
     requires carbon_le_max_carbons { usual.carbon ≤ max_carbons }
     requires count_in_bounds { usual.count ≤ length bonds.now }
     ensures { PlainIn usual.prefix usual.carbon usual.declared usual.count usual.groups usual.rings bonds.now result }
@@ -765,17 +734,14 @@ fn end_plain(usual: Usual, bonds: &[u64]) -> Result<ReadChain, Refusal>
 fn end_segments(
     usual: Usual,
     s: &[u8],
-    bonds: &mut [u64],
-    groups: &mut [u64],
-    rings: &mut [u64],
+    bonds: &mut [DbPos; MAX_BONDS],
+    groups: &mut [Mod; MAX_GROUPS],
+    rings: &mut [Ring; MAX_RINGS],
 ) -> Result<ReadChain, Refusal>
     requires carbon_le_max_carbons { usual.carbon ≤ max_carbons }
     requires count_le_max_bonds { usual.count ≤ max_bonds }
     requires groups_le_max_groups { usual.groups ≤ max_groups }
     requires rings_le_max_rings { usual.rings ≤ max_rings }
-    requires max_bonds_in_bounds { max_bonds ≤ length bonds.old }
-    requires max_groups_in_bounds { max_groups ≤ length groups.old }
-    requires max_rings_in_bounds { max_rings ≤ length rings.old }
     ensures { Tells result bonds.new groups.new rings.new (rest_of (missing_of usual.carbon (bonds_in usual.count bonds.old) usual.declared) s.now (laden usual.prefix usual.carbon (bonds_in usual.count bonds.old) (groups_in usual.groups groups.old) (rings_in usual.rings rings.old))) }
 {
     let prefix = usual.prefix;
@@ -801,13 +767,10 @@ fn end_segments(
 // A token, into arrays with room for all that it may say. Nearly every token starts in one way, and has no segments.
 fn read_token(
     s: &[u8],
-    bonds: &mut [u64],
-    groups: &mut [u64],
-    rings: &mut [u64],
+    bonds: &mut [DbPos; MAX_BONDS],
+    groups: &mut [Mod; MAX_GROUPS],
+    rings: &mut [Ring; MAX_RINGS],
 ) -> Result<ReadChain, Refusal>
-    requires max_bonds_in_bounds { max_bonds ≤ length bonds.old }
-    requires max_groups_in_bounds { max_groups ≤ length groups.old }
-    requires max_rings_in_bounds { max_rings ≤ length rings.old }
     ensures { Tells result bonds.new groups.new rings.new (token_of s.now) }
 {
     if MAX_BYTES < s.len() {
@@ -826,20 +789,20 @@ fn read_token(
 // The chain that a token says, its double bonds, groups and rings in lent arrays. Arrays with less room than the limits ask are refused by 31.
 pub fn parse_token(
     s: &[u8],
-    bonds: &mut [u64],
-    groups: &mut [u64],
-    rings: &mut [u64],
+    bonds: &mut [DbPos],
+    groups: &mut [Mod],
+    rings: &mut [Ring],
 ) -> Result<ReadChain, Refusal>
     ensures { Tells result bonds.new groups.new rings.new (token_in (length bonds.old) (length groups.old) (length rings.old) s.now) }
 {
-    if bonds.len() < MAX_BONDS {
+    let Some(bond_room) = bonds.first_chunk_mut::<MAX_BONDS>() else {
         return Err(Refusal::OverLimit);
-    }
-    if groups.len() < MAX_GROUPS {
+    };
+    let Some(group_room) = groups.first_chunk_mut::<MAX_GROUPS>() else {
         return Err(Refusal::OverLimit);
-    }
-    if rings.len() < MAX_RINGS {
+    };
+    let Some(ring_room) = rings.first_chunk_mut::<MAX_RINGS>() else {
         return Err(Refusal::OverLimit);
-    }
-    read_token(s, bonds, groups, rings)
+    };
+    read_token(s, bond_room, group_room, ring_room)
 }

@@ -2,11 +2,10 @@
 // and the double bonds that its list gives, or 11. How many of them a chain may have is judged by the counts afterwards. 01's sentences stand
 // in specs/ring/Ring.antt.
 ghost use Rattle.std.specs.Prelude.{◌+◌, ◌<◌, ◌≤◌, [], length};
-ghost use Rattle.chain_record.specs.plain.Chain.{max_bonds, max_rings};
 ghost use Rattle.token_segments.specs.ring.Ring.{ring_list, ring_listed, ring_bonds, ring_sized, ring_segment};
 ghost use Rattle.chain_record.specs.parsed.Parsed.{Collects, gather, ungrouped_as, on};
 
-use chain_record::{Counts, Refusal, Ring};
+use chain_record::{Counts, DbPos, MAX_BONDS, MAX_RINGS, Refusal, Ring};
 use token_features::Segment;
 
 // A ring's list of at most n positions, and then the ring.
@@ -14,12 +13,10 @@ fn parse_ring_list(
     ring: Ring,
     n: u64,
     list: &[u8],
-    bonds: &mut [u64],
-    rings: &mut [u64],
+    bonds: &mut [DbPos; MAX_BONDS],
+    rings: &mut [Ring; MAX_RINGS],
     counts: Counts,
 ) -> Result<Counts, Refusal>
-    requires max_bonds_in_bounds { max_bonds ≤ length bonds.old }
-    requires max_rings_in_bounds { max_rings ≤ length rings.old }
     ensures { Collects ungrouped_as (gather counts bonds.old [] rings.old) result bonds.new [] rings.new (ring_list ring n list.now) }
 {
     if n < (token_syntax::position_count(list) as u64) {
@@ -42,12 +39,10 @@ fn parse_ring_listed(
     ring: Ring,
     n: u64,
     s: &[u8],
-    bonds: &mut [u64],
-    rings: &mut [u64],
+    bonds: &mut [DbPos; MAX_BONDS],
+    rings: &mut [Ring; MAX_RINGS],
     counts: Counts,
 ) -> Result<Counts, Refusal>
-    requires max_bonds_in_bounds { max_bonds ≤ length bonds.old }
-    requires max_rings_in_bounds { max_rings ≤ length rings.old }
     ensures { Collects ungrouped_as (gather counts bonds.old [] rings.old) result bonds.new [] rings.new (ring_listed ring n s.now) }
 {
     if !token_syntax::ends_in_parenthesis(s) {
@@ -60,12 +55,10 @@ fn parse_ring_listed(
 fn parse_ring_bond_count(
     ring: Ring,
     s: &[u8],
-    bonds: &mut [u64],
-    rings: &mut [u64],
+    bonds: &mut [DbPos; MAX_BONDS],
+    rings: &mut [Ring; MAX_RINGS],
     counts: Counts,
 ) -> Result<Counts, Refusal>
-    requires max_bonds_in_bounds { max_bonds ≤ length bonds.old }
-    requires max_rings_in_bounds { max_rings ≤ length rings.old }
     ensures { Collects ungrouped_as (gather counts bonds.old [] rings.old) result bonds.new [] rings.new (ring_bonds ring s.now) }
 {
     let open = scanner::find(s, b'(');
@@ -86,12 +79,10 @@ fn parse_ring_size(
     end: u64,
     s: &[u8],
     carbon: u16,
-    bonds: &mut [u64],
-    rings: &mut [u64],
+    bonds: &mut [DbPos; MAX_BONDS],
+    rings: &mut [Ring; MAX_RINGS],
     counts: Counts,
 ) -> Result<Counts, Refusal>
-    requires max_bonds_in_bounds { max_bonds ≤ length bonds.old }
-    requires max_rings_in_bounds { max_rings ≤ length rings.old }
     ensures { Collects (on carbon ungrouped_as) (gather counts bonds.old [] rings.old) result bonds.new [] rings.new (ring_sized start end s.now) }
 {
     let colon = scanner::find(s, b':');
@@ -116,13 +107,11 @@ pub fn parse_ring_segment(
     dash: usize,
     cy: usize,
     carbon: u16,
-    bonds: &mut [u64],
-    rings: &mut [u64],
+    bonds: &mut [DbPos; MAX_BONDS],
+    rings: &mut [Ring; MAX_RINGS],
     counts: Counts,
 ) -> Result<Counts, Refusal>
-    requires dash_lt_cy { (dash < cy) × (cy + 2 ≤ length s.now) }
-    requires max_bonds_in_bounds { max_bonds ≤ length bonds.old }
-    requires max_rings_in_bounds { max_rings ≤ length rings.old }
+    requires { (dash < cy) × (cy + 2 ≤ length s.now) }
     ensures { Collects (on carbon ungrouped_as) (gather counts bonds.old [] rings.old) result bonds.new [] rings.new (ring_segment s.now dash cy) }
 {
     let Some(start) = token_syntax::trimmed_number(&s[0..dash]) else {

@@ -1,19 +1,17 @@
 // The segments of a token, `;[8-12cy5;11OH;9oxo];15OH`, read into lent arrays of double bonds, groups and rings. Every byte string has an
 // answer: the counts with what the segments add, 11 at the first piece that cannot be read, or 31 after the first segment that puts a count
 // over its limit. 01's sentences stand in specs/segment/Segment.antt.
-ghost use Rattle.std.specs.Prelude.{◌≤◌, [], length};
-ghost use Rattle.chain_record.specs.plain.Chain.{max_bonds, max_groups, max_rings};
+ghost use Rattle.std.specs.Prelude.{[]};
 ghost use Rattle.chain_record.specs.parsed.Parsed.{Grows, Pushes, Collects, first, gather, groups_as, unbonded_as, all_as, on};
 ghost use Rattle.token_segments.specs.segment.Segment.{copies, many_times, with_segment, listed_at, plain_list, listed_feature, listed_segment, comma_parts, modification, segment_at, segments};
 
 use super::ring;
-use chain_record::{Counts, MAX_GROUPS, Mod, Refusal};
+use chain_record::{Counts, DbPos, MAX_BONDS, MAX_GROUPS, MAX_RINGS, Mod, Refusal, Ring};
 use token_features::{Feature, Segment};
 use token_syntax::Form;
 
 // A group n times.
-fn push_copies(group: Mod, n: u32, groups: &mut [u64], count: usize) -> usize
-    requires { max_groups ≤ length groups.old }
+fn push_copies(group: Mod, n: u32, groups: &mut [Mod; MAX_GROUPS], count: usize) -> usize
     ensures { Grows groups_as (first count groups.old) (first result groups.new) (copies n group) }
 {
     let mut left = n;
@@ -26,8 +24,12 @@ fn push_copies(group: Mod, n: u32, groups: &mut [u64], count: usize) -> usize
 }
 
 // Groups without a position. The counts are compared before any copy is made.
-fn push_repeated(row: u8, times: u32, groups: &mut [u64], count: usize) -> Result<usize, Refusal>
-    requires { max_groups ≤ length groups.old }
+fn push_repeated(
+    row: u8,
+    times: u32,
+    groups: &mut [Mod; MAX_GROUPS],
+    count: usize,
+) -> Result<usize, Refusal>
     ensures { Pushes groups_as count groups.old result groups.new (many_times times (record { pos = 0; row = row })) }
 {
     if MAX_GROUPS < count {
@@ -42,12 +44,10 @@ fn push_repeated(row: u8, times: u32, groups: &mut [u64], count: usize) -> Resul
 // What a piece of a segment adds.
 fn add_segment(
     segment: Segment,
-    groups: &mut [u64],
-    rings: &mut [u64],
+    groups: &mut [Mod; MAX_GROUPS],
+    rings: &mut [Ring; MAX_RINGS],
     counts: Counts,
 ) -> Result<Counts, Refusal>
-    requires max_groups_in_bounds { max_groups ≤ length groups.old }
-    requires max_rings_in_bounds { max_rings ≤ length rings.old }
     ensures { Collects unbonded_as (gather counts [] groups.old rings.old) result [] groups.new rings.new (with_segment segment) }
 {
     let mut more = counts;
@@ -70,12 +70,10 @@ fn parse_plain_position(
     s: &[u8],
     feature: Feature,
     carbon: u16,
-    groups: &mut [u64],
-    rings: &mut [u64],
+    groups: &mut [Mod; MAX_GROUPS],
+    rings: &mut [Ring; MAX_RINGS],
     counts: Counts,
 ) -> Result<Counts, Refusal>
-    requires max_groups_in_bounds { max_groups ≤ length groups.old }
-    requires max_rings_in_bounds { max_rings ≤ length rings.old }
     ensures { Collects (on carbon unbonded_as) (gather counts [] groups.old rings.old) result [] groups.new rings.new (listed_at feature s.now) }
 {
     let segment = token_features::read_listed(s, feature, carbon);
@@ -87,12 +85,10 @@ fn parse_plain_position_list(
     s: &[u8],
     feature: Feature,
     carbon: u16,
-    groups: &mut [u64],
-    rings: &mut [u64],
+    groups: &mut [Mod; MAX_GROUPS],
+    rings: &mut [Ring; MAX_RINGS],
     counts: Counts,
 ) -> Result<Counts, Refusal>
-    requires max_groups_in_bounds { max_groups ≤ length groups.old }
-    requires max_rings_in_bounds { max_rings ≤ length rings.old }
     ensures { Collects (on carbon unbonded_as) (gather counts [] groups.old rings.old) result [] groups.new rings.new (plain_list feature s.now) }
 {
     if s.len() == 0 {
@@ -115,12 +111,10 @@ fn parse_listed_feature(
     feature: Feature,
     list: &[u8],
     carbon: u16,
-    groups: &mut [u64],
-    rings: &mut [u64],
+    groups: &mut [Mod; MAX_GROUPS],
+    rings: &mut [Ring; MAX_RINGS],
     counts: Counts,
 ) -> Result<Counts, Refusal>
-    requires max_groups_in_bounds { max_groups ≤ length groups.old }
-    requires max_rings_in_bounds { max_rings ≤ length rings.old }
     ensures { Collects (on carbon unbonded_as) (gather counts [] groups.old rings.old) result [] groups.new rings.new (listed_feature feature list.now) }
 {
     match feature {
@@ -137,12 +131,10 @@ fn parse_listed_segment(
     abbr: &[u8],
     s: &[u8],
     carbon: u16,
-    groups: &mut [u64],
-    rings: &mut [u64],
+    groups: &mut [Mod; MAX_GROUPS],
+    rings: &mut [Ring; MAX_RINGS],
     counts: Counts,
 ) -> Result<Counts, Refusal>
-    requires max_groups_in_bounds { max_groups ≤ length groups.old }
-    requires max_rings_in_bounds { max_rings ≤ length rings.old }
     ensures { Collects (on carbon unbonded_as) (gather counts [] groups.old rings.old) result [] groups.new rings.new (listed_segment abbr.now s.now) }
 {
     if !token_syntax::ends_in_parenthesis(s) {
@@ -156,12 +148,10 @@ fn parse_listed_segment(
 fn parse_parts(
     s: &[u8],
     carbon: u16,
-    groups: &mut [u64],
-    rings: &mut [u64],
+    groups: &mut [Mod; MAX_GROUPS],
+    rings: &mut [Ring; MAX_RINGS],
     counts: Counts,
 ) -> Result<Counts, Refusal>
-    requires max_groups_in_bounds { max_groups ≤ length groups.old }
-    requires max_rings_in_bounds { max_rings ≤ length rings.old }
     ensures { Collects (on carbon unbonded_as) (gather counts [] groups.old rings.old) result [] groups.new rings.new (comma_parts s.now) }
 {
     let mut t = s;
@@ -181,14 +171,11 @@ fn parse_parts(
 fn parse_modification_segment(
     s: &[u8],
     carbon: u16,
-    bonds: &mut [u64],
-    groups: &mut [u64],
-    rings: &mut [u64],
+    bonds: &mut [DbPos; MAX_BONDS],
+    groups: &mut [Mod; MAX_GROUPS],
+    rings: &mut [Ring; MAX_RINGS],
     counts: Counts,
 ) -> Result<Counts, Refusal>
-    requires max_bonds_in_bounds { max_bonds ≤ length bonds.old }
-    requires max_groups_in_bounds { max_groups ≤ length groups.old }
-    requires max_rings_in_bounds { max_rings ≤ length rings.old }
     ensures { Collects (on carbon all_as) (gather counts bonds.old groups.old rings.old) result bonds.new groups.new rings.new (modification s.now) }
 {
     let form = token_syntax::form_of(s);
@@ -212,14 +199,11 @@ fn parse_modification_segment(
 fn parse_segment(
     s: &[u8],
     carbon: u16,
-    bonds: &mut [u64],
-    groups: &mut [u64],
-    rings: &mut [u64],
+    bonds: &mut [DbPos; MAX_BONDS],
+    groups: &mut [Mod; MAX_GROUPS],
+    rings: &mut [Ring; MAX_RINGS],
     counts: Counts,
 ) -> Result<Counts, Refusal>
-    requires max_bonds_in_bounds { max_bonds ≤ length bonds.old }
-    requires max_groups_in_bounds { max_groups ≤ length groups.old }
-    requires max_rings_in_bounds { max_rings ≤ length rings.old }
     ensures { Collects (on carbon all_as) (gather counts bonds.old groups.old rings.old) result bonds.new groups.new rings.new (segment_at s.now) }
 {
     let text = token_syntax::segment_text(s);
@@ -234,14 +218,11 @@ fn parse_segment(
 pub fn parse_segments(
     cursor: &[u8],
     carbon: u16,
-    bonds: &mut [u64],
-    groups: &mut [u64],
-    rings: &mut [u64],
+    bonds: &mut [DbPos; MAX_BONDS],
+    groups: &mut [Mod; MAX_GROUPS],
+    rings: &mut [Ring; MAX_RINGS],
     counts: Counts,
 ) -> Result<Counts, Refusal>
-    requires max_bonds_in_bounds { max_bonds ≤ length bonds.old }
-    requires max_groups_in_bounds { max_groups ≤ length groups.old }
-    requires max_rings_in_bounds { max_rings ≤ length rings.old }
     ensures { Collects (on carbon all_as) (gather counts bonds.old groups.old rings.old) result bonds.new groups.new rings.new (segments cursor.now) }
 {
     let mut at = 0;

@@ -1,10 +1,9 @@
 use Rattle.token_segments.proofs.segment.Laws.{as-ring, as-repeated, as-listed, as_parts}
 use Rattle.token_syntax.proofs.form.Laws.{ring-dash, ring-cy, listed-place}
-use borrow.Author.Rules.{rules}
 use Rattle.token_segments.proofs.segment.parse_modification_segment.Goals as goal
 
 pub parse_ring_segment-requires : goal.parse_ring_segment-requires
-parse_ring_segment-requires c = record { dash_lt_cy = (search ring-dash, search ring-cy); max_bonds_in_bounds = search rules; max_rings_in_bounds = search rules }
+parse_ring_segment-requires c = (search ring-dash, search ring-cy)
 
 pub slice_bounds-parse_listed_segment-end : goal.slice_bounds-parse_listed_segment-end
 slice_bounds-parse_listed_segment-end c = search listed-place

@@ -1,5 +1,4 @@
 use Prim.Native.Nat.{◌≤◌}
-use mathlib.Core.Path.{◌≡◌}
 use mathlib.Core.List.{[]}
 use lib.ListN.{length}
 use Rattle.token_syntax.specs.form.Parts.{parts_at}
@@ -10,7 +9,7 @@ use Rattle.token_segments.specs.segment.Segment.{part_at, comma_parts}
 use Rattle.token_segments.proofs.segment.parse_parts.Given as goal
 
 abbrev pub invariant-loop-so_far : goal.invariant-loop-so_far
-invariant-loop-so_far l = Onward (on l.carbon unbonded_as) (gather l.initial.so_far [] l.initial.groups l.initial.rings) (gather l.so_far [] l.groups l.rings) (comma_parts l.s) (each part_at (parts_at 44 l.t)) × (length l.t ≤ length l.s) × (length l.groups ≡ length l.initial.groups) × (length l.rings ≡ length l.initial.rings)
+invariant-loop-so_far l = Onward (on l.carbon unbonded_as) (gather l.initial.so_far [] l.initial.groups l.initial.rings) (gather l.so_far [] l.groups l.rings) (comma_parts l.s) (each part_at (parts_at 44 l.t)) × (length l.t ≤ length l.s)
 
 abbrev pub decreases-loop-so_far : goal.decreases-loop-so_far
 decreases-loop-so_far l = length l.t

@@ -1,5 +1,4 @@
 use native.Mathlib.Omega.{arith}
-use mathlib.Core.Path.{refl}
 use Rattle.scanner.proofs.reader.Laws.{part-order, part-within}
 use Rattle.token_head.proofs.positions.Each.{onward-start}
 use Rattle.token_segments.specs.segment.Segment.{segments}
@@ -9,7 +8,7 @@ use Rattle.token_segments.proofs.segment.parse_segments.Goals as goal
 
 pub loop-so_far-init : goal.loop-so_far-init
 unfolding segments
-loop-so_far-init c = (search onward-start, omega arith, refl, refl, refl)
+loop-so_far-init c = (search onward-start, omega arith)
 
 pub slice_bounds-parse_segment-count : goal.slice_bounds-parse_segment-count
 slice_bounds-parse_segment-count c = search part-order
@@ -30,4 +29,4 @@ pub loop-so_far-smaller : goal.loop-so_far-smaller
 loop-so_far-smaller c = search next-further
 
 pub loop-so_far-preserved : goal.loop-so_far-preserved
-loop-so_far-preserved c = (search (segments-more, c.in_ok-so_far.was), search next-within, search rules, search rules, search rules)
+loop-so_far-preserved c = (search (segments-more, c.in_ok-so_far.was), search next-within)
