@@ -5,7 +5,7 @@ ghost use Rattle.sheet_input.specs.header.Header.{cells_of};
 ghost use Rattle.sheet_input.specs.cutting.Cut.{Cut};
 ghost use Rattle.sheet_input.specs.cells.Cells.{cell_at, cell_of};
 
-use super::header::{COLUMNS, Plan};
+use super::header::{Column, Plan};
 
 // A cell by its place from 1, a part of the row, where its start is not kept; no bytes for the place 0 and past the last.
 fn cell_at(row: &[u8], place: usize) -> &[u8]
@@ -54,14 +54,11 @@ pub fn cell_of<'a>(
     row: &'a [u8],
     count: usize,
     starts: &[usize],
-    column: usize,
+    column: Column,
 ) -> &'a [u8]
     requires { Cut row.now starts.now count }
     ensures { result.now ≡ cell_of plan column row.now }
 {
-    if COLUMNS <= column {
-        return &row[0..0];
-    }
-    let place = plan.places[column];
+    let place = plan.places[column.index()];
     cell_in(row, count, starts, place)
 }

@@ -41,10 +41,6 @@ module _ (A : List ℕ) (t : List ℕ) (i k : ℕ) (f : Place t (index_of 9 t) k
       go (suc zero) l n = absurd (n refl)
       go (suc (suc i)) l n = simp unary_clauses refl
 
-pub cell-left-out : (places row : List ℕ) (column : ℕ) → 7 ≤ column → length places ≡ 7 → take (0 - 0) row ≡ cell_at (get_or places column 0) (cells_of row)
-unfolding cell_at
-cell-left-out places row column g l = let w = get_or-eq_default places 0 {n = column} (omega arith) in rw w
-
 -- ---- a cell of a row that is cut
 
 module _ (row starts : List ℕ) (n place : ℕ) (c : Cut row starts n) where
