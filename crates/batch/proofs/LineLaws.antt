@@ -4,7 +4,7 @@ use Prim.Native.Nat.{ℕ, ◌+◌, ◌-◌, ◌^◌, ◌≤◌, ◌<◌}
 use native.Mathlib.Nat.{sub-zero}
 use native.Mathlib.Omega.{arith}
 use mathlib.Core.Path.{◌≡◌, refl, sym, ap, ◌∙◌, subst}
-use mathlib.Core.Bool.{true, false, true≢false}
+use mathlib.Core.Bool.{Bool, true, false, cond, true≢false}
 use mathlib.Core.List.{List, [], ◌∷◌, ◌++◌, append_assoc, append-nil}
 use lib.ListN.{length, take, drop, length-drop}
 use lib.Seq.{take_all, drop-drop}
@@ -60,11 +60,8 @@ module _ (b : Batch) (l is os : List ℕ) (at : ℕ) where
   pub line-over : b.stage ≡ Over → at < 2 ^ 64 → Holds os at (held_after (before b is) l) b is os at
   unfolding held_after batch_after texts_of numbers_of times_from
   line-over e g =
-      record {
-        batch = (rw e (ap (λ (s : Stage). record { stage = s; counts = b.counts }) e));
-        index = (rw e);
-        text = (rw e (written-nil os at g));
-      }
+      let q : b ≡ record { stage = Over; counts = b.counts } = ap (λ (s : Stage). record { stage = s; counts = b.counts }) e in
+      subst (λ (x : Batch). Holds os at (held_after (before x is) l) x is os at) (sym q) (record { batch = refl; index = refl; text = written-nil os at g })
 
 -- ---- the lines of a text
 
@@ -259,24 +256,27 @@ module _ (b : Batch) (text is os : List ℕ) (at limit : ℕ) where
 
 -- ---- the end of a sheet
 
+not-header : (s : Stage) → (s ≡ Header → ⊥) → is_header s ≡ false
+not-header Header d = absurd (d refl)
+not-header (Rows plan) d = refl
+not-header Over d = refl
+
 module _ (b : Batch) (is os : List ℕ) (at : ℕ) where
   -- nothing is left, and the header was answered
-  pub last_none : (l : List ℕ) → length l ≡ 0 → is_header b.stage ≡ false → at < 2 ^ 64 → Holds os at (held_last (before b is) l) b is os at
+  pub last_none : (l : List ℕ) → length l ≡ 0 → (b.stage ≡ Header → ⊥) → at < 2 ^ 64 → Holds os at (held_last (before b is) l) b is os at
   unfolding held_last
-  last_none [] h e g = rw e (record { batch = refl; index = refl; text = written-nil os at g })
-  last_none (x ∷ l) h e g = absurd (omega arith)
-
-  pub last-rows : (plan : Plan) (l : List ℕ) → length l ≡ 0 → b.stage ≡ Rows plan → at < 2 ^ 64 → Holds os at (held_last (before b is) l) b is os at
-  last-rows plan l h e g = last_none l h (rw e) g
-
-  pub last-over : (l : List ℕ) → length l ≡ 0 → b.stage ≡ Over → at < 2 ^ 64 → Holds os at (held_last (before b is) l) b is os at
-  last-over l h e g = last_none l h (rw e) g
+  last_none [] h d g =
+      let e : is_header b.stage ≡ false = not-header b.stage d in
+      rw e (record { batch = refl; index = refl; text = written-nil os at g })
+  last_none (x ∷ l) h d g = absurd (omega arith)
 
   -- the header, though it has no bytes
   pub last-header : (l js ps : List ℕ) (c : Batch) (q : ℕ) → length l ≡ 0 → b.stage ≡ Header
       → Holds os at (held_after (before b is) l) c js ps q → Holds os at (held_last (before b is) l) c js ps q
   unfolding held_last
-  last-header [] js ps c q h e w = rw e w
+  last-header [] js ps c q h e w =
+      let z : is_header b.stage ≡ true = rw e in
+      subst (λ (k : Bool). Holds os at (cond k (held_after (before b is) []) (before b is)) c js ps q) (sym z) w
   last-header (x ∷ l) js ps c q h e w = absurd (omega arith)
 
   pub last_some : (l js ps : List ℕ) (c : Batch) (q : ℕ) → (length l ≡ 0 → ⊥)

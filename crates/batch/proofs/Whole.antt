@@ -119,8 +119,8 @@ headed-times None parts is = ap (λ (h : Held). h.batch.counts.times) (over-told
 pub whole-told : (parts : List (List ℕ)) (is : List ℕ) → WholeTold parts is
 unfolding held_end held_last held_after batch_after texts_of numbers_of times_from times_of replies_to rows_of
 whole-told [] is = record { text = refl; times = refl }
-whole-told ([] ∷ []) is = record { text = refl; times = refl }
-whole-told ((x ∷ l) ∷ []) is = record { text = refl; times = refl }
+whole-told ([] ∷ []) is = record { text = headed-text (plan_of []) [] is; times = headed-times (plan_of []) [] is }
+whole-told ((x ∷ l) ∷ []) is = record { text = headed-text (plan_of (x ∷ l)) [] is; times = headed-times (plan_of (x ∷ l)) [] is }
 whole-told (l ∷ k ∷ ls) is =
     record {
       text = headed-text (plan_of l) (k ∷ ls) is;

@@ -79,8 +79,8 @@ fn put_around(
     put_rest(out, at + HEAD + size, lists, index, pairs)
 }
 
-// A request, where the output has no room for a line slice: its line is drawn apart and copied. Two calls lead here, and so the compiler does
-// not lay this function, with its long array, into the one that runs for every row.
+// A request, where the output has no room for a line slice: its line is drawn apart and copied. It is never laid into its caller, which runs
+// for every row and would then hold this long array each time.
 #[inline(never)]
 fn answer_apart<'a>(
     class: &[u8],

@@ -31,20 +31,22 @@ enum Failure {
 }
 
 impl Failure {
-    fn message(self) -> &'static str {
+    // What is said of it; nothing where the turns of a loop are used up, which are more than any run takes.
+    fn message(self) -> Option<&'static str> {
         match self {
-            Failure::NoRoom => "no room for an answer",
-            Failure::Write => "cannot write to standard output",
-            Failure::Read => "cannot read standard input",
-            Failure::Turns => "the input does not end",
+            Failure::NoRoom => Some("no room for an answer"),
+            Failure::Write => Some("cannot write to standard output"),
+            Failure::Read => Some("cannot read standard input"),
+            Failure::Turns => None,
         }
     }
 }
 
 // Says on standard error what failed. Where that cannot be written either, nothing is left to say it on.
 fn say(rt: HostRuntime, failure: Failure) {
-    let message = failure.message();
-    let _ = eprintln!(rt; "perlwynos: {message}");
+    if let Some(message) = failure.message() {
+        let _ = eprintln!(rt; "perlwynos: {message}");
+    }
 }
 
 // Writes the output.
@@ -183,7 +185,7 @@ fn answer_all(
         };
         s = after;
     }
-    Ok(())
+    Err(Failure::Turns)
 }
 
 fn main(rt: HostRuntime) {
