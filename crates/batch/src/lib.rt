@@ -60,7 +60,7 @@ fn put_refused(out: &mut [u8], at: usize, number: u16, token: usize) -> usize
     ensures { Written out.old at (reply_text (refused number token)) out.new result }
 {
     let p = put_head(out, at, number, token);
-    writer::put_text(out, p, b"\t\n")
+    writer::put_all(out, p, b"\t\n")
 }
 
 // The row of an accepted request whose line, of so many bytes, stands in its place already: its head, and what follows the line.
@@ -75,7 +75,7 @@ fn put_around(
     requires { (at + 4 + size ≤ length out.old) × Pairs pairs.now }
     ensures { Around out.old at size (carbons_of (take lists.count lists.items) index.now) out.new result }
 {
-    writer::put_text(out, at, b"0\t0\t");
+    writer::put_all(out, at, b"0\t0\t");
     put_rest(out, at + HEAD + size, lists, index, pairs)
 }
 

@@ -165,7 +165,7 @@ fn number_each<'a>(
     while k <= last {
         let i = k as usize;
         let bond = bonds[i];
-        p = writer::put_index(index, p, writer::to_index(first, next));
+        p = writer::put(index, p, writer::to_index(first, next));
         count += 1;
         if busy[i] == 0 {
             next += bare_atoms(bond);

@@ -9,13 +9,13 @@ pub fn put_carbon(out: &mut [u8], at: usize, bond: u8) -> usize
     ensures { Written out.old at (carbon_text bond) out.new result }
 {
     if bond == 0 {
-        return writer::put_byte(out, at, b'C');
+        return writer::put(out, at, b'C');
     }
     if bond == b'O' {
-        return writer::put_byte(out, at, b'C');
+        return writer::put(out, at, b'C');
     }
-    let p = writer::put_byte(out, at, bond);
-    writer::put_byte(out, p, b'C')
+    let p = writer::put(out, at, bond);
+    writer::put(out, p, b'C')
 }
 
 // The O of an epoxide, between a carbon and the next.
@@ -23,7 +23,7 @@ pub fn put_bridge(out: &mut [u8], at: usize, bond: u8) -> usize
     ensures { Written out.old at (bridge_text bond) out.new result }
 {
     if bond == b'O' {
-        return writer::put_byte(out, at, b'O');
+        return writer::put(out, at, b'O');
     }
     at
 }
@@ -31,7 +31,7 @@ pub fn put_bridge(out: &mut [u8], at: usize, bond: u8) -> usize
 fn put_pair(out: &mut [u8], at: usize) -> usize
     ensures { Written out.old at (67 ∷ 61 ∷ 67 ∷ []) out.new result }
 {
-    writer::put_text(out, at, b"C=C")
+    writer::put_all(out, at, b"C=C")
 }
 
 // So many `C=C`.
@@ -56,5 +56,5 @@ pub fn put_flexible(out: &mut [u8], at: usize, bond: u8, n: u16) -> usize
     }
     let p = put_carbon(out, at, bond);
     let q = put_pairs(out, p, n);
-    writer::put_byte(out, q, b'C')
+    writer::put(out, q, b'C')
 }

@@ -14,7 +14,7 @@ fn put_table_branch(out: &mut [u8], at: usize, row: u8) -> usize
     let group = group_table::row_at(row);
     let n = group.branch_len as usize;
     let branch = group.branch;
-    writer::put_text(out, at, &branch[0..n])
+    writer::put_all(out, at, &branch[0..n])
 }
 
 // The branch of a group, by its row. Those that most groups have stand here once more, since a look into the table lays out the whole of it.
@@ -22,13 +22,13 @@ fn put_branch(out: &mut [u8], at: usize, row: u8) -> usize
     ensures { Written out.old at (branch_text row) out.new result }
 {
     if row == HYDROXY {
-        return writer::put_byte(out, at, b'O');
+        return writer::put(out, at, b'O');
     }
     if row == KETO {
-        return writer::put_text(out, at, b"=O");
+        return writer::put_all(out, at, b"=O");
     }
     if row == METHYL {
-        return writer::put_byte(out, at, b'C');
+        return writer::put(out, at, b'C');
     }
     put_table_branch(out, at, row)
 }
@@ -37,17 +37,17 @@ fn put_branch(out: &mut [u8], at: usize, row: u8) -> usize
 pub fn put_group(out: &mut [u8], at: usize, row: u8) -> usize
     ensures { Written out.old at (group_text row) out.new result }
 {
-    let p = writer::put_byte(out, at, b'(');
+    let p = writer::put(out, at, b'(');
     let q = put_branch(out, p, row);
-    writer::put_byte(out, q, b')')
+    writer::put(out, q, b')')
 }
 
 // A group without a position: `.*branch`.
 fn put_float(out: &mut [u8], at: usize, row: u8) -> usize
     ensures { Written out.old at (float_text row) out.new result }
 {
-    let p = writer::put_byte(out, at, b'.');
-    let q = writer::put_byte(out, p, b'*');
+    let p = writer::put(out, at, b'.');
+    let q = writer::put(out, p, b'*');
     put_branch(out, q, row)
 }
 
@@ -95,7 +95,7 @@ fn write_rows(rows: &mut [u8], at: usize, groups: &[u64], count: usize) -> usize
     let mut i = 0;
     while i < n {
         let g = drawn_chain::nth_group(groups, count, i);
-        p = writer::put_byte(rows, p, g.row);
+        p = writer::put(rows, p, g.row);
         i += 1;
     }
     p
@@ -125,7 +125,7 @@ fn put_oxo(out: &mut [u8], at: usize) -> usize
             return at + 4;
         }
     }
-    writer::put_text(out, at, b"(=O)")
+    writer::put_all(out, at, b"(=O)")
 }
 
 // The doubly bonded O of an acyl C1.

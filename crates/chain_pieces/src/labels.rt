@@ -13,11 +13,11 @@ fn put_label(out: &mut [u8], at: usize, label: u8) -> usize
     ensures { Written out.old at (show_label label) out.new result }
 {
     if label < 10 {
-        return writer::put_byte(out, at, 48 + label);
+        return writer::put(out, at, 48 + label);
     }
-    let p = writer::put_byte(out, at, b'%');
-    let q = writer::put_byte(out, p, 48 + label / 10);
-    writer::put_byte(out, q, 48 + label % 10)
+    let p = writer::put(out, at, b'%');
+    let q = writer::put(out, p, 48 + label / 10);
+    writer::put(out, q, 48 + label % 10)
 }
 
 // The label of a ring that starts or ends at carbon k; of any other, nothing.

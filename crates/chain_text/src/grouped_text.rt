@@ -162,7 +162,7 @@ pub fn build_bare(out: &mut [u8], at: usize, x: Shape, part: &[u64]) -> usize
     requires carbon_in_bounds { at + (x.carbon * 2 + 260) ≤ length out.old }
     ensures { (l : ℕ) → Segment (drawn_of x part.now) l out.old at out.new result }
 {
-    let p = writer::put_byte(out, at, b'C');
+    let p = writer::put(out, at, b'C');
     let from = chain_pieces::put_carbonyl(out, p, x.acyl, x.first);
     chain_pieces::put_carbons(out, from, (x.carbon - x.first) as usize)
 }

@@ -119,7 +119,7 @@ impl Builder {
         ensures { FixedPushed text.now atoms out.old self out.new result }
     {
         let at = self.at;
-        let next = writer::put_text(out, at, text);
+        let next = writer::put_all(out, at, text);
         let a = self.atoms;
         let sum = a.plus(atoms as u32);
         self.at = next;

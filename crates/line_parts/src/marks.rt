@@ -9,14 +9,14 @@ ghost use Rattle.line_parts.specs.shown.Notes.{marks_below};
 
 use super::shown::{put_block_lead, put_numbered};
 use super::variable::put_name;
-use writer::put_text;
+use writer::put_all;
 
 fn put_mark_text(out: &mut [u8], at: usize, atom: u32, v: u32) -> usize
     ensures { Written out.old at (show_mark (noted atom v)) out.new result }
 {
     let p = put_numbered(out, at, b"Sg:n:", atom, b':');
     let q = put_name(out, p, v);
-    put_text(out, q, b":ht")
+    put_all(out, q, b":ht")
 }
 
 // One mark.

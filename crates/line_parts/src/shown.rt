@@ -7,14 +7,14 @@ ghost use Rattle.writer.specs.emit.Text.{Written};
 ghost use Rattle.reading_rules.specs.reading.Show.{show_label};
 ghost use Rattle.line_parts.specs.shown.Chained.{block_lead, part_lead, blocks_end, parting, numbered};
 
-use writer::{put_byte, put_number, put_text};
+use writer::{put, put_all, put_number};
 
 // The byte before each part of a list but the first.
 pub fn put_parting(out: &mut [u8], at: usize, more: bool, s: u8) -> usize
     ensures { Written out.old at (parting more s) out.new result }
 {
     if more {
-        return put_byte(out, at, s);
+        return put(out, at, s);
     }
     at
 }
@@ -24,9 +24,9 @@ pub fn put_block_lead(out: &mut [u8], at: usize, first: bool) -> usize
     ensures { Written out.old at (block_lead first) out.new result }
 {
     if first {
-        return put_text(out, at, b" |");
+        return put_all(out, at, b" |");
     }
-    put_text(out, at, b",")
+    put_all(out, at, b",")
 }
 
 // What stands before a part of the trailer.
@@ -34,9 +34,9 @@ pub fn put_part_lead(out: &mut [u8], at: usize, first: bool) -> usize
     ensures { Written out.old at (part_lead first) out.new result }
 {
     if first {
-        return put_text(out, at, b" ");
+        return put_all(out, at, b" ");
     }
-    put_text(out, at, b";")
+    put_all(out, at, b";")
 }
 
 // The bar after the last block, where there is a block.
@@ -44,7 +44,7 @@ pub fn put_blocks_end(out: &mut [u8], at: usize, any: bool) -> usize
     ensures { Written out.old at (blocks_end any) out.new result }
 {
     if any {
-        return put_text(out, at, b"|");
+        return put_all(out, at, b"|");
     }
     at
 }
@@ -53,9 +53,9 @@ pub fn put_blocks_end(out: &mut [u8], at: usize, any: bool) -> usize
 pub fn put_numbered(out: &mut [u8], at: usize, before: &[u8], n: u32, after: u8) -> usize
     ensures { Written out.old at (numbered before.now n after) out.new result }
 {
-    let p = put_text(out, at, before);
+    let p = put_all(out, at, before);
     let q = put_number(out, p, n);
-    put_byte(out, q, after)
+    put(out, q, after)
 }
 
 // The label of a site, `sn` and its digit.
@@ -63,7 +63,7 @@ pub fn put_label(out: &mut [u8], at: usize, sn: u32) -> usize
     requires { sn < 10 }
     ensures { Written out.old at (show_label sn) out.new result }
 {
-    put_text(out, at, &[b's', b'n', 48 + sn as u8])
+    put_all(out, at, &[b's', b'n', 48 + sn as u8])
 }
 
 // The most sites that a line has: one for each sn.

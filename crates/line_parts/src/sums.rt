@@ -10,7 +10,7 @@ ghost use Rattle.line_parts.specs.shown.Notes.{numbers_from, sum_list};
 
 use super::shown::{put_numbered, put_part_lead, put_parting};
 use super::variable::put_name;
-use writer::put_text;
+use writer::put_all;
 
 // A variable of a sum.
 fn put_variable(out: &mut [u8], at: usize, more: bool, v: u32) -> usize
@@ -36,7 +36,7 @@ fn put_sum_text(out: &mut [u8], at: usize, v: u32, count: u32, total: u32) -> us
     requires { v + count < 2 ^ 32 }
     ensures { Written out.old at (show_sum (sum (numbers_from v count) total)) out.new result }
 {
-    let p = put_text(out, at, b"constrain(");
+    let p = put_all(out, at, b"constrain(");
     let q = put_variables(out, p, v, count);
     put_numbered(out, q, b"=", total, b')')
 }

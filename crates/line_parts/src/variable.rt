@@ -3,7 +3,7 @@
 ghost use Rattle.writer.specs.emit.Text.{Written};
 ghost use Rattle.reading_rules.specs.reading.Names.{name_of};
 
-use writer::put_byte;
+use writer::put;
 
 // The name of a variable; past zz the names begin again.
 pub fn put_name(out: &mut [u8], at: usize, v: u32) -> usize
@@ -11,8 +11,8 @@ pub fn put_name(out: &mut [u8], at: usize, v: u32) -> usize
 {
     let w = v % 702;
     if w < 26 {
-        return put_byte(out, at, (97 + w) as u8);
+        return put(out, at, (97 + w) as u8);
     }
-    let p = put_byte(out, at, (97 + (w - 26) / 26) as u8);
-    put_byte(out, p, (97 + (w - 26) % 26) as u8)
+    let p = put(out, at, (97 + (w - 26) / 26) as u8);
+    put(out, p, (97 + (w - 26) % 26) as u8)
 }

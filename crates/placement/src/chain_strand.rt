@@ -33,8 +33,8 @@ pub struct Strand {
 fn put_base_heads(index: &mut [u16], at: usize) -> usize
     ensures { Written index.old at (1 ∷ 0 ∷ []) index.new result }
 {
-    let p = writer::put_index(index, at, 1);
-    writer::put_index(index, p, 0)
+    let p = writer::put(index, at, 1);
+    writer::put(index, p, 0)
 }
 
 fn put_heads(index: &mut [u16], at: usize, role: Role) -> usize

@@ -7,13 +7,13 @@ ghost use Rattle.sheet_frame.specs.beginning.Beginning.{titles, no_batch, Unread
 use super::row_heads::put_head;
 use super::tally::Counts;
 use sheet_input::Plan;
-use writer::put_text;
+use writer::put_all;
 
 // The header line of the output.
 pub fn put_titles(out: &mut [u8], at: usize) -> usize
     ensures { Written out.old at titles out.new result }
 {
-    put_text(out, at, b"answer\tat\tline\tcarbons\n")
+    put_all(out, at, b"answer\tat\tline\tcarbons\n")
 }
 
 // The answer to a row that is unreadable.
@@ -31,7 +31,7 @@ pub fn put_unreadable(out: &mut [u8], at: usize) -> Answered
     ensures { UnreadableWritten out.old at out.new result }
 {
     let p = put_head(out, at, UNREADABLE_ROW, 0);
-    let next = put_text(out, p, b"\t\n");
+    let next = put_all(out, p, b"\t\n");
     Answered {
         number: UNREADABLE_ROW,
         next,

@@ -3,14 +3,14 @@
 ghost use Rattle.writer.specs.emit.Text.{Written, decimal};
 ghost use Rattle.sheet_frame.specs.row_heads.Text.{ended, head_text};
 
-use writer::{put_byte, put_many};
+use writer::{put, put_many};
 
 // The decimal digits of n. Most numbers of a row have one, which needs no calls one within the other.
 pub fn put_decimal(out: &mut [u8], at: usize, n: u64) -> usize
     ensures { Written out.old at (decimal n) out.new result }
 {
     if n <= 9 {
-        return put_byte(out, at, (48 + n) as u8);
+        return put(out, at, (48 + n) as u8);
     }
     put_many(out, at, n)
 }
@@ -20,7 +20,7 @@ pub fn put_number_cell(out: &mut [u8], at: usize, n: u64) -> usize
     ensures { Written out.old at (ended (decimal n) 9) out.new result }
 {
     let p = put_decimal(out, at, n);
-    put_byte(out, p, b'\t')
+    put(out, p, b'\t')
 }
 
 // The answer and the token's place.

@@ -5,7 +5,7 @@ ghost use Rattle.writer.specs.emit.Text.{Written};
 ghost use Rattle.sheet_frame.specs.tally.Counts.{counting, no_times, with_answer, count_line, count_lines};
 
 use super::row_heads::{put_decimal, put_number_cell};
-use writer::{put_byte, put_text};
+use writer::{put, put_all};
 
 // The answers, which are numbers from 0 to 42.
 pub const ANSWERS: usize = 43;
@@ -50,10 +50,10 @@ fn put_count_line(out: &mut [u8], at: usize, answer: usize, times: u64) -> usize
     if times == 0 {
         return at;
     }
-    let p = put_text(out, at, b"#\t");
+    let p = put_all(out, at, b"#\t");
     let q = put_number_cell(out, p, answer as u64);
     let r = put_decimal(out, q, times);
-    put_byte(out, r, b'\n')
+    put(out, r, b'\n')
 }
 
 // The lines of all answers met, by rising answer.

@@ -12,7 +12,7 @@ use super::carbon_lists::put_indices;
 use chain_lists::Lists;
 use line_parts::put_parting;
 use sheet_frame::{put_decimal, put_head};
-use writer::put_byte;
+use writer::put;
 
 // A chain: its sn and its indices.
 fn put_chain(out: &mut [u8], at: usize, sn: u16, indices: &[u16], pairs: &[u16]) -> usize
@@ -20,7 +20,7 @@ fn put_chain(out: &mut [u8], at: usize, sn: u16, indices: &[u16], pairs: &[u16])
     ensures { Written out.old at (chain_text (record { sn = sn; indices = indices.now })) out.new result }
 {
     let p = put_decimal(out, at, sn as u64);
-    let q = put_byte(out, p, b':');
+    let q = put(out, p, b':');
     put_indices(out, q, indices, pairs)
 }
 
@@ -64,8 +64,8 @@ fn put_chains(out: &mut [u8], at: usize, lists: Lists, index: &[u16], pairs: &[u
 fn put_text_cell(out: &mut [u8], at: usize, text: &[u8]) -> usize
     ensures { Written out.old at (ended text.now 9) out.new result }
 {
-    let p = writer::put_text(out, at, text);
-    put_byte(out, p, b'\t')
+    let p = writer::put_all(out, at, text);
+    put(out, p, b'\t')
 }
 
 // A row of the output, with a table of digits, which may be empty.
@@ -85,7 +85,7 @@ pub fn put_row_by(
     let p = put_head(out, at, answer, token);
     let q = put_text_cell(out, p, line);
     let r = put_chains(out, q, lists, index, pairs);
-    put_byte(out, r, b'\n')
+    put(out, r, b'\n')
 }
 
 // What follows the line of a row that stands in its place already: a tab, the chains, and LF.
@@ -93,7 +93,7 @@ pub fn put_rest(out: &mut [u8], at: usize, lists: Lists, index: &[u16], pairs: &
     requires { Pairs pairs.now }
     ensures { Written out.old at (rest_text (carbons_of (take lists.count lists.items) index.now)) out.new result }
 {
-    let p = put_byte(out, at, b'\t');
+    let p = put(out, at, b'\t');
     let q = put_chains(out, p, lists, index, pairs);
-    put_byte(out, q, b'\n')
+    put(out, q, b'\n')
 }

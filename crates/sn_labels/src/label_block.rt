@@ -11,7 +11,7 @@ ghost use Rattle.sn_labels.specs.label_block.Falling.{Falling, FallTold};
 
 use line_parts::{MAX_SITES, Site, put_block_lead, put_label};
 use request_chains::in_places;
-use writer::{put_byte, put_same};
+use writer::{put, put_same};
 
 // How many atoms there are up to this one.
 fn past(atom: u32) -> usize
@@ -166,9 +166,9 @@ fn put_label_text(out: &mut [u8], at: usize, sites: [Site; MAX_SITES], count: us
     requires digits { Digits (take count sites) }
     ensures { Written out.old at (label_block (labels_of (take count sites))) out.new result }
 {
-    let p = put_byte(out, at, b'$');
+    let p = put(out, at, b'$');
     let q = put_list(out, p, sites, count);
-    put_byte(out, q, b'$')
+    put(out, q, b'$')
 }
 
 // The labels of the first `count` sites at their atoms, where there are some. One pass over the gaps between them.

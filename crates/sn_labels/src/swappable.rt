@@ -9,7 +9,7 @@ ghost use Rattle.line_parts.specs.shown.Notes.{max_sites, labels_of, Digits};
 
 use line_parts::{MAX_SITES, Site, put_label, put_part_lead, put_parting};
 use request_chains::in_places;
-use writer::{put_byte, put_text};
+use writer::{put, put_all};
 
 // A label of the list of labels that may be exchanged.
 fn put_next_label(out: &mut [u8], at: usize, more: bool, sn: u32) -> usize
@@ -38,9 +38,9 @@ fn put_swap_text(out: &mut [u8], at: usize, sites: [Site; MAX_SITES], count: usi
     requires digits { Digits (take count sites) }
     ensures { Written out.old at (show_swap (notes_of (labels_of (take count sites)))) out.new result }
 {
-    let p = put_text(out, at, b"swappable(");
+    let p = put_all(out, at, b"swappable(");
     let q = put_labels(out, p, sites, count);
-    put_byte(out, q, b')')
+    put(out, q, b')')
 }
 
 // The labels of the first `count` sites as those that may be exchanged, where there are some.

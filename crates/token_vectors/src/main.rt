@@ -35,7 +35,7 @@ fn separator(i: usize) -> u8 {
 // A list with no element.
 fn put_none(out: &mut [u8], at: usize, count: usize) -> usize {
     if count == 0 {
-        return writer::put_text(out, at, b" -");
+        return writer::put_all(out, at, b" -");
     }
     at
 }
@@ -45,8 +45,8 @@ fn put_bond(out: &mut [u8], at: usize, bond: DbPos) -> usize {
     let geom = bond.geom;
     match geom {
         Geometry::Unstated => p,
-        Geometry::Cis => writer::put_byte(out, p, b'Z'),
-        Geometry::Trans => writer::put_byte(out, p, b'E'),
+        Geometry::Cis => writer::put(out, p, b'Z'),
+        Geometry::Trans => writer::put(out, p, b'E'),
     }
 }
 
@@ -59,7 +59,7 @@ fn put_bonds(out: &mut [u8], at: usize, chain: ParsedChain) -> usize {
         if MAX_BONDS <= i {
             return p;
         }
-        p = writer::put_byte(out, p, separator(i));
+        p = writer::put(out, p, separator(i));
         p = put_bond(out, p, chain_record::bond_in(bonds[i]));
         i += 1;
     }
@@ -70,12 +70,12 @@ fn put_branch(out: &mut [u8], at: usize, row: u8) -> usize {
     let r = group_table::row_at(row);
     let n = r.branch_len as usize;
     let branch = r.branch;
-    writer::put_text(out, at, &branch[0..n])
+    writer::put_all(out, at, &branch[0..n])
 }
 
 fn put_group(out: &mut [u8], at: usize, group: Mod) -> usize {
     let p = writer::put_number(out, at, group.pos);
-    let q = writer::put_byte(out, p, b':');
+    let q = writer::put(out, p, b':');
     put_branch(out, q, group.row)
 }
 
@@ -88,7 +88,7 @@ fn put_groups(out: &mut [u8], at: usize, chain: ParsedChain) -> usize {
         if GROUP_ROOM <= i {
             return p;
         }
-        p = writer::put_byte(out, p, separator(i));
+        p = writer::put(out, p, separator(i));
         p = put_group(out, p, chain_record::group_in(groups[i]));
         i += 1;
     }
@@ -97,11 +97,11 @@ fn put_groups(out: &mut [u8], at: usize, chain: ParsedChain) -> usize {
 
 fn put_ring(out: &mut [u8], at: usize, ring: Ring) -> usize {
     let p = writer::put_number(out, at, ring.start as u32);
-    let q = writer::put_byte(out, p, b'-');
+    let q = writer::put(out, p, b'-');
     let e = writer::put_number(out, q, ring.end as u32);
     let bridge = ring.bridge;
     match bridge {
-        Bridge::Epoxide => writer::put_byte(out, e, b'O'),
+        Bridge::Epoxide => writer::put(out, e, b'O'),
         Bridge::Carbocycle => e,
     }
 }
@@ -115,7 +115,7 @@ fn put_rings(out: &mut [u8], at: usize, chain: ParsedChain) -> usize {
         if MAX_RINGS <= i {
             return p;
         }
-        p = writer::put_byte(out, p, separator(i));
+        p = writer::put(out, p, separator(i));
         p = put_ring(out, p, chain_record::ring_in(rings[i]));
         i += 1;
     }
@@ -125,10 +125,10 @@ fn put_rings(out: &mut [u8], at: usize, chain: ParsedChain) -> usize {
 // The prefix, c and n.
 fn put_head(out: &mut [u8], at: usize, chain: ParsedChain) -> usize {
     let prefix = chain.prefix;
-    let p = writer::put_byte(out, at, prefix_letter(prefix));
-    let q = writer::put_byte(out, p, b' ');
+    let p = writer::put(out, at, prefix_letter(prefix));
+    let q = writer::put(out, p, b' ');
     let r = writer::put_number(out, q, chain.carbon as u32);
-    let s = writer::put_byte(out, r, b' ');
+    let s = writer::put(out, r, b' ');
     writer::put_number(out, s, chain.unlocated as u32)
 }
 
@@ -147,7 +147,7 @@ fn put_answer(out: &mut [u8], token: &[u8]) -> usize {
     match read {
         Err(refusal) => {
             let p = writer::put_number(out, 0, u16::from(refusal) as u32);
-            writer::put_byte(out, p, b'\n')
+            writer::put(out, p, b'\n')
         }
         Ok(said) => {
             let prefix = said.prefix;
@@ -167,7 +167,7 @@ fn put_answer(out: &mut [u8], token: &[u8]) -> usize {
                 rings,
             };
             let q = put_record(out, 0, chain);
-            writer::put_byte(out, q, b'\n')
+            writer::put(out, q, b'\n')
         }
     }
 }

@@ -42,7 +42,6 @@ use Rattle.token_reader.specs.declared.token.Spot.{Spot}
 use Rattle.token_reader.specs.declared.token.Listed.{Listed}
 use Rattle.token_reader.specs.declared.token.Usual.{Usual}
 use Rattle.std.specs.Prelude.{Option, Some, None, IfSome, unwrap_or}
-use Rattle.token_reader.specs.declared.token.Ended.{Ended}
 use Rattle.chain_record.specs.declared.refusal.Refusal.{Refusal}
 use Rattle.chain_record.specs.declared.refusal.Refusal.TheVariants.{Unreadable}
 use Rattle.token_reader.specs.declared.token.Ending.{Ending}

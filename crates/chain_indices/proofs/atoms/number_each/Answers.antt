@@ -18,7 +18,7 @@ loop-k-preserved-then-busy-i-eq0 c =
       search rules,
       omega arith,
       omega arith,
-      search (number-bare, arith, long, c.requires.busy, c.put_index-p.ensures, c.to_index.ensures, c.bare_atoms-next.ensures, c.loop-k.invariant.4),
+      search (number-bare, arith, long, c.requires.busy, c.put-p.ensures, c.to_index.ensures, c.bare_atoms-next.ensures, c.loop-k.invariant.4),
     )
 
 pub busy_atoms-next-requires : goal.busy_atoms-next-requires
@@ -31,7 +31,7 @@ loop-k-preserved c = (
   search rules,
   omega arith,
   omega arith,
-  number-busy _ _ _ [] _ _ c.loop-k.invariant.4 _ _ (search rules) (omega arith) c.to_index.ensures c.put_index-p.ensures c.busy_atoms-next.ensures,
+  number-busy _ _ _ [] _ _ c.loop-k.invariant.4 _ _ (search rules) (omega arith) c.to_index.ensures c.put-p.ensures c.busy_atoms-next.ensures,
 )
 
 pub shape_of-index : goal.shape_of-index

@@ -4,8 +4,8 @@ use native.Mathlib.Omega.{arith}
 use borrow.Author.Rules.{rules}
 use Rattle.sheet_output.proofs.rows.put_rest.Goals as goal
 
-pub put_byte-p-requires : goal.put_byte-p-requires
-put_byte-p-requires c = search rules
+pub put-p-requires : goal.put-p-requires
+put-p-requires c = search rules
 
 -- src/lib.rt:111:9
 
@@ -14,8 +14,8 @@ put_chains-q-requires c = search rules
 
 -- src/lib.rt:112:5
 
-pub put_byte-requires : goal.put_byte-requires
-put_byte-requires c = search rules
+pub put-requires : goal.put-requires
+put-requires c = search rules
 
 -- src/lib.rt:106:1
 
