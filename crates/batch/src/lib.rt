@@ -19,8 +19,8 @@ use drawn_chain::LIST_ROOM;
 use forward::Answer;
 pub use sheet_frame::{Answered, Batch, Lined, Stage, put_titles};
 use sheet_frame::{Counts, answer_header, count_in, put_count_lines, put_head, put_unreadable};
-use sheet_input::{Column, Plan, cell_of, read_cut};
 pub use sheet_input::keep;
+use sheet_input::{Column, Plan, cell_of, read_cut};
 use sheet_output::{PAIRS, fill_pairs, put_rest, put_row_by};
 
 // The length of the line slice.

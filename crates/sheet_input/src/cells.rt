@@ -14,19 +14,9 @@ fn cell_at(row: &[u8], place: usize) -> &[u8]
     if place == 0 {
         return &row[0..0];
     }
-    let mut t = row;
-    let mut i = place;
-    loop {
-        let end = scanner::find(t, b'\t');
-        if i == 1 {
-            return &t[0..end];
-        }
-        if end == t.len() {
-            return &t[0..0];
-        }
-        i -= 1;
-        t = &t[end + 1..];
-    }
+    row.split(|b| *b == b'\t')
+        .nth(place - 1)
+        .unwrap_or(&row[0..0])
 }
 
 // A cell of a row that is cut, by its place from 1, a part of the row; no bytes for the place 0 and past the last.

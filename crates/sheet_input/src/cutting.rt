@@ -24,6 +24,7 @@ pub fn cut(row: &[u8], starts: &mut [usize]) -> usize
     let mut t = row;
     let mut from = 0;
     let mut n = 0;
+    // No plainer by split, which says what a cell is and not where it starts: n and from would be counted there too.
     loop {
         let end = scanner::find(t, b'\t');
         n += 1;

@@ -41,8 +41,8 @@ plan_from n places [] = cond (eqb (get_or places (column_index Class) 0) 0) None
 plan_from n places (name ∷ names) =
     option_and_then
     (λ column.
-        let plan = plan_from (suc n) (set places (column_index column) (suc n)) names in
-        cond (eqb (get_or places (column_index column) 1) 0) plan None)
+    let plan = plan_from (suc n) (set places (column_index column) (suc n)) names in
+    cond (eqb (get_or places (column_index column) 1) 0) plan None)
     (column_of name)
 
 -- the plan of the sheet: how many cells a row has, and the cell of each column

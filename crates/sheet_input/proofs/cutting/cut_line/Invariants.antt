@@ -5,4 +5,4 @@ use Rattle.sheet_input.proofs.cutting.LineLaws.{Along}
 use Rattle.sheet_input.proofs.cutting.cut_line.Given as goal
 
 abbrev pub invariant-loop-i : goal.invariant-loop-i
-invariant-loop-i l = Along l.text l.starts l.i l.n × (l.n ≤ l.i) × (length l.starts ≡ length l.initial.starts)
+invariant-loop-i l = Along l.text l.starts l.i l.n × (l.i ≤ length l.text) × (l.n ≤ l.i) × (length l.starts ≡ length l.initial.starts)
