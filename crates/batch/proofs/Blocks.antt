@@ -16,7 +16,7 @@ use Rattle.sheet_input.proofs.sheet.Long.{cut-header, cut-row}
 use Rattle.sheet_frame.specs.declared.beginning.Stage.{Stage}
 use Rattle.sheet_frame.specs.declared.beginning.Stage.TheVariants.{Header, Rows, Over}
 use Rattle.sheet_input.specs.remnant.Kept.{kept}
-use Rattle.batch.specs.Batch.{replies_at, stage_after, plan_after, index_at, Held, batch_after, held_after, held_from, is_header, is_line, held_last, held_end}
+use Rattle.batch.specs.Batch.{replies_at, stage_after, index_at, Held, batch_after, held_after, held_from, is_header, is_line, held_last, held_end}
 
 -- ---- the parts of bytes that are joined
 
@@ -88,35 +88,24 @@ end_after h (l ∷ ls) ps s = go (ls ++ ps) (later ls s) ∙ end_after (held_aft
 -- ---- a line of which only its plan, or its request, matters
 
 module _ (l k : List ℕ) (e : plan_of l ≡ plan_of k) (f : (p : Plan) → request_of p l ≡ request_of p k) where
-  same-replies : (s : Stage) (p : Plan) (index : ℕ) → replies_at s p l index ≡ replies_at s p k index
-  same-replies Header p index = rw e
-  same-replies Rows p index = rw (f p)
-  same-replies Over p index = refl
+  same-replies : (s : Stage) (index : ℕ) → replies_at s l index ≡ replies_at s k index
+  same-replies Header index = rw e
+  same-replies (Rows p) index = rw (f p)
+  same-replies Over index = refl
 
   same-stage : (s : Stage) → stage_after s l ≡ stage_after s k
   same-stage Header = rw e
-  same-stage Rows = refl
+  same-stage (Rows p) = refl
   same-stage Over = refl
 
-  same-plan : (s : Stage) (p : Plan) → plan_after s p l ≡ plan_after s p k
-  same-plan Header p = e
-  same-plan Rows p = refl
-  same-plan Over p = refl
-
-  same_index : (s : Stage) (p : Plan) (index : List ℕ) → index_at s p l index ≡ index_at s p k index
-  same_index Header p index = refl
-  same_index Rows p index = rw (f p)
-  same_index Over p index = refl
+  same_index : (s : Stage) (index : List ℕ) → index_at s l index ≡ index_at s k index
+  same_index Header index = refl
+  same_index (Rows p) index = rw (f p)
+  same_index Over index = refl
 
   same_after : (h : Held) → held_after h l ≡ held_after h k
   unfolding held_after batch_after
-  same_after h =
-      rw (
-        same-replies h.batch.stage h.batch.plan (length h.index),
-        same-stage h.batch.stage,
-        same-plan h.batch.stage h.batch.plan,
-        same_index h.batch.stage h.batch.plan h.index,
-      )
+  same_after h = rw (same-replies h.batch.stage (length h.index), same-stage h.batch.stage, same_index h.batch.stage h.index)
 
   same_end : (h : Held) (qs : List (List ℕ)) → is_line (is_header h.batch.stage) l ≡ is_line (is_header h.batch.stage) k → held_end h (l ∷ qs) ≡ held_end h (k ∷ qs)
   unfolding held_end held_last

@@ -4,11 +4,10 @@ use Prim.Native.Nat.{ℕ, ◌+◌, ◌-◌, ◌^◌, ◌≤◌, ◌<◌}
 use native.Mathlib.Nat.{sub-zero}
 use native.Mathlib.Omega.{arith}
 use mathlib.Core.Path.{◌≡◌, refl, sym, ap, ◌∙◌, subst}
-use mathlib.Core.Bool.{Bool, true, false, not, true≢false}
+use mathlib.Core.Bool.{Bool, true, false, cond, true≢false}
 use mathlib.Core.List.{List, [], ◌∷◌, ◌++◌, append_assoc, append-nil}
 use lib.ListN.{length, take, drop, length-drop}
 use lib.Seq.{take_all, drop-drop}
-use borrow.Author.Tests.{not-true, not-false}
 use Rattle.scanner.specs.scan.Part.{Place, index_of}
 use Rattle.scanner.proofs.scan.Laws.{to_end}
 use Rattle.writer.specs.emit.Text.{Written}
@@ -30,15 +29,15 @@ use Rattle.batch.specs.declared.Lines.{Lines}
 use Rattle.batch.specs.declared.Passed.{Passed}
 use Rattle.batch.specs.Reply.{RowAnswered}
 use Rattle.sheet_frame.specs.beginning.Beginning.{texts_of, numbers_of, header_batch, HeaderAnswered}
-use Rattle.batch.specs.Batch.{Held, batch_after, held_after, held_from, is_header, held_last, before, staged, Holds, LinesAnswered, among, passed_in, is_rows, Finished}
+use Rattle.batch.specs.Batch.{Held, batch_after, held_after, held_from, is_header, held_last, before, Holds, LinesAnswered, among, passed_in, Finished}
 
 -- ---- a row
 
-pub row-counted : (b : Batch) (l is os : List ℕ) (at : ℕ) (js ps : List ℕ) (a : Answered) (counted : Counts)
-    → RowAnswered (request_of b.plan l) is os at js ps a → counted ≡ counting (with_answer b.counts.times a.number)
-    → Holds os at (held_after (before (staged Rows b) is) l) (record { stage = Rows; plan = b.plan; counts = counted }) js ps a.next
+pub row-counted : (plan : Plan) (counts : Counts) (l is os : List ℕ) (at : ℕ) (js ps : List ℕ) (a : Answered) (counted : Counts)
+    → RowAnswered (request_of plan l) is os at js ps a → counted ≡ counting (with_answer counts.times a.number)
+    → Holds os at (held_after (before (among plan counts.times) is) l) (record { stage = Rows plan; counts = counted }) js ps a.next
 unfolding held_after batch_after texts_of numbers_of times_from
-row-counted b l is os at js ps a counted w c =
+row-counted plan counts l is os at js ps a counted w c =
     record {
       batch = (rw (c, w.answer));
       index = w.index;
@@ -53,15 +52,15 @@ module _ (b : Batch) (l is os : List ℕ) (at : ℕ) where
   unfolding held_after batch_after header_batch
   line-header ps r e w = rw e (record { batch = w.batch; index = refl; text = w.text })
 
-  pub line_row : (js ps : List ℕ) (r : Lined) → b.stage ≡ Rows → Holds os at (held_after (before (staged Rows b) is) l) r.batch js ps r.next
-      → Holds os at (held_after (before b is) l) r.batch js ps r.next
+  pub line_row : (plan : Plan) (js ps : List ℕ) (r : Lined) → b.stage ≡ Rows plan
+      → Holds os at (held_after (before (among plan b.counts.times) is) l) r.batch js ps r.next → Holds os at (held_after (before b is) l) r.batch js ps r.next
   unfolding held_after batch_after
-  line_row js ps r e w = rw e w
+  line_row plan js ps r e w = rw e w
 
   pub line-over : b.stage ≡ Over → at < 2 ^ 64 → Holds os at (held_after (before b is) l) b is os at
   unfolding held_after batch_after texts_of numbers_of times_from
   line-over e g =
-      let q : b ≡ staged Over b = ap (λ (s : Stage). staged s b) e in
+      let q : b ≡ record { stage = Over; counts = b.counts } = ap (λ (s : Stage). record { stage = s; counts = b.counts }) e in
       subst (λ (x : Batch). Holds os at (held_after (before x is) l) x is os at) (sym q) (record { batch = refl; index = refl; text = written-nil os at g })
 
 -- ---- the lines of a text
@@ -154,7 +153,7 @@ module _ (plan : Plan) (ts₀ text is os : List ℕ) (at : ℕ) (js ps ts t : Li
       → Turned (among plan ts₀) text is os at ks qs (among plan us) (take (length t - (n + 1)) (drop (n + 1) t)) a.next
   rows_more n f ks qs us a g d w e =
       turn_more (among plan ts₀) text is os at js ps (among plan ts) t p n h f (among plan us) ks qs a.next g d
-      (row-counted (among plan ts) (take (n - 0) t) js ps p ks qs a (counting us) w (ap counting e))
+      (row-counted plan (counting ts) (take (n - 0) t) js ps p ks qs a (counting us) w (ap counting e))
 
   pub rows_last : (starts : List ℕ) (l : Line) → LineCut t starts l → (limit : ℕ) → l.end ≡ length t
       → LinesAnswered (among plan ts₀) text is os at limit js ps (passed_in plan ts (record { used = length text - length t; next = p; whole = true }))
@@ -165,22 +164,11 @@ pub rows-full : (plan : Plan) (ts₀ text is os : List ℕ) (at : ℕ) (js ps ts
     → LinesAnswered (among plan ts₀) text is os at limit js ps (passed_in plan ts (record { used = length text - length t; next = p; whole = false }))
 rows-full plan ts₀ text is os at js ps ts t p limit h g = turn-full (among plan ts₀) text is os at js ps (among plan ts) t p limit h g
 
--- a batch among its rows
-rows-batch : (b : Batch) → is_rows b.stage ≡ true → b ≡ among b.plan b.counts.times
-rows-batch b e = ap (λ (s : Stage). staged s b) (go b.stage e)
-  where
-    go : (s : Stage) → is_rows s ≡ true → s ≡ Rows
-    go Header e = absurd (true≢false (sym e))
-    go Rows e = refl
-    go Over e = absurd (true≢false (sym e))
-
-pub rows-answered : (b : Batch) (q : Bool) (text is os : List ℕ) (at limit : ℕ) (js ps us : List ℕ) (r : Passed) → q ≡ is_rows b.stage → not q ≡ false
-    → LinesAnswered (among b.plan b.counts.times) text is os at limit js ps (passed_in b.plan us r)
-    → LinesAnswered b text is os at limit js ps
-    (record { batch = record { stage = Rows; plan = b.plan; counts = record { times = us } }; used = r.used; next = r.next; whole = r.whole })
-rows-answered b q text is os at limit js ps us r e n w =
-    let z : b ≡ among b.plan b.counts.times = rows-batch b (sym e ∙ not-false q n) in
-    subst (λ (x : Batch). LinesAnswered x text is os at limit js ps (passed_in b.plan us r)) (sym z) w
+pub rows-answered : (b : Batch) (plan : Plan) (text is os : List ℕ) (at limit : ℕ) (js ps us : List ℕ) (r : Passed) → b.stage ≡ Rows plan
+    → LinesAnswered (among plan b.counts.times) text is os at limit js ps (passed_in plan us r) → LinesAnswered b text is os at limit js ps (passed_in plan us r)
+rows-answered b plan text is os at limit js ps us r e w =
+    let z : b ≡ among plan b.counts.times = ap (λ (s : Stage). record { stage = s; counts = b.counts }) e in
+    subst (λ (x : Batch). LinesAnswered x text is os at limit js ps (passed_in plan us r)) (sym z) w
 
 -- ---- the first line, and the others
 
@@ -268,19 +256,28 @@ module _ (b : Batch) (text is os : List ℕ) (at limit : ℕ) where
 
 -- ---- the end of a sheet
 
+not-header : (s : Stage) → (s ≡ Header → ⊥) → is_header s ≡ false
+not-header Header d = absurd (d refl)
+not-header (Rows plan) d = refl
+not-header Over d = refl
+
 module _ (b : Batch) (is os : List ℕ) (at : ℕ) where
-  pub last_none : (l : List ℕ) (r : Bool) → length l ≡ 0 → r ≡ is_header b.stage → not r ≡ true → at < 2 ^ 64
-      → Holds os at (held_last (before b is) l) b is os at
+  -- nothing is left, and the header was answered
+  pub last_none : (l : List ℕ) → length l ≡ 0 → (b.stage ≡ Header → ⊥) → at < 2 ^ 64 → Holds os at (held_last (before b is) l) b is os at
   unfolding held_last
-  last_none [] r h e n g = rw (sym e ∙ not-true r n) (record { batch = refl; index = refl; text = written-nil os at g })
-  last_none (x ∷ l) r h e n g = absurd (omega arith)
+  last_none [] h d g =
+      let e : is_header b.stage ≡ false = not-header b.stage d in
+      rw e (record { batch = refl; index = refl; text = written-nil os at g })
+  last_none (x ∷ l) h d g = absurd (omega arith)
 
   -- the header, though it has no bytes
-  pub last-header : (l js ps : List ℕ) (c : Batch) (q : ℕ) (r : Bool) → length l ≡ 0 → r ≡ is_header b.stage → not r ≡ false
+  pub last-header : (l js ps : List ℕ) (c : Batch) (q : ℕ) → length l ≡ 0 → b.stage ≡ Header
       → Holds os at (held_after (before b is) l) c js ps q → Holds os at (held_last (before b is) l) c js ps q
   unfolding held_last
-  last-header [] js ps c q r h e n w = rw (sym e ∙ not-false r n) w
-  last-header (x ∷ l) js ps c q r h e n w = absurd (omega arith)
+  last-header [] js ps c q h e w =
+      let z : is_header b.stage ≡ true = rw e in
+      subst (λ (k : Bool). Holds os at (cond k (held_after (before b is) []) (before b is)) c js ps q) (sym z) w
+  last-header (x ∷ l) js ps c q h e w = absurd (omega arith)
 
   pub last_some : (l js ps : List ℕ) (c : Batch) (q : ℕ) → (length l ≡ 0 → ⊥)
       → Holds os at (held_after (before b is) l) c js ps q → Holds os at (held_last (before b is) l) c js ps q

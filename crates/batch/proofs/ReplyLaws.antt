@@ -3,11 +3,12 @@
 use Prim.Native.Nat.{ℕ, ◌-◌, ◌≤◌, ◌<◌, ◌^◌, min}
 use native.Mathlib.Omega.{arith}
 use mathlib.Core.Path.{◌≡◌, refl, sym, ap, ◌∙◌, subst}
-use mathlib.Core.Bool.{Bool, true, false, cond, not}
+use mathlib.Core.Bool.{Bool, true, false, cond}
 use mathlib.Core.List.{List, [], ◌∷◌, ◌++◌, map, append_assoc}
 use lib.ListN.{length, take, drop, length-map}
 use lib.Seq.{take-append_seam, drop-append_seam}
 use borrow.Author.Tests.{ltb-false}
+use Rattle.std.specs.Prelude.{Option, Some, None}
 use Rattle.writer.specs.emit.Text.{Written}
 use Rattle.chain_record.specs.plain.Chain.{Chain}
 use Rattle.template_rules.specs.declared.Class.{Class}
@@ -23,6 +24,7 @@ use Rattle.chain_lists.proofs.listing.PlacedLaws.{places-few}
 use Rattle.answers.specs.declared.answer.Answer.{Answer}
 use Rattle.forward.specs.Answer.{refusal, acceptance, short, answer_to, at_start, line_after, index_after, Answers}
 use Rattle.forward.specs.Call.{Kept, Called}
+use Rattle.sheet_input.specs.declared.header.Column.TheVariants.{Class as ClassColumn, Tail, Sn1, Sn2, Sn3, Sn4}
 use Rattle.sheet_input.specs.declared.header.Plan.{Plan}
 use Rattle.sheet_input.specs.declared.sheet.Asked.{Asked}
 use Rattle.sheet_input.specs.sheet.Cells.{cell_of, sn_cells}
@@ -170,21 +172,21 @@ module _ (swap : Bool) (t xs is : List ℕ) (e : length xs ≡ line_room) (ys js
 -- ---- a row
 
 -- the token cells
-pub cells_told : (p : Plan) (row s1 s2 s3 s4 : List ℕ) → s1 ≡ cell_of p 3 row → s2 ≡ cell_of p 4 row → s3 ≡ cell_of p 5 row → s4 ≡ cell_of p 6 row
+pub cells_told : (p : Plan) (row s1 s2 s3 s4 : List ℕ) → s1 ≡ cell_of p Sn1 row → s2 ≡ cell_of p Sn2 row → s3 ≡ cell_of p Sn3 row → s4 ≡ cell_of p Sn4 row
     → (s1 ∷ s2 ∷ s3 ∷ s4 ∷ []) ≡ sn_cells p row
 cells_told p row s1 s2 s3 s4 e f g h = cc
 
-module _ (p : Plan) (row : List ℕ) (k : Asked) (e : k ≡ told (request_of p row)) (is os : List ℕ) (at : ℕ) where
-  pub row-unreadable : (ps : List ℕ) (r : Answered) → not k.readable ≡ true → UnreadableWritten os at ps r → RowAnswered (request_of p row) is os at is ps r
-  row-unreadable ps r h w = rw (asked-nothing p row k e h) (record { text = w.text; answer = w.answer; index = refl })
+module _ (p : Plan) (row : List ℕ) (o : Option Asked) (e : o ≡ told (request_of p row)) (is os : List ℕ) (at : ℕ) where
+  pub row-unreadable : (ps : List ℕ) (r : Answered) → o ≡ None → UnreadableWritten os at ps r → RowAnswered (request_of p row) is os at is ps r
+  row-unreadable ps r h w = rw (asked-nothing p row o e h) (record { text = w.text; answer = w.answer; index = refl })
 
   -- from the cells that are drawn
-  pub row-drawn : {class t s1 s2 s3 s4 js ps : List ℕ} {r : Answered} → class ≡ cell_of p 0 row → t ≡ cell_of p 2 row → s1 ≡ cell_of p 3 row → s2 ≡ cell_of p 4 row
-      → s3 ≡ cell_of p 5 row → s4 ≡ cell_of p 6 row → not k.readable ≡ false
+  pub row-drawn : {class t s1 s2 s3 s4 js ps : List ℕ} {r : Answered} → class ≡ cell_of p ClassColumn row → t ≡ cell_of p Tail row → s1 ≡ cell_of p Sn1 row
+      → s2 ≡ cell_of p Sn2 row → s3 ≡ cell_of p Sn3 row → s4 ≡ cell_of p Sn4 row → (k : Asked) → o ≡ Some k
       → Drawn (verdict class t k.count (tokens k.count s1 s2 s3 s4)) k.swap t is os at js ps r → RowAnswered (request_of p row) is os at js ps r
-  row-drawn {js = js} {ps} {r} a b f g i j h d =
+  row-drawn {js = js} {ps} {r} a b f g i j k h d =
       let ts : List (List ℕ) = take k.count (sn_cells p row) in
-      let v : Drawn (verdict (cell_of p 0 row) (cell_of p 2 row) k.count ts) k.swap (cell_of p 2 row) is os at js ps r = rw (a, b, f, g, i, j) at d in
-      let w : Drawn (verdict (cell_of p 0 row) (cell_of p 2 row) (length ts) ts) k.swap (cell_of p 2 row) is os at js ps r
-      = subst (λ (n : ℕ). Drawn (verdict (cell_of p 0 row) (cell_of p 2 row) n ts) k.swap (cell_of p 2 row) is os at js ps r) (asked-count p row k e h) v in
-      rw (asked-request p row k e h) (record { text = w.text; answer = w.answer; index = w.index })
+      let v : Drawn (verdict (cell_of p ClassColumn row) (cell_of p Tail row) k.count ts) k.swap (cell_of p Tail row) is os at js ps r = rw (a, b, f, g, i, j) at d in
+      let w : Drawn (verdict (cell_of p ClassColumn row) (cell_of p Tail row) (length ts) ts) k.swap (cell_of p Tail row) is os at js ps r
+      = subst (λ (n : ℕ). Drawn (verdict (cell_of p ClassColumn row) (cell_of p Tail row) n ts) k.swap (cell_of p Tail row) is os at js ps r) (asked-count p row o e k h) v in
+      rw (asked-request p row o e k h) (record { text = w.text; answer = w.answer; index = w.index })

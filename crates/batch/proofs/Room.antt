@@ -8,6 +8,7 @@ use mathlib.Core.List.{List, [], ◌∷◌, map}
 use lib.ListN.{length, take, length-append}
 use lib.Dec.{ltb}
 use borrow.Author.Tests.{ltb-false}
+use Rattle.std.specs.Prelude.{Option, Some, None}
 use Rattle.writer.specs.emit.Text.{decimal}
 use Rattle.chain_record.specs.plain.Chain.{Chain}
 use Rattle.reading_rules.specs.reading.Parting.{joined}
@@ -22,6 +23,7 @@ use Rattle.judge.specs.Verdict.{Verdict, Refused, Drawable, verdict, is_refusal}
 use Rattle.judge.proofs.Accepted.{judged-accepted, refused-number}
 use Rattle.chain_lists.proofs.listing.PlacedLaws.{places-few}
 use Rattle.forward.specs.Answer.{short}
+use Rattle.sheet_input.specs.declared.header.Column.TheVariants.{Class as ClassColumn, Tail, Sn1, Sn2, Sn3, Sn4}
 use Rattle.sheet_input.specs.declared.header.Plan.{Plan}
 use Rattle.sheet_input.specs.declared.sheet.Asked.{Asked}
 use Rattle.sheet_input.specs.sheet.Cells.{cell_of, sn_cells}
@@ -72,11 +74,8 @@ accepted-room c swap t ds line index a e =
 
 -- every reply to a row, for an index slice of this length
 pub reply-room : (p : Plan) (row : List ℕ) (index : ℕ) → length (reply_text (reply_of (request_of p row) index)) ≤ line_room + 5 * index + 20
-reply-room p row index = go (told (request_of p row)).readable refl
+reply-room p row index = go (told (request_of p row)) refl
   where
-    a : Asked
-    a = told (request_of p row)
-
     drawn : (swap : Bool) (t : List ℕ) (v : Verdict) → ((n q : ℕ) → v ≡ Refused n q → (is_refusal n ≡ true) × (q ≤ 4)) → ((c : Class) (ds : List Chain) → v ≡ Drawable c ds → Accepted c t ds)
         → length (reply_text (reply_to v swap t index)) ≤ line_room + 5 * index + 20
     drawn swap t (Refused n q) f g = let z = f n q refl in omega (arith, refused-room n q (refusal-small n z.0) z.1)
@@ -86,13 +85,12 @@ reply-room p row index = go (told (request_of p row)).readable refl
         whole true e = omega (arith, refused-room 41 0 (omega arith) (omega arith))
         whole false e = accepted-room c swap t ds line_room index (g c ds refl) e
 
-    go : (b : Bool) → (told (request_of p row)).readable ≡ b → length (reply_text (reply_of (request_of p row) index)) ≤ line_room + 5 * index + 20
-    go true e =
-        let h : not a.readable ≡ false = ap not e in
+    go : (o : Option Asked) → told (request_of p row) ≡ o → length (reply_text (reply_of (request_of p row) index)) ≤ line_room + 5 * index + 20
+    go (Some a) e =
         let ts : List (List ℕ) = take a.count (sn_cells p row) in
-        let n : length ts ≡ a.count = sym (asked-count p row a refl h) in
-        rw (asked-request p row a refl h, n)
-        (drawn a.swap (cell_of p 2 row) (verdict (cell_of p 0 row) (cell_of p 2 row) a.count ts)
-        (refused-number (cell_of p 0 row) (cell_of p 2 row) a.count (cell_of p 3 row) (cell_of p 4 row) (cell_of p 5 row) (cell_of p 6 row))
-        (judged-accepted (cell_of p 0 row) (cell_of p 2 row) a.count (cell_of p 3 row) (cell_of p 4 row) (cell_of p 5 row) (cell_of p 6 row)))
-    go false e = let h : not a.readable ≡ true = ap not e in rw (asked-nothing p row a refl h) (omega (arith, refused-room 42 0 (omega arith) (omega arith)))
+        let n : length ts ≡ a.count = sym (asked-count p row (told (request_of p row)) refl a e) in
+        rw (asked-request p row (told (request_of p row)) refl a e, n)
+        (drawn a.swap (cell_of p Tail row) (verdict (cell_of p ClassColumn row) (cell_of p Tail row) a.count ts)
+        (refused-number (cell_of p ClassColumn row) (cell_of p Tail row) a.count (cell_of p Sn1 row) (cell_of p Sn2 row) (cell_of p Sn3 row) (cell_of p Sn4 row))
+        (judged-accepted (cell_of p ClassColumn row) (cell_of p Tail row) a.count (cell_of p Sn1 row) (cell_of p Sn2 row) (cell_of p Sn3 row) (cell_of p Sn4 row)))
+    go None e = rw (asked-nothing p row (told (request_of p row)) refl e) (omega (arith, refused-room 42 0 (omega arith) (omega arith)))

@@ -8,10 +8,12 @@ use mathlib.Core.List.{List, [], ◌∷◌}
 use lib.ListN.{length, take}
 use lib.Dec.{eqb}
 use borrow.Author.Tests.{eqb-true}
+use Rattle.std.specs.Prelude.{Option, Some, None}
 use Rattle.chain_rules.specs.chain.Lists.{any_of}
 use Rattle.judge.specs.Verdict.{Verdict, Refused, Drawable, verdict, is_refusal}
 use Rattle.judge.proofs.Accepted.{refused-number}
 use Rattle.forward.specs.Answer.{short}
+use Rattle.sheet_input.specs.declared.header.Column.TheVariants.{Class as ClassColumn, Tail, Sn1, Sn2, Sn3, Sn4}
 use Rattle.sheet_input.specs.declared.header.Plan.{Plan}
 use Rattle.sheet_input.specs.declared.sheet.Asked.{Asked}
 use Rattle.sheet_input.specs.sheet.Cells.{cell_of, sn_cells}
@@ -45,11 +47,8 @@ refusal-small n e =
 -- the number of a reply to a row
 pub reply-counted : (p : Plan) (row : List ℕ) (index : ℕ) → (reply_of (request_of p row) index).number < answers
 unfolding accepted
-reply-counted p row index = go (told (request_of p row)).readable refl
+reply-counted p row index = go (told (request_of p row)) refl
   where
-    a : Asked
-    a = told (request_of p row)
-
     drawn : (swap : Bool) (t : List ℕ) (v : Verdict) → ((n q : ℕ) → v ≡ Refused n q → is_refusal n ≡ true) → (reply_to v swap t index).number < answers
     drawn swap t (Refused n q) f = refusal-small n (f n q refl)
     drawn swap t (Drawable c ds) f = whole (short c swap t ds line_room index)
@@ -58,12 +57,11 @@ reply-counted p row index = go (told (request_of p row)).readable refl
         whole true = omega arith
         whole false = omega arith
 
-    go : (b : Bool) → (told (request_of p row)).readable ≡ b → (reply_of (request_of p row) index).number < answers
-    go true e =
-        let h : not a.readable ≡ false = ap not e in
+    go : (o : Option Asked) → told (request_of p row) ≡ o → (reply_of (request_of p row) index).number < answers
+    go (Some a) e =
         let ts : List (List ℕ) = take a.count (sn_cells p row) in
-        let n : length ts ≡ a.count = sym (asked-count p row a refl h) in
-        rw (asked-request p row a refl h, n)
-        (drawn a.swap (cell_of p 2 row) (verdict (cell_of p 0 row) (cell_of p 2 row) a.count ts)
-        (λ m q f. (refused-number (cell_of p 0 row) (cell_of p 2 row) a.count (cell_of p 3 row) (cell_of p 4 row) (cell_of p 5 row) (cell_of p 6 row) m q f).0))
-    go false e = let h : not a.readable ≡ true = ap not e in rw (asked-nothing p row a refl h) (omega arith)
+        let n : length ts ≡ a.count = sym (asked-count p row (told (request_of p row)) refl a e) in
+        rw (asked-request p row (told (request_of p row)) refl a e, n)
+        (drawn a.swap (cell_of p Tail row) (verdict (cell_of p ClassColumn row) (cell_of p Tail row) a.count ts)
+        (λ m q f. (refused-number (cell_of p ClassColumn row) (cell_of p Tail row) a.count (cell_of p Sn1 row) (cell_of p Sn2 row) (cell_of p Sn3 row) (cell_of p Sn4 row) m q f).0))
+    go None e = rw (asked-nothing p row (told (request_of p row)) refl e) (omega arith)

@@ -8,6 +8,7 @@ use mathlib.Core.List.{List, [], ◌∷◌, ◌++◌, map, append_assoc, append-
 use lib.ListN.{length, drop, length-append, length-drop}
 use lib.Dec.{ltb}
 use borrow.Author.Tests.{ltb-false}
+use Rattle.std.specs.Prelude.{Option, Some, None}
 use Rattle.template_rules.specs.Written.{line_of, index_of}
 use Rattle.judge.specs.Verdict.{Verdict, Refused, Drawable, verdict}
 use Rattle.forward.specs.Answer.{short, at_start, index_after}
@@ -17,10 +18,10 @@ use Rattle.sheet_input.specs.sheet.Header.{plan_of}
 use Rattle.sheet_input.specs.sheet.Sheet.{Row, Unreadable, Asks, request_of}
 use Rattle.sheet_frame.specs.declared.beginning.Stage.TheVariants.{Rows, Over}
 use Rattle.sheet_frame.specs.tally.Counts.{counting, no_times, times_from, times_of, count_lines}
-use Rattle.sheet_frame.specs.beginning.Beginning.{Reply, refused, reply_text, texts_of, numbers_of, titles, no_batch}
+use Rattle.sheet_frame.specs.beginning.Beginning.{Reply, refused, reply_text, texts_of, numbers_of, titles, no_batch, replies_by, stage_by}
 use Rattle.batch.specs.Reply.{line_room, reply_of, index_in}
 use Rattle.chain_rules.proofs.chain.Lists.{or_right}
-use Rattle.batch.specs.Batch.{rows_of, replies_to, replies_in, batch_text, Held, batch_after, held_after, held_last, held_end, before}
+use Rattle.batch.specs.Batch.{rows_of, replied, replies_to, replies_in, batch_text, Held, batch_after, held_after, held_last, held_end, before}
 
 -- ---- the index slice keeps its length
 
@@ -45,7 +46,7 @@ index-length is (Asks class swap t ts) = index-to is (verdict class t (length ts
 
 module _ (p : Plan) where
   abbrev among : List ℕ → List ℕ → List ℕ → Held
-  among ts is w = record { batch = record { stage = Rows; plan = p; counts = counting ts }; index = is; text = w }
+  among ts is w = record { batch = record { stage = Rows p; counts = counting ts }; index = is; text = w }
 
   abbrev replies : List (List ℕ) → ℕ → List Reply
   replies rows index = map (λ row. reply_of (request_of p row) index) rows
@@ -79,14 +80,14 @@ rows_told p (l ∷ k ∷ ls) ts is w = go (rows_told p (k ∷ ls) (times_from ts
         }
 
 -- after a header that ends the batch nothing changes
-over-told : (p : Plan) (parts : List (List ℕ)) (ts is w : List ℕ)
-    → held_end (record { batch = record { stage = Over; plan = p; counts = counting ts }; index = is; text = w }) parts
-    ≡ record { batch = record { stage = Over; plan = p; counts = counting ts }; index = is; text = w }
+over-told : (parts : List (List ℕ)) (ts is w : List ℕ)
+    → held_end (record { batch = record { stage = Over; counts = counting ts }; index = is; text = w }) parts
+    ≡ record { batch = record { stage = Over; counts = counting ts }; index = is; text = w }
 unfolding held_end held_last held_after batch_after texts_of numbers_of times_from
-over-told p [] ts is w = refl
-over-told p ([] ∷ []) ts is w = refl
-over-told p ((x ∷ l) ∷ []) ts is w = rw (append-nil w)
-over-told p (l ∷ k ∷ ls) ts is w = rw (append-nil w) (over-told p (k ∷ ls) ts is w)
+over-told [] ts is w = refl
+over-told ([] ∷ []) ts is w = refl
+over-told ((x ∷ l) ∷ []) ts is w = rw (append-nil w)
+over-told (l ∷ k ∷ ls) ts is w = rw (append-nil w) (over-told (k ∷ ls) ts is w)
 
 -- ---- the whole batch
 
@@ -96,36 +97,34 @@ pub record WholeTold (parts : List (List ℕ)) (is : List ℕ) : Type 0 where
   pub times : (held_end (before no_batch is) parts).batch.counts.times ≡ times_of (numbers_of (replies_in parts (length is)))
 
 -- after the header
-abbrev headed : Bool → List ℕ → List ℕ → Held
-headed b l is =
+abbrev headed : Option Plan → List ℕ → Held
+headed o is =
     record {
-      batch = record { stage = cond b Rows Over; plan = plan_of l; counts = counting (times_from no_times (numbers_of (cond b [] (refused 42 0 ∷ [])))) };
+      batch = record { stage = stage_by o; counts = counting (times_from no_times (numbers_of (replies_by o))) };
       index = is;
-      text = texts_of (cond b [] (refused 42 0 ∷ []));
+      text = texts_of (replies_by o);
     }
 
-headed-text : (b : Bool) (l : List ℕ) (parts : List (List ℕ)) (is : List ℕ)
-    → (held_end (headed b l is) parts).text ≡ texts_of (cond b (replies (plan_of l) (rows_of parts) (length is)) (refused 42 0 ∷ []))
+headed-text : (o : Option Plan) (parts : List (List ℕ)) (is : List ℕ) → (held_end (headed o is) parts).text ≡ texts_of (replied o (rows_of parts) (length is))
 unfolding texts_of numbers_of times_from
-headed-text true l parts is = (rows_told (plan_of l) parts no_times is []).text
-headed-text false l parts is = ap (λ (h : Held). h.text) (over-told (plan_of l) parts (times_from no_times (42 ∷ [])) is (texts_of (refused 42 0 ∷ [])))
+headed-text (Some p) parts is = (rows_told p parts no_times is []).text
+headed-text None parts is = ap (λ (h : Held). h.text) (over-told parts (times_from no_times (42 ∷ [])) is (texts_of (refused 42 0 ∷ [])))
 
-headed-times : (b : Bool) (l : List ℕ) (parts : List (List ℕ)) (is : List ℕ)
-    → (held_end (headed b l is) parts).batch.counts.times
-    ≡ times_of (numbers_of (cond b (replies (plan_of l) (rows_of parts) (length is)) (refused 42 0 ∷ [])))
+headed-times : (o : Option Plan) (parts : List (List ℕ)) (is : List ℕ)
+    → (held_end (headed o is) parts).batch.counts.times ≡ times_of (numbers_of (replied o (rows_of parts) (length is)))
 unfolding texts_of numbers_of times_from times_of
-headed-times true l parts is = (rows_told (plan_of l) parts no_times is []).times
-headed-times false l parts is = ap (λ (h : Held). h.batch.counts.times) (over-told (plan_of l) parts (times_from no_times (42 ∷ [])) is (texts_of (refused 42 0 ∷ [])))
+headed-times (Some p) parts is = (rows_told p parts no_times is []).times
+headed-times None parts is = ap (λ (h : Held). h.batch.counts.times) (over-told parts (times_from no_times (42 ∷ [])) is (texts_of (refused 42 0 ∷ [])))
 
 pub whole-told : (parts : List (List ℕ)) (is : List ℕ) → WholeTold parts is
 unfolding held_end held_last held_after batch_after texts_of numbers_of times_from times_of replies_to rows_of
 whole-told [] is = record { text = refl; times = refl }
-whole-told ([] ∷ []) is = record { text = refl; times = refl }
-whole-told ((x ∷ l) ∷ []) is = record { text = refl; times = refl }
+whole-told ([] ∷ []) is = record { text = headed-text (plan_of []) [] is; times = headed-times (plan_of []) [] is }
+whole-told ((x ∷ l) ∷ []) is = record { text = headed-text (plan_of (x ∷ l)) [] is; times = headed-times (plan_of (x ∷ l)) [] is }
 whole-told (l ∷ k ∷ ls) is =
     record {
-      text = headed-text (plan_of l).readable l (k ∷ ls) is;
-      times = headed-times (plan_of l).readable l (k ∷ ls) is;
+      text = headed-text (plan_of l) (k ∷ ls) is;
+      times = headed-times (plan_of l) (k ∷ ls) is;
     }
 
 -- what is printed, when the input has ended

@@ -1,6 +1,6 @@
 -- The whole batch, and the same line by line. 01, Batch program: "a header with an unknown or doubled name or no class, which ends the batch
 -- after that answer. Lines end in LF, the last at will." Byte: LF 10. Assumes nothing.
-use Rattle.std.specs.Prelude.{ℕ, ◌≤◌, ◌<◌, ◌≡◌, Bool, true, false, cond, List, [], ◌∷◌, ◌++◌, map, length, drop}
+use Rattle.std.specs.Prelude.{ℕ, ◌≤◌, ◌<◌, ◌≡◌, Bool, true, false, cond, List, [], ◌∷◌, ◌++◌, map, length, drop, Option, Some, None}
 use Rattle.writer.specs.emit.Text.{Written}
 use Rattle.token_syntax.specs.form.Parts.{parts_at}
 use Rattle.sheet_input.specs.declared.header.Plan.{Plan}
@@ -12,7 +12,7 @@ use Rattle.sheet_frame.specs.declared.beginning.Batch.{Batch}
 use Rattle.batch.specs.declared.Lines.{Lines}
 use Rattle.batch.specs.declared.Passed.{Passed}
 use Rattle.sheet_frame.specs.tally.Counts.{counting, times_from, times_of, count_lines}
-use Rattle.sheet_frame.specs.beginning.Beginning.{Reply, refused, texts_of, numbers_of, titles, header_replies}
+use Rattle.sheet_frame.specs.beginning.Beginning.{Reply, refused, texts_of, numbers_of, titles, header_replies, stage_by}
 use Rattle.batch.specs.Reply.{reply_of, index_in}
 
 -- ---- the whole batch
@@ -27,10 +27,14 @@ rows_of [] = []
 rows_of (l ∷ []) = unless_blank l
 rows_of (l ∷ k ∷ ls) = l ∷ rows_of (k ∷ ls)
 
--- the replies to a header and its rows, for an index slice of this length
+-- the replies to a header of this plan and its rows, for an index slice of this length
+abbrev pub replied : Option Plan → List (List ℕ) → ℕ → List Reply
+replied (Some plan) rows index = map (λ row. reply_of (request_of plan row) index) rows
+replied None rows index = refused 42 0 ∷ []
+
+-- the replies to a header and its rows
 unfoldable pub replies_to : List ℕ → List (List ℕ) → ℕ → List Reply
-replies_to header rows index =
-    cond (plan_of header).readable (map (λ row. reply_of (request_of (plan_of header) row) index) rows) (refused 42 0 ∷ [])
+replies_to header rows index = replied (plan_of header) rows index
 
 -- "Lines end in LF, the last at will": the first line is the header, of no bytes where the input has none
 abbrev pub replies_in : List (List ℕ) → ℕ → List Reply
@@ -46,27 +50,22 @@ batch_text sheet index =
 -- ---- line by line
 
 -- the replies to a line
-abbrev pub replies_at : Stage → Plan → List ℕ → ℕ → List Reply
-replies_at Header plan l index = header_replies l
-replies_at Rows plan l index = reply_of (request_of plan l) index ∷ []
-replies_at Over plan l index = []
+abbrev pub replies_at : Stage → List ℕ → ℕ → List Reply
+replies_at Header l index = header_replies l
+replies_at (Rows plan) l index = reply_of (request_of plan l) index ∷ []
+replies_at Over l index = []
 
 -- what follows it
 abbrev pub stage_after : Stage → List ℕ → Stage
-stage_after Header l = cond (plan_of l).readable Rows Over
-stage_after Rows l = Rows
+stage_after Header l = stage_by (plan_of l)
+stage_after (Rows plan) l = Rows plan
 stage_after Over l = Over
 
-abbrev pub plan_after : Stage → Plan → List ℕ → Plan
-plan_after Header plan l = plan_of l
-plan_after Rows plan l = plan
-plan_after Over plan l = plan
-
 -- what it leaves in the lent index slice
-abbrev pub index_at : Stage → Plan → List ℕ → List ℕ → List ℕ
-index_at Header plan l index = index
-index_at Rows plan l index = index_in (request_of plan l) index
-index_at Over plan l index = index
+abbrev pub index_at : Stage → List ℕ → List ℕ → List ℕ
+index_at Header l index = index
+index_at (Rows plan) l index = index_in (request_of plan l) index
+index_at Over l index = index
 
 -- a batch with its lent index slice and what it has written
 pub record Held : Type 0 where
@@ -79,16 +78,15 @@ unfoldable pub batch_after : Batch → List ℕ → ℕ → Batch
 batch_after b l index =
     record {
       stage = stage_after b.stage l;
-      plan = plan_after b.stage b.plan l;
-      counts = counting (times_from b.counts.times (numbers_of (replies_at b.stage b.plan l index)));
+      counts = counting (times_from b.counts.times (numbers_of (replies_at b.stage l index)));
     }
 
 unfoldable pub held_after : Held → List ℕ → Held
 held_after h l =
     record {
       batch = batch_after h.batch l (length h.index);
-      index = index_at h.batch.stage h.batch.plan l h.index;
-      text = h.text ++ texts_of (replies_at h.batch.stage h.batch.plan l (length h.index));
+      index = index_at h.batch.stage l h.index;
+      text = h.text ++ texts_of (replies_at h.batch.stage l (length h.index));
     }
 
 -- after some lines
@@ -99,7 +97,7 @@ held_from h (l ∷ ls) = held_from (held_after h l) ls
 -- what follows the last LF is a line where it has bytes, or where it is the header
 abbrev pub is_header : Stage → Bool
 is_header Header = true
-is_header Rows = false
+is_header (Rows plan) = false
 is_header Over = false
 
 abbrev pub is_line : Bool → List ℕ → Bool
@@ -116,10 +114,6 @@ held_end h (l ∷ []) = held_last h l
 held_end h (l ∷ k ∷ ls) = held_end (held_after h l) (k ∷ ls)
 
 -- ---- contracts
-
--- a batch in another stage
-abbrev pub staged : Stage → Batch → Batch
-staged s b = record { stage = s; plan = b.plan; counts = b.counts }
 
 -- h is what some output, ps after os, and the index slice hold
 pub record Holds (os : List ℕ) (at : ℕ) (h : Held) (b : Batch) (js ps : List ℕ) (next : ℕ) : Type 0 where
@@ -142,12 +136,7 @@ pub record LinesAnswered (b : Batch) (text is os : List ℕ) (at limit : ℕ) (j
 
 -- a batch among its rows
 abbrev pub among : Plan → List ℕ → Batch
-among plan times = record { stage = Rows; plan = plan; counts = counting times }
-
-abbrev pub is_rows : Stage → Bool
-is_rows Header = false
-is_rows Rows = true
-is_rows Over = false
+among plan times = record { stage = Rows plan; counts = counting times }
 
 -- some rows as lines
 abbrev pub passed_in : Plan → List ℕ → Passed → Lines

@@ -3,7 +3,7 @@
 // 42 among it, is written in its row.
 #![tactic(auto)]
 
-ghost use Rattle.std.specs.Prelude.{◌≡◌, min, ◌+◌, ◌≤◌, length, take};
+ghost use Rattle.std.specs.Prelude.{◌+◌, ◌≤◌, length, take};
 ghost use Rattle.writer.specs.emit.Text.{Written};
 ghost use Rattle.judge.specs.Verdict.{tokens, verdict};
 ghost use Rattle.sheet_input.specs.cutting.Cut.{Cut};
@@ -12,16 +12,15 @@ ghost use Rattle.sheet_frame.specs.beginning.Beginning.{refused, reply_text};
 ghost use Rattle.sheet_output.specs.rows.Chains.{carbons_of};
 ghost use Rattle.batch.specs.Reply.{answer_text, Around, Drawn, RowAnswered};
 ghost use Rattle.sheet_output.specs.digit_pairs.Pairs.{Pairs};
-ghost use Rattle.sheet_frame.specs.declared.beginning.Stage.TheVariants.{Rows};
-ghost use Rattle.batch.specs.Batch.{held_after, before, staged, Holds, LinesAnswered, among, passed_in, is_rows, is_header, held_last, Finished};
+ghost use Rattle.batch.specs.Batch.{held_after, before, Holds, LinesAnswered, among, passed_in, held_last, Finished};
 
 use chain_lists::Lists;
 use drawn_chain::LIST_ROOM;
 use forward::Answer;
 pub use sheet_frame::{Answered, Batch, Lined, Stage, put_titles};
 use sheet_frame::{Counts, answer_header, count_in, put_count_lines, put_head, put_unreadable};
-use sheet_input::Plan;
 pub use sheet_input::keep;
+use sheet_input::{Column, Plan, cell_of, read_cut};
 use sheet_output::{PAIRS, fill_pairs, put_rest, put_row_by};
 
 // The length of the line slice.
@@ -29,16 +28,6 @@ pub const LINE: usize = 65536;
 
 // What stands before the line in the row of an accepted request: `0`, a tab, `0` and a tab.
 const HEAD: usize = 4;
-
-// How much of the line slice is the line.
-fn in_line(size: usize, line: &[u8]) -> usize
-    ensures { result ≡ min size (length line.now) }
-{
-    if size < line.len() {
-        return size;
-    }
-    line.len()
-}
 
 // A row of the output, from an answer and the slices with its line and its indices.
 fn put_answer(
@@ -52,7 +41,7 @@ fn put_answer(
     requires { Pairs pairs.now }
     ensures { Written out.old at (answer_text answer line.now index.now) out.new result }
 {
-    let n = in_line(answer.length, line);
+    let n = answer.length.min(line.len());
     let lists = answer.lists;
     put_row_by(
         out,
@@ -90,8 +79,9 @@ fn put_around(
     put_rest(out, at + HEAD + size, lists, index, pairs)
 }
 
-// A request, where the output has no room for a line slice: its line is drawn apart and copied. Two calls lead here, and so the compiler does
-// not lay this function, with its long array, into the one that runs for every row.
+// A request, where the output has no room for a line slice: its line is drawn apart and copied. It is never laid into its caller, which runs
+// for every row and would then hold this long array each time.
+#[inline(never)]
 fn answer_apart<'a>(
     class: &[u8],
     swap: bool,
@@ -139,34 +129,16 @@ fn answer_cut(
     requires { Cut row.now starts.now cells × Pairs pairs.now }
     ensures { RowAnswered (request_of plan row.now) index.old out.old at index.new out.new result }
 {
-    let sn1 = sheet_input::cell_of(plan, row, cells, starts, sheet_input::SN1);
-    let sn2 = sheet_input::cell_of(plan, row, cells, starts, sheet_input::SN2);
-    let sn3 = sheet_input::cell_of(plan, row, cells, starts, sheet_input::SN3);
-    let sn4 = sheet_input::cell_of(plan, row, cells, starts, sheet_input::SN4);
-    let asked = sheet_input::read_cut(plan, row, cells, starts, sn1, sn2, sn3, sn4);
-    if !asked.readable {
+    let sn1 = cell_of(plan, row, cells, starts, Column::Sn1);
+    let sn2 = cell_of(plan, row, cells, starts, Column::Sn2);
+    let sn3 = cell_of(plan, row, cells, starts, Column::Sn3);
+    let sn4 = cell_of(plan, row, cells, starts, Column::Sn4);
+    let Some(asked) = read_cut(plan, row, cells, starts, sn1, sn2, sn3, sn4) else {
         return put_unreadable(out, at);
-    }
-    let class = sheet_input::cell_of(plan, row, cells, starts, sheet_input::CLASS);
-    let tail = sheet_input::cell_of(plan, row, cells, starts, sheet_input::TAIL);
-    if out.len() < HEAD + LINE {
-        return answer_apart(
-            class,
-            asked.swap,
-            tail,
-            asked.count,
-            sn1,
-            sn2,
-            sn3,
-            sn4,
-            index,
-            out,
-            at,
-            pairs,
-            lists,
-        );
-    }
-    if out.len() - (HEAD + LINE) < at {
+    };
+    let class = cell_of(plan, row, cells, starts, Column::Class);
+    let tail = cell_of(plan, row, cells, starts, Column::Tail);
+    if out.len().saturating_sub(at) < HEAD + LINE {
         return answer_apart(
             class,
             asked.swap,
@@ -239,16 +211,20 @@ pub struct Lines {
 }
 
 // A row, answered and counted.
-fn count_row(batch: Batch, row: &[u8], index: &mut [u16], out: &mut [u8], at: usize) -> Lined
-    ensures { Holds out.old at (held_after (before (staged Rows batch) index.old) row.now) result.batch index.new out.new result.next }
+fn count_row(
+    plan: Plan,
+    counts: Counts,
+    row: &[u8],
+    index: &mut [u16],
+    out: &mut [u8],
+    at: usize,
+) -> Lined
+    ensures { Holds out.old at (held_after (before (among plan counts.times) index.old) row.now) result.batch index.new out.new result.next }
 {
-    let plan = batch.plan;
-    let counts = batch.counts;
     let answered = answer_row(plan, row, index, out, at);
     let counted = counts.count(answered.number);
     let next = Batch {
-        stage: Stage::Rows,
-        plan,
+        stage: Stage::Rows(plan),
         counts: counted,
     };
     Lined {
@@ -261,10 +237,9 @@ fn count_row(batch: Batch, row: &[u8], index: &mut [u16], out: &mut [u8], at: us
 pub fn answer_line(batch: Batch, text: &[u8], index: &mut [u16], out: &mut [u8], at: usize) -> Lined
     ensures { Holds out.old at (held_after (before batch index.old) text.now) result.batch index.new out.new result.next }
 {
-    let stage = batch.stage;
-    match stage {
+    match batch.stage {
         Stage::Header => answer_header(batch, text, out, at),
-        Stage::Rows => count_row(batch, text, index, out, at),
+        Stage::Rows(plan) => count_row(plan, batch.counts, text, index, out, at),
         Stage::Over => Lined { batch, next: at },
     }
 }
@@ -379,21 +354,16 @@ fn answer_more(
 ) -> Lines
     ensures { LinesAnswered batch text.now index.old out.old at limit index.new out.new result }
 {
-    let stage = batch.stage;
-    if !is_rows(stage) {
+    let Stage::Rows(plan) = batch.stage else {
         return answer_each(batch, text, index, out, at, limit);
-    }
-    let plan = batch.plan;
-    let counts = batch.counts;
-    let mut times = counts.times;
+    };
+    let mut times = batch.counts.times;
     let mut pairs = [0u16; PAIRS];
     fill_pairs(&mut pairs);
     let passed = answer_rows(plan, &mut times, text, index, out, at, limit, &pairs);
-    let counted = Counts { times };
     let after = Batch {
-        stage: Stage::Rows,
-        plan,
-        counts: counted,
+        stage: Stage::Rows(plan),
+        counts: Counts { times },
     };
     Lines {
         batch: after,
@@ -455,45 +425,23 @@ pub fn answer_lines(
 ) -> Lines
     ensures { LinesAnswered batch text.now index.old out.old at limit index.new out.new result }
 {
-    let stage = batch.stage;
-    if is_header(stage) {
+    if matches!(batch.stage, Stage::Header) {
         return answer_first(batch, text, index, out, at, limit);
     }
     answer_more(batch, text, index, out, at, limit)
-}
-
-fn is_rows(stage: Stage) -> bool
-    ensures { result ≡ is_rows stage }
-{
-    match stage {
-        Stage::Header => false,
-        Stage::Rows => true,
-        Stage::Over => false,
-    }
-}
-
-fn is_header(stage: Stage) -> bool
-    ensures { result ≡ is_header stage }
-{
-    match stage {
-        Stage::Header => true,
-        Stage::Rows => false,
-        Stage::Over => false,
-    }
 }
 
 // What follows the last LF of the sheet: a line where it has bytes, or where it is the header.
 fn answer_last(batch: Batch, text: &[u8], index: &mut [u16], out: &mut [u8], at: usize) -> Lined
     ensures { Holds out.old at (held_last (before batch index.old) text.now) result.batch index.new out.new result.next }
 {
-    let stage = batch.stage;
-    if text.len() == 0 {
-        if !is_header(stage) {
-            return Lined { batch, next: at };
-        }
+    if text.len() != 0 {
         return answer_line(batch, text, index, out, at);
     }
-    answer_line(batch, text, index, out, at)
+    match batch.stage {
+        Stage::Header => answer_line(batch, text, index, out, at),
+        _ => Lined { batch, next: at },
+    }
 }
 
 // The end of the sheet, with what follows its last LF: the last answer, if there is one, and the counts. Answers the place after them.

@@ -3,7 +3,7 @@
 // only the start is kept. Where reading or writing fails it says so on standard error and ends; what it has written by then are whole rows.
 #![tactic(auto)]
 
-ghost use Rattle.std.specs.Prelude.{◌≤◌, length};
+ghost use Rattle.std.specs.Prelude.{◌≤◌, length, IfOk};
 
 use batch::Batch;
 use std::io::Read;
@@ -21,28 +21,48 @@ const OUT: usize = 262144;
 
 const LIMIT: usize = 163840;
 
-// Says on standard error what failed. Where that cannot be written either, nothing is left to say it on.
-fn say(rt: HostRuntime, message: &str) {
-    let _ = eprintln!(rt; "perlwynos: {message}");
+// What ends the program early.
+#[derive(Clone, Copy)]
+enum Failure {
+    NoRoom,
+    Write,
+    Read,
+    Turns,
 }
 
-// Writes the output, and answers whether that went well.
-fn flush(rt: HostRuntime, out: &[u8], at: usize) -> bool {
+impl Failure {
+    // What is said of it; nothing where the turns of a loop are used up, which are more than any run takes.
+    fn message(self) -> Option<&'static str> {
+        match self {
+            Failure::NoRoom => Some("no room for an answer"),
+            Failure::Write => Some("cannot write to standard output"),
+            Failure::Read => Some("cannot read standard input"),
+            Failure::Turns => None,
+        }
+    }
+}
+
+// Says on standard error what failed. Where that cannot be written either, nothing is left to say it on.
+fn say(rt: HostRuntime, failure: Failure) {
+    if let Some(message) = failure.message() {
+        let _ = eprintln!(rt; "perlwynos: {message}");
+    }
+}
+
+// Writes the output.
+fn flush(rt: HostRuntime, out: &[u8], at: usize) -> Result<(), Failure> {
     if out.len() < at {
-        say(rt, "no room for an answer");
-        return false;
+        return Err(Failure::NoRoom);
     }
-    if rt.write_all(&out[0..at]).is_ok() {
-        return true;
+    match rt.write_all(&out[0..at]) {
+        Ok(_) => Ok(()),
+        Err(_) => Err(Failure::Write),
     }
-    say(rt, "cannot write to standard output");
-    false
 }
 
 // The batch after some lines: how much of their text they are, and the place after what is written and not yet put out.
 #[derive(Clone, Copy)]
 struct Step {
-    ok: bool,
     batch: Batch,
     used: usize,
     at: usize,
@@ -56,105 +76,50 @@ fn answer_text(
     index: &mut [u16],
     out: &mut [u8],
     at: usize,
-) -> Step {
+) -> Result<Step, Failure> {
     let mut b = batch;
     let mut rest = text;
     let mut p = at;
-    let mut turns = u64::MAX;
-    while turns > 0 {
-        turns -= 1;
+    for _ in 0..u64::MAX {
         let lines = batch::answer_lines(b, rest, index, out, p, LIMIT);
         let used = lines.used;
-        let after = lines.batch;
-        b = after;
+        b = lines.batch;
         p = lines.next;
         rest = &rest[used..];
         if lines.whole {
-            return Step {
-                ok: true,
+            return Ok(Step {
                 batch: b,
                 used: text.len() - rest.len(),
                 at: p,
-            };
+            });
         }
-        if !flush(rt, out, p) {
-            break;
-        }
+        flush(rt, out, p)?;
         p = 0;
     }
-    Step {
-        ok: false,
-        batch: b,
-        used: 0,
-        at: 0,
-    }
+    Err(Failure::Turns)
 }
 
-// The bytes in a block after one more read; none more at the end of the input.
-#[derive(Clone, Copy)]
-struct Block {
-    ok: bool,
-    total: usize,
-}
-
-fn read_more(rt: HostRuntime, block: &mut [u8], fill: usize) -> Block
-    ensures { result.total ≤ length block.old }
+// How many bytes are in a block after one more read; no more at the end of the input.
+fn read_more(rt: HostRuntime, block: &mut [u8], fill: usize) -> Result<usize, Failure>
+    ensures { IfOk result (λ total. total ≤ length block.old) }
 {
     if block.len() <= fill {
-        return Block {
-            ok: false,
-            total: 0,
-        };
+        return Err(Failure::Read);
     }
     let mut input = rt.stdin();
     match input.read(&mut block[fill..]) {
-        Ok(n) => Block {
-            ok: true,
-            total: fill + n,
-        },
-        Err(_) => Block {
-            ok: false,
-            total: 0,
-        },
+        Ok(n) => Ok(fill + n),
+        Err(_) => Err(Failure::Read),
     }
-}
-
-// The end of the input, with what is left of it.
-fn end_all(
-    rt: HostRuntime,
-    batch: Batch,
-    text: &[u8],
-    index: &mut [u16],
-    out: &mut [u8],
-    at: usize,
-) {
-    let end = batch::finish(batch, text, index, out, at);
-    flush(rt, out, end);
-}
-
-// The input could not be read: the rows that were answered are still put out.
-fn stop_reading(rt: HostRuntime, out: &[u8], at: usize) {
-    flush(rt, out, at);
-    say(rt, "cannot read standard input");
 }
 
 // The program between two reads: the batch, how many bytes of the block are left of its last line, and the place after what is written and
-// not yet put out. It goes on or has ended.
+// not yet put out.
 #[derive(Clone, Copy)]
 struct State {
-    more: bool,
     batch: Batch,
     fill: usize,
     at: usize,
-}
-
-fn ended(batch: Batch) -> State {
-    State {
-        more: false,
-        batch,
-        fill: 0,
-        at: 0,
-    }
 }
 
 // The lines of a block of which so many bytes are read.
@@ -165,59 +130,62 @@ fn answer_block(
     total: usize,
     index: &mut [u16],
     out: &mut [u8],
-) -> State
+) -> Result<State, Failure>
     requires { total ≤ length block.old }
 {
-    let b = state.batch;
-    let step = answer_text(rt, b, &block[0..total], index, out, state.at);
-    let after = step.batch;
-    if !step.ok {
-        return ended(after);
-    }
+    let step = answer_text(rt, state.batch, &block[0..total], index, out, state.at)?;
     let fill = batch::keep(block, step.used, total);
-    State {
-        more: true,
-        batch: after,
+    Ok(State {
+        batch: step.batch,
         fill,
         at: step.at,
-    }
+    })
 }
 
-// One read and what it brings.
+// The input could not be read: the rows that were answered are still put out.
+fn stop_reading(rt: HostRuntime, out: &[u8], at: usize) -> Failure {
+    if let Err(failure) = flush(rt, out, at) {
+        say(rt, failure);
+    }
+    Failure::Read
+}
+
+// One read and what it brings; nothing goes on where the input has ended.
 fn turn(
     rt: HostRuntime,
     state: State,
     block: &mut [u8],
     index: &mut [u16],
     out: &mut [u8],
-) -> State {
-    let b = state.batch;
-    let fill = state.fill;
-    let read = read_more(rt, block, fill);
-    let total = read.total;
-    if !read.ok {
-        stop_reading(rt, out, state.at);
-        return ended(b);
+) -> Result<Option<State>, Failure> {
+    let Ok(total) = read_more(rt, block, state.fill) else {
+        return Err(stop_reading(rt, out, state.at));
+    };
+    if total == state.fill {
+        let end = batch::finish(state.batch, &block[0..total], index, out, state.at);
+        flush(rt, out, end)?;
+        return Ok(None);
     }
-    if total == fill {
-        end_all(rt, b, &block[0..total], index, out, state.at);
-        return ended(b);
-    }
-    answer_block(rt, state, block, total, index, out)
+    let after = answer_block(rt, state, block, total, index, out)?;
+    Ok(Some(after))
 }
 
-// A proved loop ends, and nothing says that the input does: the turns count down from a number that no run uses up.
-fn answer_all(rt: HostRuntime, state: State, block: &mut [u8], index: &mut [u16], out: &mut [u8]) {
+// A proved loop ends, and nothing says that the input does: the turns are more than any run takes.
+fn answer_all(
+    rt: HostRuntime,
+    state: State,
+    block: &mut [u8],
+    index: &mut [u16],
+    out: &mut [u8],
+) -> Result<(), Failure> {
     let mut s = state;
-    let mut turns = u64::MAX;
-    while turns > 0 {
-        turns -= 1;
-        let after = turn(rt, s, block, index, out);
-        if !after.more {
-            return;
-        }
+    for _ in 0..u64::MAX {
+        let Some(after) = turn(rt, s, block, index, out)? else {
+            return Ok(());
+        };
         s = after;
     }
+    Err(Failure::Turns)
 }
 
 fn main(rt: HostRuntime) {
@@ -225,12 +193,12 @@ fn main(rt: HostRuntime) {
     let mut index = [0u16; INDICES];
     let mut out = [0u8; OUT];
     let at = batch::put_titles(&mut out, 0);
-    let b = Batch::new();
     let start = State {
-        more: true,
-        batch: b,
+        batch: Batch::new(),
         fill: 0,
         at,
     };
-    answer_all(rt, start, &mut block, &mut index, &mut out);
+    if let Err(failure) = answer_all(rt, start, &mut block, &mut index, &mut out) {
+        say(rt, failure);
+    }
 }

@@ -38,11 +38,11 @@ pub fn put_unreadable(out: &mut [u8], at: usize) -> Answered
     }
 }
 
-// Where a sheet is: before its header, among its rows, or after a header that ends the batch.
+// Where a sheet is: before its header, among rows that are read by a plan, or after a header that ends the batch.
 #[derive(Clone, Copy)]
 pub enum Stage {
     Header,
-    Rows,
+    Rows(Plan),
     Over,
 }
 
@@ -50,7 +50,6 @@ pub enum Stage {
 #[derive(Clone, Copy)]
 pub struct Batch {
     pub stage: Stage,
-    pub plan: Plan,
     pub counts: Counts,
 }
 
@@ -58,17 +57,9 @@ impl Batch {
     pub fn new() -> Batch
         ensures { result ≡ no_batch }
     {
-        let places = [0usize; sheet_input::COLUMNS];
-        let plan = Plan {
-            readable: false,
-            cells: 0,
-            places,
-        };
-        let counts = Counts::new();
         Batch {
             stage: Stage::Header,
-            plan,
-            counts,
+            counts: Counts::new(),
         }
     }
 }
@@ -84,28 +75,24 @@ pub struct Lined {
 pub fn answer_header(batch: Batch, header: &[u8], out: &mut [u8], at: usize) -> Lined
     ensures { HeaderAnswered batch header.now out.old at out.new result }
 {
-    let plan = sheet_input::plan_of(header);
     let counts = batch.counts;
-    if plan.readable {
-        let next = Batch {
-            stage: Stage::Rows,
-            plan,
-            counts,
-        };
-        return Lined {
-            batch: next,
+    match sheet_input::plan_of(header) {
+        Some(plan) => Lined {
+            batch: Batch {
+                stage: Stage::Rows(plan),
+                counts,
+            },
             next: at,
-        };
-    }
-    let answered = put_unreadable(out, at);
-    let counted = counts.count(answered.number);
-    let next = Batch {
-        stage: Stage::Over,
-        plan,
-        counts: counted,
-    };
-    Lined {
-        batch: next,
-        next: answered.next,
+        },
+        None => {
+            let answered = put_unreadable(out, at);
+            Lined {
+                batch: Batch {
+                    stage: Stage::Over,
+                    counts: counts.count(answered.number),
+                },
+                next: answered.next,
+            }
+        }
     }
 }

@@ -5,7 +5,7 @@ ghost use Rattle.sheet_input.specs.header.Header.{cells_of};
 ghost use Rattle.sheet_input.specs.cutting.Cut.{Cut};
 ghost use Rattle.sheet_input.specs.cells.Cells.{cell_at, cell_of};
 
-use super::header::{COLUMNS, Plan};
+use super::header::{Column, Plan};
 
 // A cell by its place from 1, a part of the row, where its start is not kept; no bytes for the place 0 and past the last.
 fn cell_at(row: &[u8], place: usize) -> &[u8]
@@ -14,19 +14,9 @@ fn cell_at(row: &[u8], place: usize) -> &[u8]
     if place == 0 {
         return &row[0..0];
     }
-    let mut t = row;
-    let mut i = place;
-    loop {
-        let end = scanner::find(t, b'\t');
-        if i == 1 {
-            return &t[0..end];
-        }
-        if end == t.len() {
-            return &t[0..0];
-        }
-        i -= 1;
-        t = &t[end + 1..];
-    }
+    row.split(|b| *b == b'\t')
+        .nth(place - 1)
+        .unwrap_or(&row[0..0])
 }
 
 // A cell of a row that is cut, by its place from 1, a part of the row; no bytes for the place 0 and past the last.
@@ -54,14 +44,11 @@ pub fn cell_of<'a>(
     row: &'a [u8],
     count: usize,
     starts: &[usize],
-    column: usize,
+    column: Column,
 ) -> &'a [u8]
     requires { Cut row.now starts.now count }
     ensures { result.now ≡ cell_of plan column row.now }
 {
-    if COLUMNS <= column {
-        return &row[0..0];
-    }
-    let place = plan.places[column];
+    let place = plan.places[column.index()];
     cell_in(row, count, starts, place)
 }

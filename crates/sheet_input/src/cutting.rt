@@ -24,6 +24,7 @@ pub fn cut(row: &[u8], starts: &mut [usize]) -> usize
     let mut t = row;
     let mut from = 0;
     let mut n = 0;
+    // No plainer by split, which says what a cell is and not where it starts: n and from would be counted there too.
     loop {
         let end = scanner::find(t, b'\t');
         n += 1;
@@ -57,23 +58,20 @@ pub fn cut_line(text: &[u8], starts: &mut [usize]) -> Line
     ensures { LineCut text.now starts.new result }
 {
     keep(starts, 0, 0);
-    let mut i = 0;
     let mut n = 0;
-    while i < text.len() {
-        let b = text[i];
+    for (i, b) in text.iter().enumerate() {
         keep(starts, n + 1, i + 1);
-        if b == b'\n' {
+        if *b == b'\n' {
             return Line {
                 cells: n + 1,
                 end: i,
             };
         }
-        n += tab_in(b);
-        i += 1;
+        n += tab_in(*b);
     }
-    keep(starts, n + 1, i + 1);
+    keep(starts, n + 1, text.len() + 1);
     Line {
         cells: n + 1,
-        end: i,
+        end: text.len(),
     }
 }

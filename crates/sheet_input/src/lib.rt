@@ -1,5 +1,5 @@
 // A sheet as it comes in: what is left of a block, the header, the cells of a row, and the request that a row makes. Every byte string has the
-// answer that the definitions give; an unreadable header or row is 42.
+// answer that the definitions give; an unreadable header has no plan and an unreadable row asks nothing: both are 42.
 #![tactic(auto)]
 
 mod cells;
@@ -11,6 +11,6 @@ pub mod sheet;
 
 pub use cells::cell_of;
 pub use cutting::{STARTS, cut, cut_line};
-pub use header::{CLASS, COLUMNS, Plan, SN1, SN2, SN3, SN4, TAIL, plan_of};
+pub use header::{COLUMNS, Column, Plan, plan_of};
 pub use remnant::keep;
 pub use sheet::read_cut;

@@ -49,13 +49,11 @@ fn put_chains(out: &mut [u8], at: usize, lists: Lists, index: &[u16], pairs: &[u
     let items = lists.items;
     let mut t = index;
     let mut p = at;
-    let mut i = 0;
-    while i < n {
+    for i in 0..n {
         let list = items[i];
         let k = (list.count as usize).min(t.len());
         p = put_next_chain(out, p, 0 < i, list.sn, &t[0..k], pairs);
         t = &t[k..];
-        i += 1;
     }
     p
 }

@@ -68,14 +68,7 @@ pub fn put_same<T: Copy>(out: &mut [T], at: usize, x: T, n: usize) -> usize
     fill_same(out, at, x, n)
 }
 
-// A text.
-pub fn put_text(out: &mut [u8], at: usize, text: &[u8]) -> usize
-    ensures { Written out.old at text.now out.new result }
-{
-    put_all(out, at, text)
-}
-
-// Atom numbers.
+// Atom numbers: a name of its own, since four wrong programs in must-fail/ are of it.
 pub fn copy_indices(out: &mut [u16], at: usize, numbers: &[u16]) -> usize
     ensures { Written out.old at numbers.now out.new result }
 {

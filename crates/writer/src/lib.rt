@@ -8,7 +8,7 @@ mod figures;
 pub mod index_runs;
 pub mod store;
 
-pub use emit::{copy_indices, put_all, put_same, put_text};
+pub use emit::{copy_indices, put_all, put_same};
 pub use figures::{put_many, put_number};
 pub use index_runs::{FIRST_ROOM, fill, in_room, put_ramp, to_index};
-pub use store::{put, put_byte, put_index};
+pub use store::put;

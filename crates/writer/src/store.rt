@@ -14,17 +14,3 @@ pub fn put<T: Copy>(out: &mut [T], at: usize, x: T) -> usize
     }
     at.saturating_add(1)
 }
-
-// One byte.
-pub fn put_byte(out: &mut [u8], at: usize, b: u8) -> usize
-    ensures { Written out.old at (b ∷ []) out.new result }
-{
-    put(out, at, b)
-}
-
-// One atom number.
-pub fn put_index(out: &mut [u16], at: usize, n: u16) -> usize
-    ensures { Written out.old at (n ∷ []) out.new result }
-{
-    put(out, at, n)
-}

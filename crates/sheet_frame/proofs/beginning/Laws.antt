@@ -1,15 +1,15 @@
 -- Laws of a batch before its first row. Assumes nothing.
 use Prim.Native.Nat.{ℕ, ◌^◌, ◌<◌}
 use mathlib.Core.Path.{◌≡◌, refl, sym, ap, ◌∙◌}
-use mathlib.Core.Bool.{Bool, true, false, cond}
 use mathlib.Core.List.{List, [], ◌∷◌, append_assoc, append-nil}
 use lib.ListN.{length}
+use Rattle.std.specs.Prelude.{Option, Some, None}
 use Rattle.writer.specs.emit.Text.{Written}
 use Rattle.writer.proofs.emit.Laws.{written-append, written-nil}
 use Rattle.reading_rules.specs.reading.Ascii.{ascii}
 use Rattle.reading_rules.specs.reading.Parting.{joined, led}
 use Rattle.sheet_input.specs.declared.header.Plan.{Plan}
-use Rattle.sheet_input.specs.header.Header.{no_plan, plan_of}
+use Rattle.sheet_input.specs.header.Header.{plan_of}
 use Rattle.sheet_frame.specs.row_heads.Text.{ended, tabbed, chains_text, head_text, row_text}
 use Rattle.sheet_frame.specs.declared.tally.Counts.{Counts}
 use Rattle.sheet_frame.specs.tally.Counts.{counting, no_times, with_answer, times_from}
@@ -24,8 +24,8 @@ pub titles-text : {xs ys : List ℕ} {a p : ℕ}
 unfolding titles tabbed ended joined led ascii
 titles-text w = w
 
-pub new-batch : (c : Counts) → c ≡ counting no_times → ◌≡◌ {A = Batch} (record { stage = Header; plan = no_plan; counts = c }) no_batch
-new-batch c e = ap (λ (d : Counts). record { stage = Header; plan = no_plan; counts = d }) e
+pub new-batch : (c : Counts) → c ≡ counting no_times → ◌≡◌ {A = Batch} (record { stage = Header; counts = c }) no_batch
+new-batch c e = ap (λ (d : Counts). record { stage = Header; counts = d }) e
 
 -- ---- an unreadable line
 
@@ -36,26 +36,14 @@ unreadable-text g w u = record { text = simp append_assoc (simp append_assoc at 
 
 -- ---- the header
 
-module _ (b : Batch) (l os : List ℕ) (at : ℕ) (plan : Plan) (e : plan ≡ plan_of l) where
-  -- the batch after a header that is readable or not
-  made : Bool → Plan → Batch
-  made r q = record { stage = cond r Rows Over; plan = q; counts = counting (times_from b.counts.times (numbers_of (cond r [] (refused 42 0 ∷ [])))) }
+module _ (b : Batch) (l os : List ℕ) (at : ℕ) (o : Option Plan) (e : o ≡ plan_of l) where
+  pub header-rows : (plan : Plan) → o ≡ Some plan → at < 2 ^ 64
+      → HeaderAnswered b l os at os (record { batch = record { stage = Rows plan; counts = b.counts }; next = at })
+  unfolding header_batch texts_of numbers_of times_from
+  header-rows plan h g = let t : plan_of l ≡ Some plan = sym e ∙ h in record { batch = (rw t); text = (rw t (written-nil os at g)) }
 
-  made-is : (r : Bool) → (plan_of l).readable ≡ r → made r plan ≡ header_batch b l
-  unfolding made header_batch
-  made-is r t = ap (λ (s : Bool). made s plan) (sym t) ∙ ap (made (plan_of l).readable) e
-
-  pub header-rows : plan.readable ≡ true → at < 2 ^ 64
-      → HeaderAnswered b l os at os (record { batch = record { stage = Rows; plan = plan; counts = b.counts }; next = at })
-  unfolding made texts_of numbers_of times_from
-  header-rows h g =
-      let t : (plan_of l).readable ≡ true = sym (ap (λ (q : Plan). q.readable) e) ∙ h in
-      record { batch = made-is true t; text = (rw t (written-nil os at g)) }
-
-  pub header-over : (counted : Counts) (ps : List ℕ) (a : Answered) → plan.readable ≡ false → UnreadableWritten os at ps a
+  pub header-over : (counted : Counts) (ps : List ℕ) (a : Answered) → o ≡ None → UnreadableWritten os at ps a
       → counted ≡ counting (with_answer b.counts.times a.number)
-      → HeaderAnswered b l os at ps (record { batch = record { stage = Over; plan = plan; counts = counted }; next = a.next })
-  unfolding made texts_of numbers_of times_from
-  header-over counted ps a h w c =
-      let t : (plan_of l).readable ≡ false = sym (ap (λ (q : Plan). q.readable) e) ∙ h in
-      record { batch = (rw (c, w.answer) (made-is false t)); text = (rw (t, append-nil) w.text) }
+      → HeaderAnswered b l os at ps (record { batch = record { stage = Over; counts = counted }; next = a.next })
+  unfolding header_batch texts_of numbers_of times_from
+  header-over counted ps a h w c = let t : plan_of l ≡ None = sym e ∙ h in record { batch = (rw (t, c, w.answer)); text = (rw (t, append-nil) w.text) }

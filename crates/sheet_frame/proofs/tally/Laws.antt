@@ -3,7 +3,7 @@ use Prim.Native.Nat.{ℕ, suc, ◌+◌, ◌^◌, ◌≤◌, ◌<◌}
 use native.Mathlib.Nat.{add-zero, add-suc, suc-add, zero-add}
 use native.Mathlib.Numerals.{add-one}
 use native.Mathlib.Omega.{arith}
-use mathlib.Core.Path.{◌≡◌, sym}
+use mathlib.Core.Path.{◌≡◌, sym, ap}
 use mathlib.Core.List.{List, [], ◌∷◌, ◌++◌, append_assoc, append-nil}
 use lib.ListN.{length, get_or, set, take}
 use lib.Seq.{take-suc, take_all, length-take-le, set_out}
@@ -13,7 +13,8 @@ use Rattle.writer.proofs.emit.Laws.{written-append, written-nil}
 use Rattle.reading_rules.specs.reading.Ascii.{ascii}
 use Rattle.reading_rules.specs.reading.Parting.{joined, led}
 use Rattle.sheet_frame.specs.row_heads.Text.{ended, tabbed}
-use Rattle.sheet_frame.specs.tally.Counts.{with_answer, count_line, count_lines_from, count_lines}
+use Rattle.sheet_frame.specs.declared.tally.Counts.{Counts}
+use Rattle.sheet_frame.specs.tally.Counts.{counting, with_answer, count_line, count_lines_from, count_lines}
 
 -- ---- counts
 

@@ -1,12 +1,14 @@
 -- The beginning of a batch. 01, Batch program: "a header with an unknown or doubled name or no class, which ends the batch after that answer";
 -- the header line of the output. Assumes nothing.
-use Rattle.std.specs.Prelude.{ℕ, ◌≡◌, cond, List, [], ◌∷◌, ◌++◌, map}
+use Rattle.std.specs.Prelude.{ℕ, ◌≡◌, List, [], ◌∷◌, ◌++◌, map, Option, Some, None}
 use Rattle.writer.specs.emit.Text.{Written}
 use Rattle.reading_rules.specs.reading.Ascii.{ascii}
-use Rattle.sheet_input.specs.header.Header.{no_plan, plan_of}
+use Rattle.sheet_input.specs.declared.header.Plan.{Plan}
+use Rattle.sheet_input.specs.header.Header.{plan_of}
 use Rattle.sheet_frame.specs.row_heads.Text.{tabbed, Carbons, row_text}
 use Rattle.sheet_frame.specs.tally.Counts.{counting, no_times, times_from}
 use Rattle.sheet_frame.specs.declared.beginning.Answered.{Answered}
+use Rattle.sheet_frame.specs.declared.beginning.Stage.{Stage}
 use Rattle.sheet_frame.specs.declared.beginning.Stage.TheVariants.{Header, Rows, Over}
 use Rattle.sheet_frame.specs.declared.beginning.Batch.{Batch}
 use Rattle.sheet_frame.specs.declared.beginning.Lined.{Lined}
@@ -45,18 +47,26 @@ titles = tabbed (ascii "answer" ∷ ascii "at" ∷ ascii "line" ∷ ascii "carbo
 
 -- the batch before its header
 abbrev pub no_batch : Batch
-no_batch = record { stage = Header; plan = no_plan; counts = counting no_times }
+no_batch = record { stage = Header; counts = counting no_times }
+
+-- the replies to a header of this plan, and the stage after it
+abbrev pub replies_by : Option Plan → List Reply
+replies_by (Some plan) = []
+replies_by None = refused 42 0 ∷ []
+
+abbrev pub stage_by : Option Plan → Stage
+stage_by (Some plan) = Rows plan
+stage_by None = Over
 
 -- the replies to the header
 abbrev pub header_replies : List ℕ → List Reply
-header_replies l = cond (plan_of l).readable [] (refused 42 0 ∷ [])
+header_replies l = replies_by (plan_of l)
 
 -- the batch after it
 unfoldable pub header_batch : Batch → List ℕ → Batch
 header_batch b l =
     record {
-      stage = cond (plan_of l).readable Rows Over;
-      plan = plan_of l;
+      stage = stage_by (plan_of l);
       counts = counting (times_from b.counts.times (numbers_of (header_replies l)));
     }
 

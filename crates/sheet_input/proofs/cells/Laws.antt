@@ -1,12 +1,18 @@
--- Laws of the cells of a row: of the loop over them a turn and each way out, and a cell of a row that is cut. Assumes nothing.
+-- Laws of the cells of a row: a cell by its place, and a cell of a row that is cut. Assumes nothing.
 use Prim.Native.Nat.{ℕ, zero, suc, ◌+◌, ◌-◌, ◌≤◌, ◌<◌}
 use native.Mathlib.Numerals.{unary_clauses}
 use native.Mathlib.Omega.{arith}
 use mathlib.Core.Path.{◌≡◌, refl, sym, ap, ◌∙◌}
+use mathlib.Core.Bool.{cond}
 use mathlib.Core.List.{List, [], ◌∷◌}
+use lib.Dec.{eqb}
 use lib.ListN.{length, get_or, take, drop, get_or-eq_default}
-use Rattle.scanner.specs.scan.Part.{Place, index_of}
-use Rattle.token_syntax.proofs.form.Laws.{parts_last, parts_more, parts_first}
+use denote.Bor.{Bor}
+use Rattle.std.specs.Prelude.{Option, Some, None}
+use Rattle.std.specs.List.{slice_split, onto_first, slice_get}
+use Rattle.std.specs.Option.{unwrap_or, option_map}
+use Rattle.std.proofs.lemmas.Option.{unwrap_or-slice_get}
+use Rattle.token_syntax.specs.form.Parts.{onto, parts_at}
 use Rattle.sheet_input.specs.header.Header.{cells_of}
 use Rattle.sheet_input.specs.cutting.Cut.{Between, Cut}
 use Rattle.sheet_input.specs.cells.Cells.{cell_at}
@@ -17,33 +23,28 @@ pub cell-none : (place : ℕ) (row : List ℕ) → place ≡ 0 → take (0 - 0) 
 unfolding cell_at
 cell-none place row e = rw e
 
-module _ (A : List ℕ) (t : List ℕ) (i k : ℕ) (f : Place t (index_of 9 t) k) (h : A ≡ cell_at i (cells_of t)) where
-  pub cell-here : i ≡ 1 → take (k - 0) t ≡ A
-  unfolding cell_at
-  cell-here e = let p = parts_first 9 t k f in sym (h ∙ rw (e, p.1))
-
-  pub cell-past : 0 < i → (i ≡ 1 → ⊥) → k ≡ length t → take (0 - 0) t ≡ A
-  unfolding cell_at
-  cell-past l n e = sym (h ∙ ap (cell_at i) (parts_last 9 t k f e) ∙ go i l n)
-    where
-      go : (i : ℕ) → 0 < i → (i ≡ 1 → ⊥) → cell_at i (take (k - 0) t ∷ []) ≡ []
-      go zero l n = absurd (omega arith)
-      go (suc zero) l n = absurd (n refl)
-      go (suc (suc i)) l n = refl
-
-  pub cell-more : 0 < i → (i ≡ 1 → ⊥) → (k ≡ length t → ⊥) → A ≡ cell_at (i - 1) (cells_of (take (length t - (k + 1)) (drop (k + 1) t)))
-  unfolding cell_at
-  cell-more l n e = h ∙ ap (cell_at i) (parts_more 9 t k f e) ∙ go i l n
-    where
-      go : (i : ℕ) → 0 < i → (i ≡ 1 → ⊥) → cell_at i (take (k - 0) t ∷ cells_of (take (length t - (k + 1)) (drop (k + 1) t)))
-          ≡ cell_at (i - 1) (cells_of (take (length t - (k + 1)) (drop (k + 1) t)))
-      go zero l n = absurd (omega arith)
-      go (suc zero) l n = absurd (n refl)
-      go (suc (suc i)) l n = simp unary_clauses refl
-
-pub cell-left-out : (places row : List ℕ) (column : ℕ) → 7 ≤ column → length places ≡ 7 → take (0 - 0) row ≡ cell_at (get_or places column 0) (cells_of row)
+cell-get : (row : List ℕ) (place : ℕ) → (place ≡ 0 → ⊥) → get_or (cells_of row) (place - 1) [] ≡ cell_at place (cells_of row)
 unfolding cell_at
-cell-left-out places row column g l = let w = get_or-eq_default places 0 {n = column} (omega arith) in rw w
+cell-get row zero z = absurd (z refl)
+cell-get row (suc i) z = simp unary_clauses refl
+
+-- the parts that the library's `split` gives
+split-parts : (b : ℕ) (xs : List ℕ) → slice_split (λ x. eqb x b) xs ≡ parts_at b xs
+unfolding parts_at
+split-parts b [] = refl
+split-parts b (x ∷ xs) = rw (split-parts b xs) (go (parts_at b xs))
+  where
+    go : (ps : List (List ℕ)) → cond (eqb x b) ([] ∷ ps) (onto_first x ps) ≡ cond (eqb x b) ([] ∷ ps) (onto x ps)
+    go [] = refl
+    go (p ∷ ps) = refl
+
+pub now-or : (o : Option (Bor (List ℕ))) (d : Bor (List ℕ)) → d.now ≡ [] → (unwrap_or o d).now ≡ unwrap_or (option_map (λ x. x.now) o) []
+now-or (Some b) d e = refl
+now-or None d e = e
+
+pub cell-split : (row : List ℕ) (place : ℕ) (o : Option (List ℕ)) → (place ≡ 0 → ⊥) → o ≡ slice_get (slice_split (λ x. eqb x 9) row) (place - 1)
+    → unwrap_or o [] ≡ cell_at place (cells_of row)
+cell-split row place o z e = rw (e, split-parts 9 row) (unwrap_or-slice_get (cells_of row) (place - 1) [] ∙ cell-get row place z)
 
 -- ---- a cell of a row that is cut
 
@@ -70,9 +71,4 @@ module _ (row starts : List ℕ) (n place : ℕ) (c : Cut row starts n) where
     cell-high = rw same_place at between.high
 
     pub cell_cut : take (get_or starts place 0 - 1 - get_or starts (place - 1) 0) (drop (get_or starts (place - 1) 0) row) ≡ cell_at place (cells_of row)
-    unfolding cell_at
-    cell_cut = (rw same_place at between.cell) ∙ go place z
-      where
-        go : (i : ℕ) → (i ≡ 0 → ⊥) → get_or (cells_of row) (i - 1) [] ≡ cell_at i (cells_of row)
-        go zero z = absurd (z refl)
-        go (suc i) z = simp unary_clauses refl
+    cell_cut = (rw same_place at between.cell) ∙ cell-get row place z

@@ -155,9 +155,17 @@ module _ (text starts : List ℕ) (i n : ℕ) (a : Along text starts i n) where
     pub along-lf : i < length text → get_or text i 0 ≡ 10 → LineCut text ks (record { cells = n + 1; end = i })
     along-lf h e = ends (ap (λ (t : List ℕ). index_of 10 t) (byte h) ∙ lf-here (get_or text i 0) (drop (i + 1) text) e)
 
-    pub along-end : length text ≤ i → LineCut text ks (record { cells = n + 1; end = i })
+    all-read : length text ≤ i → LineCut text ks (record { cells = n + 1; end = i })
     unfolding first_byte
-    along-end h = ends (ap (λ (t : List ℕ). index_of 10 t) (drop_of_length-le text h))
+    all-read h = ends (ap (λ (t : List ℕ). index_of 10 t) (drop_of_length-le text h))
+
+-- no LF is in the text
+pub along-end : (text starts : List ℕ) (i n : ℕ) (ks : List ℕ) → Along text starts i n → i ≤ length text → length text ≤ i
+    → ks ≡ set starts (n + 1) (length text + 1) → LineCut text ks (record { cells = n + 1; end = length text })
+along-end text starts i n ks a h g s =
+    let e : i ≡ length text = omega arith in
+    let b : Along text starts (length text) n = subst (λ (j : ℕ). Along text starts j n) e a in
+    all-read text starts (length text) n b ks s (omega arith)
 
 -- a byte that is no LF, with the tabs that it is
 pub along-next : (text starts : List ℕ) (i n m : ℕ) (ks : List ℕ) → Along text starts i n → i < length text → ks ≡ set starts (n + 1) (i + 1)

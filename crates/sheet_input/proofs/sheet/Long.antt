@@ -10,58 +10,39 @@ use lib.ListN.{length, get_or, set, take, replicate, length-append, length-set}
 use lib.Seq.{length-take-le, take_all}
 use lib.Dec.{eqb}
 use borrow.Author.Tests.{lt-ltb, ne_eqb}
+use Rattle.std.specs.Prelude.{Option, None, Some}
+use Rattle.std.specs.Option.{option_and_then}
+use Rattle.std.proofs.lemmas.Option.{none-some}
 use Rattle.scanner.specs.scan.Part.{same_bytes}
 use Rattle.scanner.proofs.scan.Laws.{same-equal}
 use Rattle.token_syntax.specs.form.Parts.{onto, parts_at}
 use Rattle.reading_rules.specs.reading.Ascii.{ascii}
+use Rattle.sheet_input.specs.declared.header.Column.{Column}
+use Rattle.sheet_input.specs.declared.header.Column.TheVariants.{Class, Swap, Tail, Sn1, Sn2, Sn3, Sn4}
 use Rattle.sheet_input.specs.declared.header.Plan.{Plan}
-use Rattle.sheet_input.specs.header.Header.{cells_of, column_of, no_plan, plan_from, plan_of}
+use Rattle.sheet_input.specs.header.Header.{cells_of, column_index, column_of, plan_from, plan_of}
 use Rattle.sheet_input.specs.sheet.Sheet.{Unreadable, request_of}
 
 -- ---- a known name is short
 
-name-short : (name : List ℕ) → column_of name < 7 → length name ≤ 5
+name-short : (name : List ℕ) (c : Column) → column_of name ≡ Some c → length name ≤ 5
 unfolding column_of ascii
-name-short name h = class (same_bytes name (ascii "class")) refl h
+name-short name c =
+    heads (same_bytes name (ascii "class")) Class _ (is (ascii "class") (omega arith)) (
+    heads (same_bytes name (ascii "swap")) Swap _ (is (ascii "swap") (omega arith)) (
+    heads (same_bytes name (ascii "tail")) Tail _ (is (ascii "tail") (omega arith)) (
+    heads (same_bytes name (ascii "sn1")) Sn1 _ (is (ascii "sn1") (omega arith)) (
+    heads (same_bytes name (ascii "sn2")) Sn2 _ (is (ascii "sn2") (omega arith)) (
+    heads (same_bytes name (ascii "sn3")) Sn3 _ (is (ascii "sn3") (omega arith)) (
+    heads (same_bytes name (ascii "sn4")) Sn4 None (is (ascii "sn4") (omega arith)) (λ e. absurd (none-some c e))))))))
   where
-    is : (t : List ℕ) → same_bytes name t ≡ true → length t ≤ 5 → length name ≤ 5
-    is t e l = let z : length name ≡ length t = ap length (same-equal name t e) in omega arith
+    is : (t : List ℕ) → length t ≤ 5 → same_bytes name t ≡ true → length name ≤ 5
+    is t l e = let z : length name ≡ length t = ap length (same-equal name t e) in omega arith
 
-    sn4 : (b : Bool) → same_bytes name (ascii "sn4") ≡ b → cond b 6 7 < 7 → length name ≤ 5
-    sn4 true e h = is (ascii "sn4") e (omega arith)
-    sn4 false e h = absurd (omega arith)
-
-    sn3 : (b : Bool) → same_bytes name (ascii "sn3") ≡ b → cond b 5 (cond (same_bytes name (ascii "sn4")) 6 7) < 7 → length name ≤ 5
-    sn3 true e h = is (ascii "sn3") e (omega arith)
-    sn3 false e h = sn4 (same_bytes name (ascii "sn4")) refl h
-
-    sn2 : (b : Bool) → same_bytes name (ascii "sn2") ≡ b → cond b 4 (cond (same_bytes name (ascii "sn3")) 5 (cond (same_bytes name (ascii "sn4")) 6 7)) < 7
-        → length name ≤ 5
-    sn2 true e h = is (ascii "sn2") e (omega arith)
-    sn2 false e h = sn3 (same_bytes name (ascii "sn3")) refl h
-
-    sn1 : (b : Bool) → same_bytes name (ascii "sn1") ≡ b
-        → cond b 3 (cond (same_bytes name (ascii "sn2")) 4 (cond (same_bytes name (ascii "sn3")) 5 (cond (same_bytes name (ascii "sn4")) 6 7))) < 7 → length name ≤ 5
-    sn1 true e h = is (ascii "sn1") e (omega arith)
-    sn1 false e h = sn2 (same_bytes name (ascii "sn2")) refl h
-
-    tail : (b : Bool) → same_bytes name (ascii "tail") ≡ b
-        → cond b 2 (cond (same_bytes name (ascii "sn1")) 3 (cond (same_bytes name (ascii "sn2")) 4 (cond (same_bytes name (ascii "sn3")) 5 (cond (same_bytes name (ascii "sn4")) 6 7)))) < 7
-        → length name ≤ 5
-    tail true e h = is (ascii "tail") e (omega arith)
-    tail false e h = sn1 (same_bytes name (ascii "sn1")) refl h
-
-    swap : (b : Bool) → same_bytes name (ascii "swap") ≡ b
-        → cond b 1 (cond (same_bytes name (ascii "tail")) 2 (cond (same_bytes name (ascii "sn1")) 3 (cond (same_bytes name (ascii "sn2")) 4 (cond (same_bytes name (ascii "sn3")) 5 (cond (same_bytes name (ascii "sn4")) 6 7))))) < 7
-        → length name ≤ 5
-    swap true e h = is (ascii "swap") e (omega arith)
-    swap false e h = tail (same_bytes name (ascii "tail")) refl h
-
-    class : (b : Bool) → same_bytes name (ascii "class") ≡ b
-        → cond b 0 (cond (same_bytes name (ascii "swap")) 1 (cond (same_bytes name (ascii "tail")) 2 (cond (same_bytes name (ascii "sn1")) 3 (cond (same_bytes name (ascii "sn2")) 4 (cond (same_bytes name (ascii "sn3")) 5 (cond (same_bytes name (ascii "sn4")) 6 7)))))) < 7
-        → length name ≤ 5
-    class true e h = is (ascii "class") e (omega arith)
-    class false e h = swap (same_bytes name (ascii "swap")) refl h
+    heads : (b : Bool) (column : Column) (rest : Option Column) → (b ≡ true → length name ≤ 5) → (rest ≡ Some c → length name ≤ 5)
+        → cond b (Some column) rest ≡ Some c → length name ≤ 5
+    heads true column rest f g e = f refl
+    heads false column rest f g e = g e
 
 -- ---- columns that no name heads yet
 
@@ -88,11 +69,6 @@ free-taken (p ∷ ps) zero n e = rw (ne_eqb (suc n) 0 (λ z. omega arith)) (go (
     go false e = absurd (true≢false (sym e))
 free-taken (p ∷ ps) (suc k) n e = let z = free-taken ps k n e in omega arith
 
-within : (places : List ℕ) (k : ℕ) → eqb (get_or places k 1) 0 ≡ true → k < length places
-within [] k e = absurd (true≢false (sym e))
-within (p ∷ ps) zero e = omega arith
-within (p ∷ ps) (suc k) e = let z = within ps k e in omega arith
-
 -- ---- the bytes of cells, with one that ends each
 
 size : List (List ℕ) → ℕ
@@ -115,54 +91,46 @@ cells-size b (x ∷ xs) = go (eqb x b) (cells-size b xs)
 
 -- ---- a readable header
 
--- readable, or 42
-plan-either : (n : ℕ) (places : List ℕ) (cells : List (List ℕ)) → (plan_from n places cells).readable ≡ false → plan_from n places cells ≡ no_plan
-unfolding plan_from
-plan-either n places [] = go (eqb (get_or places 0 0) 0)
-  where
-    go : (b : Bool) → (cond b no_plan (record { readable = true; cells = n; places = places })).readable ≡ false
-        → cond b no_plan (record { readable = true; cells = n; places = places }) ≡ no_plan
-    go true e = refl
-    go false e = absurd (true≢false e)
-plan-either n places (name ∷ names) = go (eqb (get_or places (column_of name) 1) 0) (plan-either (suc n) (set places (column_of name) (suc n)) names)
-  where
-    next : Plan
-    next = plan_from (suc n) (set places (column_of name) (suc n)) names
-
-    go : (b : Bool) → (next.readable ≡ false → next ≡ no_plan) → (cond b next no_plan).readable ≡ false → cond b next no_plan ≡ no_plan
-    go true f e = f e
-    go false f e = refl
-
-plan-short : (n : ℕ) (places : List ℕ) (cells : List (List ℕ)) → length places ≡ 7 → (plan_from n places cells).readable ≡ true → size cells ≤ 6 * free places
+plan-short : (n : ℕ) (places : List ℕ) (cells : List (List ℕ)) (plan : Plan) → length places ≡ 7 → plan_from n places cells ≡ Some plan → size cells ≤ 6 * free places
 unfolding plan_from size
-plan-short n places [] l e = omega arith
-plan-short n places (name ∷ names) l e =
-    go (eqb (get_or places (column_of name) 1) 0) refl e (plan-short (suc n) (set places (column_of name) (suc n)) names (length-set places (column_of name) (suc n) ∙ l))
+plan-short n places [] plan l e = omega arith
+plan-short n places (name ∷ names) plan l e =
+    named (column_of name) refl e
+    (λ column. plan-short (suc n) (set places (column_index column) (suc n)) names plan (length-set places (column_index column) (suc n) ∙ l))
   where
-    next : Plan
-    next = plan_from (suc n) (set places (column_of name) (suc n)) names
+    next : Column → Option Plan
+    next column = plan_from (suc n) (set places (column_index column) (suc n)) names
 
-    go : (b : Bool) → eqb (get_or places (column_of name) 1) 0 ≡ b → (cond b next no_plan).readable ≡ true
-        → (next.readable ≡ true → size names ≤ 6 * free (set places (column_of name) (suc n))) → suc (length name) + size names ≤ 6 * free places
-    go true d e f =
-        let s : length name ≤ 5 = name-short name (let w = within places (column_of name) d in omega arith) in
-        let z : free places ≡ suc (free (set places (column_of name) (suc n))) = free-taken places (column_of name) n d in
-        let w = f e in
+    Rest : Column → Type 0
+    Rest column = next column ≡ Some plan → size names ≤ 6 * free (set places (column_index column) (suc n))
+
+    taken : (column : Column) → Rest column → column_of name ≡ Some column → (b : Bool) → eqb (get_or places (column_index column) 1) 0 ≡ b → cond b (next column) None ≡ Some plan
+        → suc (length name) + size names ≤ 6 * free places
+    taken column r c true d e =
+        let s : length name ≤ 5 = name-short name column c in
+        let z : free places ≡ suc (free (set places (column_index column) (suc n))) = free-taken places (column_index column) n d in
+        let w : size names ≤ 6 * free (set places (column_index column) (suc n)) = r e in
         omega arith
-    go false d e f = absurd (true≢false (sym e))
+    taken column r c false d e = absurd (none-some plan e)
+
+    named : (o : Option Column) → column_of name ≡ o
+        → option_and_then (λ column. cond (eqb (get_or places (column_index column) 1) 0) (next column) None) o ≡ Some plan
+        → ((column : Column) → Rest column) → suc (length name) + size names ≤ 6 * free places
+    named None c e r = absurd (none-some plan e)
+    named (Some column) c e r = taken column (r column) c (eqb (get_or places (column_index column) 1) 0) refl e
 
 -- a header of more than 41 bytes is none
-pub header-long : (xs : List ℕ) → 41 < length xs → plan_of xs ≡ no_plan
+pub header-long : (xs : List ℕ) → 41 < length xs → plan_of xs ≡ None
 unfolding plan_of
-header-long xs h = go (plan_from 0 (replicate 7 0) (cells_of xs)).readable refl
+header-long xs h = go (plan_from 0 (replicate 7 0) (cells_of xs)) refl
   where
-    go : (b : Bool) → (plan_from 0 (replicate 7 0) (cells_of xs)).readable ≡ b → plan_from 0 (replicate 7 0) (cells_of xs) ≡ no_plan
-    go true e =
-        let z = plan-short 0 (replicate 7 0) (cells_of xs) refl e in
+    go : (o : Option Plan) → plan_from 0 (replicate 7 0) (cells_of xs) ≡ o → plan_from 0 (replicate 7 0) (cells_of xs) ≡ None
+    go (Some plan) e =
+        let z = plan-short 0 (replicate 7 0) (cells_of xs) plan refl e in
         let w = cells-size 9 xs in
         let f : free (replicate 7 0) ≡ 7 = all-free in
         absurd (omega arith)
-    go false e = plan-either 0 (replicate 7 0) (cells_of xs) e
+    go None e = e
 
 -- ---- what is past the first 2,049 bytes
 

@@ -1,13 +1,15 @@
 -- What the code says of a row is the row.
 -- Assumes nothing.
 use Prim.Native.Nat.{ℕ}
-use mathlib.Core.Path.{◌≡◌, refl, sym, ap, ◌∙◌}
-use mathlib.Core.Bool.{Bool, true, false, cond, not, true≢false}
+use mathlib.Core.Path.{◌≡◌, refl, sym, ◌∙◌}
+use mathlib.Core.Bool.{Bool, true, false, cond}
 use mathlib.Core.List.{List}
 use lib.ListN.{length, take}
 use lib.Seq.{length-take-le}
 use lib.Dec.{eqb, ltb}
-use borrow.Author.Tests.{not-false, not-true}
+use Rattle.std.specs.Prelude.{Option, None, Some}
+use Rattle.std.proofs.lemmas.Option.{none-some, same_Some}
+use Rattle.sheet_input.specs.declared.header.Column.TheVariants.{Class, Swap as SwapColumn, Tail}
 use Rattle.sheet_input.specs.declared.header.Plan.{Plan}
 use Rattle.sheet_input.specs.declared.sheet.Asked.{Asked}
 use Rattle.sheet_input.specs.declared.cellwords.Swap.{Swap}
@@ -21,7 +23,7 @@ use Rattle.sheet_input.proofs.cellwords.Laws.{last_within}
 -- a row is unreadable, or its cells are its request
 data Either (p : Plan) (row : List ℕ) : Row → Type 0 where
   none : Either p row Unreadable
-  some : (swap : Bool) → Either p row (Asks (cell_of p 0 row) swap (cell_of p 2 row) (tokens_in p row))
+  some : (swap : Bool) → Either p row (Asks (cell_of p Class row) swap (cell_of p Tail row) (tokens_in p row))
 
 either : (p : Plan) (row : List ℕ) → Either p row (request_of p row)
 unfolding request_of
@@ -32,39 +34,41 @@ either p row = long (ltb max_row (length row))
     swapped Yes = some true
     swapped Other = none
 
-    counted : (b : Bool) → Either p row (cond b (with_swap (swap_of (cell_of p 1 row)) p row) Unreadable)
-    counted true = swapped (swap_of (cell_of p 1 row))
+    counted : (b : Bool) → Either p row (cond b (with_swap (swap_of (cell_of p SwapColumn row)) p row) Unreadable)
+    counted true = swapped (swap_of (cell_of p SwapColumn row))
     counted false = none
 
-    long : (b : Bool) → Either p row (cond b Unreadable (cond (eqb (length (cells_of row)) p.cells) (with_swap (swap_of (cell_of p 1 row)) p row) Unreadable))
+    long : (b : Bool) → Either p row (cond b Unreadable (cond (eqb (length (cells_of row)) p.cells) (with_swap (swap_of (cell_of p SwapColumn row)) p row) Unreadable))
     long true = none
     long false = counted (eqb (length (cells_of row)) p.cells)
 
-module _ (p : Plan) (row : List ℕ) (a : Asked) (e : a ≡ told (request_of p row)) where
-  pub asked-nothing : not a.readable ≡ true → request_of p row ≡ Unreadable
-  asked-nothing h = go (request_of p row) (either p row) (sym (ap (λ (x : Asked). x.readable) e) ∙ not-true a.readable h)
+module _ (p : Plan) (row : List ℕ) (o : Option Asked) (e : o ≡ told (request_of p row)) where
+  pub asked-nothing : o ≡ None → request_of p row ≡ Unreadable
+  asked-nothing h = go (request_of p row) (either p row) (sym e ∙ h)
     where
-      go : (w : Row) → Either p row w → (told w).readable ≡ false → w ≡ Unreadable
+      go : (w : Row) → Either p row w → told w ≡ None → w ≡ Unreadable
       go w none f = refl
-      go w (some swap) f = absurd (true≢false f)
+      go w (some swap) f = absurd (none-some (record { swap = swap; count = length (tokens_in p row) }) (sym f))
 
-  pub asked-request : not a.readable ≡ false → request_of p row ≡ Asks (cell_of p 0 row) a.swap (cell_of p 2 row) (take a.count (sn_cells p row))
-  asked-request h = go (request_of p row) (either p row) e (sym (ap (λ (x : Asked). x.readable) e) ∙ not-false a.readable h)
-    where
-      count : length (tokens_in p row) ≡ last_nonblank (sn_cells p row)
-      count = length-take-le (last_nonblank (sn_cells p row)) (sn_cells p row) (last_within (sn_cells p row))
+  module _ (a : Asked) (h : o ≡ Some a) where
+    count : length (tokens_in p row) ≡ last_nonblank (sn_cells p row)
+    count = length-take-le (last_nonblank (sn_cells p row)) (sn_cells p row) (last_within (sn_cells p row))
 
-      go : (w : Row) → Either p row w → a ≡ told w → (told w).readable ≡ true → w ≡ Asks (cell_of p 0 row) a.swap (cell_of p 2 row) (take a.count (sn_cells p row))
-      go w none g f = absurd (true≢false (sym f))
-      go w (some swap) g f = rw (g, count)
+    asked_as : (swap : Bool) → told (Asks (cell_of p Class row) swap (cell_of p Tail row) (tokens_in p row)) ≡ Some a
+        → a ≡ record { swap = swap; count = last_nonblank (sn_cells p row) }
+    asked_as swap f = sym (same_Some (record { swap = swap; count = length (tokens_in p row) }) a f) ∙ (rw count refl)
 
-  -- the count is that of the tokens
-  pub asked-count : not a.readable ≡ false → a.count ≡ length (take a.count (sn_cells p row))
-  asked-count h = go (request_of p row) (either p row) e (sym (ap (λ (x : Asked). x.readable) e) ∙ not-false a.readable h)
-    where
-      count : length (tokens_in p row) ≡ last_nonblank (sn_cells p row)
-      count = length-take-le (last_nonblank (sn_cells p row)) (sn_cells p row) (last_within (sn_cells p row))
+    pub asked-request : request_of p row ≡ Asks (cell_of p Class row) a.swap (cell_of p Tail row) (take a.count (sn_cells p row))
+    asked-request = go (request_of p row) (either p row) (sym e ∙ h)
+      where
+        go : (w : Row) → Either p row w → told w ≡ Some a → w ≡ Asks (cell_of p Class row) a.swap (cell_of p Tail row) (take a.count (sn_cells p row))
+        go w none f = absurd (none-some a f)
+        go w (some swap) f = rw (asked_as swap f)
 
-      go : (w : Row) → Either p row w → a ≡ told w → (told w).readable ≡ true → a.count ≡ length (take a.count (sn_cells p row))
-      go w none g f = absurd (true≢false (sym f))
-      go w (some swap) g f = rw (g, count) (sym count)
+    -- the count is that of the tokens
+    pub asked-count : a.count ≡ length (take a.count (sn_cells p row))
+    asked-count = go (request_of p row) (either p row) (sym e ∙ h)
+      where
+        go : (w : Row) → Either p row w → told w ≡ Some a → a.count ≡ length (take a.count (sn_cells p row))
+        go w none f = absurd (none-some a f)
+        go w (some swap) f = rw (asked_as swap f) (sym count)

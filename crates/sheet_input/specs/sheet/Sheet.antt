@@ -1,6 +1,7 @@
 -- A row of a sheet. 01, Batch program: "42, place 0: a row over 2,048 bytes, of another cell count, or with a swap other than 0, 1 or blank".
 -- Assumes nothing.
-use Rattle.std.specs.Prelude.{ℕ, Bool, true, false, cond, List, length, eqb, ltb}
+use Rattle.std.specs.Prelude.{ℕ, Bool, true, false, cond, List, length, eqb, ltb, Option, None, Some}
+use Rattle.sheet_input.specs.declared.header.Column.TheVariants.{Class, Swap as SwapColumn, Tail}
 use Rattle.sheet_input.specs.declared.header.Plan.{Plan}
 use Rattle.sheet_input.specs.header.Header.{cells_of}
 use Rattle.sheet_input.specs.declared.cellwords.Swap.{Swap}
@@ -15,8 +16,8 @@ pub data Row : Type 0 where
   Asks : List ℕ → Bool → List ℕ → List (List ℕ) → Row
 
 abbrev pub with_swap : Swap → Plan → List ℕ → Row
-with_swap No p row = Asks (cell_of p 0 row) false (cell_of p 2 row) (tokens_in p row)
-with_swap Yes p row = Asks (cell_of p 0 row) true (cell_of p 2 row) (tokens_in p row)
+with_swap No p row = Asks (cell_of p Class row) false (cell_of p Tail row) (tokens_in p row)
+with_swap Yes p row = Asks (cell_of p Class row) true (cell_of p Tail row) (tokens_in p row)
 with_swap Other p row = Unreadable
 
 -- "a row over 2,048 bytes"
@@ -26,9 +27,9 @@ max_row = 2048
 unfoldable pub request_of : Plan → List ℕ → Row
 request_of p row =
     cond (ltb max_row (length row)) Unreadable
-    (cond (eqb (length (cells_of row)) p.cells) (with_swap (swap_of (cell_of p 1 row)) p row) Unreadable)
+    (cond (eqb (length (cells_of row)) p.cells) (with_swap (swap_of (cell_of p SwapColumn row)) p row) Unreadable)
 
--- what the code says of a row beside its cells
-abbrev pub told : Row → Asked
-told Unreadable = record { readable = false; swap = false; count = 0 }
-told (Asks class swap tail tokens) = record { readable = true; swap = swap; count = length tokens }
+-- what a row asks beside its cells, if it is readable
+abbrev pub told : Row → Option Asked
+told Unreadable = None
+told (Asks class swap tail tokens) = Some (record { swap = swap; count = length tokens })

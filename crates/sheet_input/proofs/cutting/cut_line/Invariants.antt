@@ -1,4 +1,4 @@
-use Prim.Native.Nat.{◌-◌, ◌≤◌}
+use Prim.Native.Nat.{◌≤◌}
 use mathlib.Core.Path.{◌≡◌}
 use lib.ListN.{length}
 use Rattle.sheet_input.proofs.cutting.LineLaws.{Along}
@@ -6,6 +6,3 @@ use Rattle.sheet_input.proofs.cutting.cut_line.Given as goal
 
 abbrev pub invariant-loop-i : goal.invariant-loop-i
 invariant-loop-i l = Along l.text l.starts l.i l.n × (l.i ≤ length l.text) × (l.n ≤ l.i) × (length l.starts ≡ length l.initial.starts)
-
-abbrev pub decreases-loop-i : goal.decreases-loop-i
-decreases-loop-i l = length l.text - l.i

@@ -1,5 +1,5 @@
 use Rattle.sheet_output.proofs.rows.Laws.{rest_after}
-use Prim.Native.Nat.{◌-◌, ◌≤◌}
+use Prim.Native.Nat.{◌≤◌}
 use mathlib.Core.Path.{◌≡◌}
 use lib.ListN.{length, take}
 use Rattle.writer.specs.emit.Text.{Written}
@@ -8,7 +8,4 @@ use Rattle.sheet_output.specs.rows.Chains.{carbons_of}
 use Rattle.sheet_output.proofs.rows.put_chains.Given as goal
 
 abbrev pub invariant-loop-i : goal.invariant-loop-i
-invariant-loop-i l = (l.i ≤ l.n) × (l.n ≤ 4) × (length l.t ≤ length l.index) × (length l.items ≡ 4) × Written l.initial.out l.at (chains_text (carbons_of (take l.i l.items) l.index)) l.out l.p × (l.t ≡ rest_after (take l.i l.items) l.index)
-
-abbrev pub decreases-loop-i : goal.decreases-loop-i
-decreases-loop-i l = l.n - l.i
+invariant-loop-i l = (l.n ≤ 4) × (length l.t ≤ length l.index) × (length l.items ≡ 4) × Written l.initial.out l.at (chains_text (carbons_of (take l.i l.items) l.index)) l.out l.p × (l.t ≡ rest_after (take l.i l.items) l.index)
