@@ -7,13 +7,12 @@ use mathlib.Core.Path.{◌≡◌, refl, sym, ◌∙◌}
 use mathlib.Core.Bool.{Bool, true, false, cond, ◌||◌}
 use mathlib.Core.List.{List, [], ◌∷◌, map}
 use lib.Dec.{eqb, leb}
-use lib.ListN.{length, take, drop, get_or, set, length-set, length-map, length-take, length-drop, get_or-map}
+use lib.ListN.{length, drop, get_or, set, length-set, length-take, length-drop, get_or-map}
 use borrow.Author.Tests.{leb-true, leb-false, eqb-true}
 use Rattle.group_table.specs.groups.Groups.{Entry, entries, blank, entry_at}
 use Rattle.group_table.proofs.groups.Laws.{every, every-at}
 use Rattle.chain_record.specs.declared.plain.Mod.{Mod}
 use Rattle.chain_record.specs.declared.plain.Ring.{Ring}
-use Rattle.chain_record.specs.codes.Codes.{group_in}
 use Rattle.drawn_chain.specs.drawable.Drawn.{Length, groups_in, no_group}
 use Rattle.carbons.specs.ByCarbon.{group_on, ring_on, carbonyl_on, busy_at, RowAtoms, group_atoms, load_at, Added, Busy}
 use Rattle.carbons.proofs.Fronts.{back_one, none_left}

@@ -44,11 +44,18 @@ pub struct Shape {
     pub ring_count: usize,
 }
 
+// How many elements of a slice a count counts.
+fn within<T>(xs: &[T], count: usize) -> usize
+    ensures { Length (length xs.now) (take count xs.now) result }
+{
+    xs.len().min(count)
+}
+
 // The elements of a slice that a count counts.
-pub(super) fn counted<T>(xs: &[T], count: usize) -> &[T]
+pub fn counted<T>(xs: &[T], count: usize) -> &[T]
     ensures { result.now ≡ take count xs.now }
 {
-    let n = xs.len().min(count);
+    let n = within(xs, count);
     &xs[..n]
 }
 
@@ -80,13 +87,6 @@ impl Shape {
     {
         counted(&part.rings, self.ring_count)
     }
-}
-
-// How many elements of a slice a count counts.
-fn within<T>(xs: &[T], count: usize) -> usize
-    ensures { Length (length xs.now) (take count xs.now) result }
-{
-    xs.len().min(count)
 }
 
 // How many double bonds there are.

@@ -8,7 +8,8 @@ pub mod reach;
 mod rooms;
 
 pub use drawable::{
-    BOND_ROOM, MAX_CHAINS, Shape, bonds_len, groups_len, nth_bond, nth_group, nth_ring, rings_len,
+    BOND_ROOM, MAX_CHAINS, Shape, bonds_len, counted, groups_len, nth_bond, nth_group, nth_ring,
+    rings_len,
 };
 pub use fitted::drawn_as;
 pub use reach::{drawn_count, literal_end, remaining};

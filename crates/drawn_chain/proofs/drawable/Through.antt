@@ -4,15 +4,19 @@
 use Prim.Native.Nat.{ℕ, ◌+◌, ◌<◌, ◌≤◌, max}
 use native.Mathlib.Numerals.{add-one}
 use native.Mathlib.Omega.{arith}
-use mathlib.Core.Path.{◌≡◌, sym, ◌∙◌}
+use mathlib.Core.Path.{◌≡◌, refl, sym, ◌∙◌}
 use mathlib.Core.Bool.{Bool, true, false}
 use mathlib.Core.List.{List, [], ◌∷◌, ◌++◌, map, append_assoc, append-nil}
-use lib.ListN.{drop, get_or, drop_of_length-le}
+use lib.ListN.{length, drop, get_or, drop_of_length-le}
 use lib.Seq.{drop-cons}
 use lib.Dec.{ltb}
 use borrow.Author.Tests.{lt-ltb, le-ltb}
 use Rattle.chain_rules.specs.chain.Lists.{any_of, all_of, any_two, only, largest}
 use Rattle.drawn_chain.specs.drawable.Drawn.{Length}
+
+-- a list is as long as it is
+pub listed : {A : Type 0} (l : List A) → Length (length l) l (length l)
+listed l = record { is = refl; fits = omega arith }
 
 -- the element at i stands first in what is left
 left_here : {A : Type 0} (room : ℕ) (l : List A) (n i : ℕ) (d a : A) → Length room l n → i < n → a ≡ get_or l i d → drop i l ≡ a ∷ drop (i + 1) l
@@ -37,6 +41,18 @@ module _ {A : Type 0} (v : Bool) (test : A → Bool) (room : ℕ) (l : List A) (
   pub any_none : n ≤ i → false ≡ v
   unfolding any_of
   any_none h = sym (same ∙ rw (left-none room l n i w h))
+
+-- ---- the same of a list that is gone through whole
+
+module _ {A : Type 0} (v : Bool) (test : A → Bool) (l : List A) (i : ℕ) (same : v ≡ any_of test (drop i l)) where
+  pub any-found : (d : A) (t : Bool) → i < length l → t ≡ test (get_or l i d) → t ≡ true → true ≡ v
+  any-found d t h f g = any_here v test (length l) l (length l) i d (get_or l i d) t (listed l) same h refl f g
+
+  pub any-passed : (d : A) (t : Bool) → i < length l → t ≡ test (get_or l i d) → t ≡ false → v ≡ any_of test (drop (i + 1) l)
+  any-passed d t h f g = any_next v test (length l) l (length l) i d (get_or l i d) t (listed l) same h refl f g
+
+  pub any-over : length l ≤ i → false ≡ v
+  any-over h = any_none v test (length l) l (length l) i (listed l) same h
 
 -- ---- whether two elements stand in a relation
 

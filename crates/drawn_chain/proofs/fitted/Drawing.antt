@@ -1,6 +1,6 @@
 -- Laws of a chain as it is drawn: what each step of `drawn_as` makes of the lists.
 -- Assumes nothing.
-use Prim.Native.Nat.{ℕ, zero, suc, ◌+◌, ◌<◌, ◌≤◌, ◌^◌, min}
+use Prim.Native.Nat.{ℕ, zero, suc, ◌+◌, ◌<◌, ◌≤◌, min}
 use native.Mathlib.Numerals.{add-one}
 use native.Mathlib.Omega.{arith}
 use mathlib.Core.Path.{◌≡◌, refl, sym, ap, ◌∙◌}
@@ -8,7 +8,7 @@ use mathlib.Core.Bool.{Bool, true, false, cond, not}
 use mathlib.Core.List.{List, [], ◌∷◌, ◌++◌, map, append_assoc, append-nil}
 use lib.Dec.{eqb}
 use lib.ListN.{length, take, drop, set, get_or, length-append, length-take, length-set}
-use lib.Seq.{take-suc, take-suc-set, take-set-le, take_all, take-append-le, take-append-add, take-take, get_or-take}
+use lib.Seq.{take-suc, take-suc-set, take-set-le, take_all, take-append-add, take-take}
 use borrow.Author.Tests.{eq-eqb, ne_eqb}
 use Rattle.chain_record.specs.declared.plain.ChainPrefix.{ChainPrefix}
 use Rattle.chain_record.specs.declared.plain.ChainPrefix.TheVariants as prefix
@@ -292,9 +292,6 @@ pub bonds-drawn : (r : Role) (d : Chain) (p : Pieces) (k n : ℕ) (ys : List DbP
     → bonds_in (k + n) ys ≡ take k (alkenyl ∷ []) ++ bonds_in n p.bonds → bonds_in (k + n) ys ≡ doubles r (pieces_as d p)
 unfolding doubles
 bonds-drawn r d p k n ys e f h = h ∙ rw (e, alkenyl-front r p.prefix, f)
-
-pub adds_fit : (r : Role) (p : ChainPrefix) (k m n : ℕ) → k ≡ length (alkenyl_bond r p) → n ≡ min m 32 → k + n < 2 ^ 64
-adds_fit r p k m n e f = omega (arith, adds-few r p k e)
 
 pub groups-drawn : (r : Role) (d : Chain) (p : Pieces) (n : ℕ) (k m : List Mod) → n ≡ min p.group_count 16 → k ≡ located (groups_in n p.groups)
     → m ≡ take 18 (k ++ base_oxygens r p.prefix k) → m ≡ groups_on r (pieces_as d p)

@@ -2,6 +2,7 @@
 use Rattle.std.specs.Prelude.{ℕ, zero, suc, ◌≡◌, List, [], ◌∷◌}
 use Rattle.std.proofs.Math.Option.{Option, none, some}
 use Rattle.drawn_chain.specs.declared.drawable.Shape.{Shape}
+use Rattle.drawn_chain.specs.declared.rooms.Lists.{Lists}
 use Rattle.drawn_chain.specs.drawable.Drawn.{Drawn, drawn_of}
 use Rattle.drawn_chain.specs.drawable.Chains.{Chains, drawn_in, part_of}
 use Rattle.request_chains.specs.chain_shapes.Shapes.{chains_kept}
@@ -21,6 +22,6 @@ IsDrawn (some x) f = f ≡ x
 pub record ChainAt (x : Chains) (sn : ℕ) (f : Drawn) : Type 0 where
   pub is : IsDrawn (drawn_at sn (drawn_in x)) f
 
--- the chain of an sn is x with the part of that sn, whatever array the parts stand in
+-- the chain of an sn is x with the lists of that sn, whatever array the lists stand in
 pub record ShapeAt (n : ℕ) (xs : List Shape) (sn : ℕ) (x : Shape) : Type 0 where
-  pub is : (l : List ℕ) → ChainAt (chains_kept n xs l) sn (drawn_of x (part_of sn l))
+  pub is : (l : List Lists) → ChainAt (chains_kept n xs l) sn (drawn_of x (part_of sn l))
