@@ -175,7 +175,7 @@ fn branched_chain(
     prefix: ChainPrefix,
     offset: u16,
     written: u16,
-    groups: &mut [u64],
+    groups: &mut [Mod],
 ) -> Result<Start, Refusal>
     requires offset_bound { offset ≤ 2 }
     requires max_groups_in_bounds { max_groups ≤ length groups.old }
@@ -204,7 +204,7 @@ fn start_chain(
     prefix: ChainPrefix,
     branch: Branch,
     written: u16,
-    groups: &mut [u64],
+    groups: &mut [Mod],
 ) -> Result<Start, Refusal>
     requires { max_groups ≤ length groups.old }
     ensures { Starts result groups.new (start_chain prefix branch written) }
@@ -228,7 +228,7 @@ pub fn parse_carbons(
     text: &[u8],
     prefix: ChainPrefix,
     branch: Branch,
-    groups: &mut [u64],
+    groups: &mut [Mod],
 ) -> Result<Start, Refusal>
     requires { max_groups ≤ length groups.old }
     ensures { Starts result groups.new (carbons_of prefix branch text.now) }

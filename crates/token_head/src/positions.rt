@@ -77,7 +77,7 @@ pub fn parse_ring_bonds(
     s: &[u8],
     start: u64,
     end: u64,
-    bonds: &mut [u64],
+    bonds: &mut [DbPos],
     count: usize,
 ) -> Result<usize, Refusal>
     requires { max_bonds ≤ length bonds.old }
@@ -102,7 +102,7 @@ pub fn parse_ring_bonds(
 }
 
 // The double bonds of the `(..)` list: every number that can be read is below 4,294,967,296, so none is out of range.
-pub fn parse_position_list(s: &[u8], bonds: &mut [u64], count: usize) -> Result<usize, Refusal>
+pub fn parse_position_list(s: &[u8], bonds: &mut [DbPos], count: usize) -> Result<usize, Refusal>
     requires { max_bonds ≤ length bonds.old }
     ensures { Pushes bonds_as count bonds.old result bonds.new (bond_list s.now) }
 {

@@ -6,7 +6,7 @@ ghost use Rattle.chain_record.specs.plain.Chain.{max_bonds, max_rings};
 ghost use Rattle.token_segments.specs.ring.Ring.{ring_list, ring_listed, ring_bonds, ring_sized, ring_segment};
 ghost use Rattle.chain_record.specs.parsed.Parsed.{Collects, gather, ungrouped_as, on};
 
-use chain_record::{Counts, Refusal, Ring};
+use chain_record::{Counts, DbPos, Refusal, Ring};
 use token_features::Segment;
 
 // A ring's list of at most n positions, and then the ring.
@@ -14,8 +14,8 @@ fn parse_ring_list(
     ring: Ring,
     n: u64,
     list: &[u8],
-    bonds: &mut [u64],
-    rings: &mut [u64],
+    bonds: &mut [DbPos],
+    rings: &mut [Ring],
     counts: Counts,
 ) -> Result<Counts, Refusal>
     requires max_bonds_in_bounds { max_bonds ≤ length bonds.old }
@@ -42,8 +42,8 @@ fn parse_ring_listed(
     ring: Ring,
     n: u64,
     s: &[u8],
-    bonds: &mut [u64],
-    rings: &mut [u64],
+    bonds: &mut [DbPos],
+    rings: &mut [Ring],
     counts: Counts,
 ) -> Result<Counts, Refusal>
     requires max_bonds_in_bounds { max_bonds ≤ length bonds.old }
@@ -60,8 +60,8 @@ fn parse_ring_listed(
 fn parse_ring_bond_count(
     ring: Ring,
     s: &[u8],
-    bonds: &mut [u64],
-    rings: &mut [u64],
+    bonds: &mut [DbPos],
+    rings: &mut [Ring],
     counts: Counts,
 ) -> Result<Counts, Refusal>
     requires max_bonds_in_bounds { max_bonds ≤ length bonds.old }
@@ -86,8 +86,8 @@ fn parse_ring_size(
     end: u64,
     s: &[u8],
     carbon: u16,
-    bonds: &mut [u64],
-    rings: &mut [u64],
+    bonds: &mut [DbPos],
+    rings: &mut [Ring],
     counts: Counts,
 ) -> Result<Counts, Refusal>
     requires max_bonds_in_bounds { max_bonds ≤ length bonds.old }
@@ -116,8 +116,8 @@ pub fn parse_ring_segment(
     dash: usize,
     cy: usize,
     carbon: u16,
-    bonds: &mut [u64],
-    rings: &mut [u64],
+    bonds: &mut [DbPos],
+    rings: &mut [Ring],
     counts: Counts,
 ) -> Result<Counts, Refusal>
     requires dash_lt_cy { (dash < cy) × (cy + 2 ≤ length s.now) }

@@ -7,12 +7,12 @@ ghost use Rattle.chain_record.specs.parsed.Parsed.{Grows, Pushes, Collects, firs
 ghost use Rattle.token_segments.specs.segment.Segment.{copies, many_times, with_segment, listed_at, plain_list, listed_feature, listed_segment, comma_parts, modification, segment_at, segments};
 
 use super::ring;
-use chain_record::{Counts, MAX_GROUPS, Mod, Refusal};
+use chain_record::{Counts, DbPos, MAX_GROUPS, Mod, Refusal, Ring};
 use token_features::{Feature, Segment};
 use token_syntax::Form;
 
 // A group n times.
-fn push_copies(group: Mod, n: u32, groups: &mut [u64], count: usize) -> usize
+fn push_copies(group: Mod, n: u32, groups: &mut [Mod], count: usize) -> usize
     requires { max_groups ≤ length groups.old }
     ensures { Grows groups_as (first count groups.old) (first result groups.new) (copies n group) }
 {
@@ -26,7 +26,7 @@ fn push_copies(group: Mod, n: u32, groups: &mut [u64], count: usize) -> usize
 }
 
 // Groups without a position. The counts are compared before any copy is made.
-fn push_repeated(row: u8, times: u32, groups: &mut [u64], count: usize) -> Result<usize, Refusal>
+fn push_repeated(row: u8, times: u32, groups: &mut [Mod], count: usize) -> Result<usize, Refusal>
     requires { max_groups ≤ length groups.old }
     ensures { Pushes groups_as count groups.old result groups.new (many_times times (record { pos = 0; row = row })) }
 {
@@ -42,8 +42,8 @@ fn push_repeated(row: u8, times: u32, groups: &mut [u64], count: usize) -> Resul
 // What a piece of a segment adds.
 fn add_segment(
     segment: Segment,
-    groups: &mut [u64],
-    rings: &mut [u64],
+    groups: &mut [Mod],
+    rings: &mut [Ring],
     counts: Counts,
 ) -> Result<Counts, Refusal>
     requires max_groups_in_bounds { max_groups ≤ length groups.old }
@@ -70,8 +70,8 @@ fn parse_plain_position(
     s: &[u8],
     feature: Feature,
     carbon: u16,
-    groups: &mut [u64],
-    rings: &mut [u64],
+    groups: &mut [Mod],
+    rings: &mut [Ring],
     counts: Counts,
 ) -> Result<Counts, Refusal>
     requires max_groups_in_bounds { max_groups ≤ length groups.old }
@@ -87,8 +87,8 @@ fn parse_plain_position_list(
     s: &[u8],
     feature: Feature,
     carbon: u16,
-    groups: &mut [u64],
-    rings: &mut [u64],
+    groups: &mut [Mod],
+    rings: &mut [Ring],
     counts: Counts,
 ) -> Result<Counts, Refusal>
     requires max_groups_in_bounds { max_groups ≤ length groups.old }
@@ -115,8 +115,8 @@ fn parse_listed_feature(
     feature: Feature,
     list: &[u8],
     carbon: u16,
-    groups: &mut [u64],
-    rings: &mut [u64],
+    groups: &mut [Mod],
+    rings: &mut [Ring],
     counts: Counts,
 ) -> Result<Counts, Refusal>
     requires max_groups_in_bounds { max_groups ≤ length groups.old }
@@ -137,8 +137,8 @@ fn parse_listed_segment(
     abbr: &[u8],
     s: &[u8],
     carbon: u16,
-    groups: &mut [u64],
-    rings: &mut [u64],
+    groups: &mut [Mod],
+    rings: &mut [Ring],
     counts: Counts,
 ) -> Result<Counts, Refusal>
     requires max_groups_in_bounds { max_groups ≤ length groups.old }
@@ -156,8 +156,8 @@ fn parse_listed_segment(
 fn parse_parts(
     s: &[u8],
     carbon: u16,
-    groups: &mut [u64],
-    rings: &mut [u64],
+    groups: &mut [Mod],
+    rings: &mut [Ring],
     counts: Counts,
 ) -> Result<Counts, Refusal>
     requires max_groups_in_bounds { max_groups ≤ length groups.old }
@@ -181,9 +181,9 @@ fn parse_parts(
 fn parse_modification_segment(
     s: &[u8],
     carbon: u16,
-    bonds: &mut [u64],
-    groups: &mut [u64],
-    rings: &mut [u64],
+    bonds: &mut [DbPos],
+    groups: &mut [Mod],
+    rings: &mut [Ring],
     counts: Counts,
 ) -> Result<Counts, Refusal>
     requires max_bonds_in_bounds { max_bonds ≤ length bonds.old }
@@ -212,9 +212,9 @@ fn parse_modification_segment(
 fn parse_segment(
     s: &[u8],
     carbon: u16,
-    bonds: &mut [u64],
-    groups: &mut [u64],
-    rings: &mut [u64],
+    bonds: &mut [DbPos],
+    groups: &mut [Mod],
+    rings: &mut [Ring],
     counts: Counts,
 ) -> Result<Counts, Refusal>
     requires max_bonds_in_bounds { max_bonds ≤ length bonds.old }
@@ -234,9 +234,9 @@ fn parse_segment(
 pub fn parse_segments(
     cursor: &[u8],
     carbon: u16,
-    bonds: &mut [u64],
-    groups: &mut [u64],
-    rings: &mut [u64],
+    bonds: &mut [DbPos],
+    groups: &mut [Mod],
+    rings: &mut [Ring],
     counts: Counts,
 ) -> Result<Counts, Refusal>
     requires max_bonds_in_bounds { max_bonds ≤ length bonds.old }

@@ -1,11 +1,11 @@
 -- Laws of the chain record and of its parts: what a push keeps, and how answers are put together.
 -- Assumes nothing.
-use Prim.Native.Nat.{ℕ, ◌+◌, ◌<◌, ◌≤◌, ◌^◌, min}
+use Prim.Native.Nat.{ℕ, ◌+◌, ◌<◌, ◌≤◌, min}
 use native.Mathlib.Numerals.{add-one}
 use native.Mathlib.Omega.{arith}
 use mathlib.Core.Path.{◌≡◌, refl, sym, ap, ◌∙◌}
 use mathlib.Core.Bool.{Bool, true, false, cond}
-use mathlib.Core.List.{List, [], ◌∷◌, ◌++◌, map, map-append}
+use mathlib.Core.List.{List, [], ◌∷◌, ◌++◌}
 use lib.ListN.{length, take, set, length-append}
 use lib.Seq.{take-suc-set, take_all, take-append-le}
 use lib.Dec.{ltb}
@@ -15,46 +15,48 @@ use Rattle.chain_record.specs.declared.plain.DbPos.{DbPos}
 use Rattle.chain_record.specs.declared.plain.Mod.{Mod}
 use Rattle.chain_record.specs.declared.plain.Ring.{Ring}
 use Rattle.chain_record.specs.plain.Chain.{Chain, Outcome, Read, Refused, and_then, no_features, with_bond, with_group, with_ring, with_oxygens, counts_of, max_bonds, max_groups, max_rings}
-use Rattle.chain_record.specs.codes.Codes.{bond_in, group_in, ring_in, bond_code, group_code, ring_code}
-use Rattle.chain_record.proofs.codes.Laws.{bond-back, group-back, ring-back}
 use Rattle.chain_record.specs.declared.parsed.ParsedChain.{ParsedChain}
 use Rattle.chain_record.specs.declared.parsed.Counts.{Counts}
 use Rattle.std.specs.Prelude.{Result, Ok, Err}
 use Rattle.std.specs.Result.{IsErrAnd}
 use Rattle.chain_record.specs.declared.refusal.Refusal.{Refusal}
 use Rattle.chain_record.specs.declared.refusal.Refusal.TheVariants.{OverLimit}
-use Rattle.chain_record.specs.parsed.Parsed.{Keeps, Holds, Answer, Has, Refuses, answered, Stands, Takes, Gives, first, bonds_as, groups_as, rings_as, counts_as, gather, all_as, ungrouped_as, unbonded_as, carbon_as, on, Grows, Fills, counted, Judges, Collects, checked}
+use Rattle.chain_record.specs.parsed.Parsed.{Keeps, Adds, Holds, Answer, Has, Refuses, answered, Stands, Takes, Gives, first, bonds_as, groups_as, rings_as, counts_as, gather, all_as, ungrouped_as, unbonded_as, carbon_as, on, Grows, Fills, counted, Judges, Collects, checked}
 
 -- ---- one element more in an array
 
-module _ {A : Type 0} (of : ℕ → A) (limit : ℕ) (xs : List ℕ) (n : ℕ) (l : List A) (v : A) (k : Keeps of limit xs n l) where
-  -- below the limit it is stored, as a number that stands for it
-  pub keeps-one : (i : ℕ) → of i ≡ v → limit ≤ length xs → n < limit → Keeps of limit (set xs n i) (n + 1) (l ++ (v ∷ []))
-  keeps-one i e g h = record { counted = omega (arith, k.counted, length-append l (v ∷ [])); kept = stored }
-    where
-      all : n ≡ length l
-      all = omega (arith, k.counted)
+module _ {A : Type 0} (limit : ℕ) (xs : List A) (n : ℕ) (v : A) where
+  module _ (l : List A) (k : Keeps limit xs n l) where
+    -- below the limit it is stored
+    keeps-one : limit ≤ length xs → n < limit → Keeps limit (set xs n v) (n + 1) (l ++ (v ∷ []))
+    keeps-one g h = record { counted = omega (arith, k.counted, length-append l (v ∷ [])); kept = stored }
+      where
+        before : take n xs ≡ l
+        before =
+            let a : min n limit ≡ n = omega arith in
+            (rw a at k.kept) ∙ take_all limit l (omega (arith, k.counted))
 
-      before : map of (take n xs) ≡ l
-      before =
-          let a : min n limit ≡ n = omega arith in
-          (rw a at k.kept) ∙ take_all limit l (omega arith)
+        stored : take (min (n + 1) limit) (set xs n v) ≡ take limit (l ++ (v ∷ []))
+        stored =
+            let a : min (n + 1) limit ≡ n + 1 = omega arith in
+            rw (a, add-one n, take-suc-set xs n v (omega arith), before) (sym (take_all limit (l ++ (v ∷ [])) (omega (arith, k.counted, length-append l (v ∷ [])))))
 
-      stored : map of (take (min (n + 1) limit) (set xs n i)) ≡ take limit (l ++ (v ∷ []))
-      stored =
-          let a : min (n + 1) limit ≡ n + 1 = omega arith in
-          rw (a, add-one n, take-suc-set xs n i (omega arith), map-append of (take n xs) (i ∷ []), before, e) (sym (take_all limit (l ++ (v ∷ [])) (omega (arith, length-append l (v ∷ [])))))
+    -- at the limit it is counted
+    keeps-full : limit ≤ n → Keeps limit xs (limit + 1) (l ++ (v ∷ []))
+    keeps-full h = record { counted = omega (arith, k.counted, length-append l (v ∷ [])); kept = same }
+      where
+        same : take (min (limit + 1) limit) xs ≡ take limit (l ++ (v ∷ []))
+        same =
+            let a : min (limit + 1) limit ≡ min n limit = omega arith in
+            rw a k.kept ∙ sym (take-append-le limit l (v ∷ []) (omega (arith, k.counted)))
 
-  -- at the limit it is counted
-  pub keeps-full : limit ≤ n → Keeps of limit xs (limit + 1) (l ++ (v ∷ []))
-  keeps-full h = record { counted = omega (arith, k.counted, length-append l (v ∷ [])); kept = same }
-    where
-      same : map of (take (min (limit + 1) limit) xs) ≡ take limit (l ++ (v ∷ []))
-      same =
-          let a : min (limit + 1) limit ≡ min n limit = omega arith in
-          rw a k.kept ∙ sym (take-append-le limit l (v ∷ []) (omega (arith, k.counted)))
+  pub adds-one : limit ≤ length xs → n < limit → Adds limit (first n xs) (first (n + 1) (set xs n v)) v
+  adds-one g h = record { keeps = λ l k. keeps-one l k g h }
 
-module _ {A : Type 0} {of : ℕ → A} {limit : ℕ} {xs : List ℕ} {n : ℕ} {l : List A} (k : Keeps of limit xs n l) where
+  pub adds-full : limit ≤ n → Adds limit (first n xs) (first (limit + 1) xs) v
+  adds-full h = record { keeps = λ l k. keeps-full l k h }
+
+module _ {A : Type 0} {limit : ℕ} {xs : List A} {n : ℕ} {l : List A} (k : Keeps limit xs n l) where
   -- a count over the limit is a list over the limit
   pub keeps-over : limit < n → limit < length l
   keeps-over h = omega (arith, k.counted)
@@ -66,48 +68,30 @@ module _ {A : Type 0} {of : ℕ → A} {limit : ℕ} {xs : List ℕ} {n : ℕ} {
   pub keeps-count : length l ≤ limit → n ≡ length l
   keeps-count h = omega (arith, k.counted)
 
-  pub keeps-all : length l ≤ limit → map of (take n xs) ≡ l
+  pub keeps-all : length l ≤ limit → take n xs ≡ l
   keeps-all h =
       let a : min n limit ≡ n = omega (arith, k.counted) in
       (rw a at k.kept) ∙ take_all limit l h
 
 -- ---- one feature more on a chain
 
-module _ (xs : List ℕ) (n : ℕ) (v : DbPos) where
-  pub bond-kept : (i : ℕ) → i ≡ bond_code v → v.pos < 2 ^ 32 → 32 ≤ length xs → n < 32 → Grows bonds_as (first n xs) (first (n + 1) (set xs n i)) (with_bond v)
-  unfolding with_bond
-  bond-kept i e p l h =
-      record { takes = λ x. record { holds = λ d k. record { prefix = k.prefix; written = k.written; carbon = k.carbon; branched = k.branched; unlocated = k.unlocated; oxygens = k.oxygens; bonds = keeps-one bond_in max_bonds xs n d.bonds v k.bonds i (ap bond_in e ∙ bond-back v p) l h; groups = k.groups; rings = k.rings } } }
+pub bond-grows : (xs ys : List DbPos) (n m : ℕ) (v : DbPos) → Adds 32 (first n xs) (first m ys) v → Grows bonds_as (first n xs) (first m ys) (with_bond v)
+unfolding with_bond
+bond-grows xs ys n m v a =
+    record { takes = λ x. record { holds = λ d k. record { prefix = k.prefix; written = k.written; carbon = k.carbon; branched = k.branched; unlocated = k.unlocated; oxygens = k.oxygens; bonds = a.keeps d.bonds k.bonds; groups = k.groups; rings = k.rings } } }
 
-  pub bond-over : 32 ≤ n → Grows bonds_as (first n xs) (first (32 + 1) xs) (with_bond v)
-  unfolding with_bond
-  bond-over h =
-      record { takes = λ x. record { holds = λ d k. record { prefix = k.prefix; written = k.written; carbon = k.carbon; branched = k.branched; unlocated = k.unlocated; oxygens = k.oxygens; bonds = keeps-full bond_in max_bonds xs n d.bonds v k.bonds h; groups = k.groups; rings = k.rings } } }
+pub group-grows : (xs ys : List Mod) (n m : ℕ) (v : Mod) → Adds 16 (first n xs) (first m ys) v → Grows groups_as (first n xs) (first m ys) (with_group v)
+unfolding with_group
+group-grows xs ys n m v a =
+    record { takes = λ x. record { holds = λ d k. record { prefix = k.prefix; written = k.written; carbon = k.carbon; branched = k.branched; unlocated = k.unlocated; oxygens = k.oxygens; bonds = k.bonds; groups = a.keeps d.groups k.groups; rings = k.rings } } }
 
-module _ (xs : List ℕ) (n : ℕ) (v : Mod) where
-  pub group-kept : (i : ℕ) → i ≡ group_code v → v.pos < 2 ^ 32 → v.row < 2 ^ 8 → 16 ≤ length xs → n < 16 → Grows groups_as (first n xs) (first (n + 1) (set xs n i)) (with_group v)
-  unfolding with_group
-  group-kept i e p q l h =
-      record { takes = λ x. record { holds = λ d k. record { prefix = k.prefix; written = k.written; carbon = k.carbon; branched = k.branched; unlocated = k.unlocated; oxygens = k.oxygens; bonds = k.bonds; groups = keeps-one group_in max_groups xs n d.groups v k.groups i (ap group_in e ∙ group-back v p q) l h; rings = k.rings } } }
-
-  pub group-over : 16 ≤ n → Grows groups_as (first n xs) (first (16 + 1) xs) (with_group v)
-  unfolding with_group
-  group-over h =
-      record { takes = λ x. record { holds = λ d k. record { prefix = k.prefix; written = k.written; carbon = k.carbon; branched = k.branched; unlocated = k.unlocated; oxygens = k.oxygens; bonds = k.bonds; groups = keeps-full group_in max_groups xs n d.groups v k.groups h; rings = k.rings } } }
-
-module _ (xs : List ℕ) (n : ℕ) (v : Ring) where
-  pub ring-kept : (i : ℕ) → i ≡ ring_code v → v.start < 2 ^ 16 → v.end < 2 ^ 16 → 8 ≤ length xs → n < 8 → Grows rings_as (first n xs) (first (n + 1) (set xs n i)) (with_ring v)
-  unfolding with_ring
-  ring-kept i e p q l h =
-      record { takes = λ x. record { holds = λ d k. record { prefix = k.prefix; written = k.written; carbon = k.carbon; branched = k.branched; unlocated = k.unlocated; oxygens = k.oxygens; bonds = k.bonds; groups = k.groups; rings = keeps-one ring_in max_rings xs n d.rings v k.rings i (ap ring_in e ∙ ring-back v p q) l h } } }
-
-  pub ring-over : 8 ≤ n → Grows rings_as (first n xs) (first (8 + 1) xs) (with_ring v)
-  unfolding with_ring
-  ring-over h =
-      record { takes = λ x. record { holds = λ d k. record { prefix = k.prefix; written = k.written; carbon = k.carbon; branched = k.branched; unlocated = k.unlocated; oxygens = k.oxygens; bonds = k.bonds; groups = k.groups; rings = keeps-full ring_in max_rings xs n d.rings v k.rings h } } }
+pub ring-grows : (xs ys : List Ring) (n m : ℕ) (v : Ring) → Adds 8 (first n xs) (first m ys) v → Grows rings_as (first n xs) (first m ys) (with_ring v)
+unfolding with_ring
+ring-grows xs ys n m v a =
+    record { takes = λ x. record { holds = λ d k. record { prefix = k.prefix; written = k.written; carbon = k.carbon; branched = k.branched; unlocated = k.unlocated; oxygens = k.oxygens; bonds = k.bonds; groups = k.groups; rings = a.keeps d.rings k.rings } } }
 
 -- nothing on it yet, whatever the arrays are
-pub holds-none : (p : ChainPrefix) (w c : ℕ) (b : Bool) (bs gs rs : List ℕ)
+pub holds-none : (p : ChainPrefix) (w c : ℕ) (b : Bool) (bs : List DbPos) (gs : List Mod) (rs : List Ring)
     → Holds (record { prefix = p; written = w; carbon = c; branched = b; unlocated = 0; oxygens = 0; bond_count = 0; bonds = bs; group_count = 0; groups = gs; ring_count = 0; rings = rs }) (no_features p w c b)
 holds-none p w c b bs gs rs =
     record { prefix = refl; written = refl; carbon = refl; branched = refl; unlocated = refl; oxygens = refl; bonds = record { counted = refl; kept = refl }; groups = record { counted = refl; kept = refl }; rings = record { counted = refl; kept = refl } }
@@ -132,7 +116,7 @@ module _ (c : Counts) where
   none-many b g r = rw (le-ltb max_bonds c.bonds b, le-ltb max_groups c.groups g, le-ltb max_rings c.rings r)
 
 -- a count is over its limit exactly where its list is
-keeps-test : {A : Type 0} {of : ℕ → A} {limit : ℕ} {xs : List ℕ} {n : ℕ} {l : List A} → Keeps of limit xs n l → ltb limit n ≡ ltb limit (length l)
+keeps-test : {A : Type 0} {limit : ℕ} {xs : List A} {n : ℕ} {l : List A} → Keeps limit xs n l → ltb limit n ≡ ltb limit (length l)
 keeps-test {limit = limit} {n = n} {l} k = go (ltb limit n) refl
   where
     go : (b : Bool) → ltb limit n ≡ b → b ≡ ltb limit (length l)
@@ -231,49 +215,49 @@ module _ {S : Type 0} {put : ParsedChain → S → ParsedChain} where
 
 -- what is done to one array, among several
 
-pub ring-ungrouped : (k : Counts) (m : ℕ) (bs gs rs ys : List ℕ) (f : Chain → Chain) → Grows rings_as (first k.rings rs) (first m ys) f
+pub ring-ungrouped : (k : Counts) (m : ℕ) (bs : List DbPos) (gs : List Mod) (rs ys : List Ring) (f : Chain → Chain) → Grows rings_as (first k.rings rs) (first m ys) f
     → Grows ungrouped_as (gather k bs gs rs) (gather (record { bonds = k.bonds; groups = k.groups; rings = m; oxygens = k.oxygens }) bs gs ys) f
 ring-ungrouped k m bs gs rs ys f w = record { takes = λ x. w.takes (ungrouped_as x (gather k bs gs rs)) }
 
-module _ (k : Counts) (bs gs rs : List ℕ) (f : Chain → Outcome) where
-  pub bonds-ungrouped : (m : ℕ) (ys : List ℕ) → Fills bonds_as (first k.bonds bs) (Has (first m ys)) f
+module _ (k : Counts) (bs : List DbPos) (gs : List Mod) (rs : List Ring) (f : Chain → Outcome) where
+  pub bonds-ungrouped : (m : ℕ) (ys : List DbPos) → Fills bonds_as (first k.bonds bs) (Has (first m ys)) f
       → Fills ungrouped_as (gather k bs gs rs) (Has (gather (record { bonds = m; groups = k.groups; rings = k.rings; oxygens = k.oxygens }) ys gs rs)) f
   bonds-ungrouped m ys w = record { gives = λ x. w.gives (ungrouped_as x (gather k bs gs rs)) }
 
   pub bonds-ungrouped-refused : (n : ℕ) → Fills bonds_as (first k.bonds bs) (Refuses n) f → Fills ungrouped_as (gather k bs gs rs) (Refuses n) f
   bonds-ungrouped-refused n w = record { gives = λ x. w.gives (ungrouped_as x (gather k bs gs rs)) }
 
-  pub groups-unbonded : (m : ℕ) (ys : List ℕ) → Fills groups_as (first k.groups gs) (Has (first m ys)) f
+  pub groups-unbonded : (m : ℕ) (ys : List Mod) → Fills groups_as (first k.groups gs) (Has (first m ys)) f
       → Fills unbonded_as (gather k bs gs rs) (Has (gather (record { bonds = k.bonds; groups = m; rings = k.rings; oxygens = k.oxygens }) bs ys rs)) f
   groups-unbonded m ys w = record { gives = λ x. w.gives (unbonded_as x (gather k bs gs rs)) }
 
   pub groups-unbonded-refused : (n : ℕ) → Fills groups_as (first k.groups gs) (Refuses n) f → Fills unbonded_as (gather k bs gs rs) (Refuses n) f
   groups-unbonded-refused n w = record { gives = λ x. w.gives (unbonded_as x (gather k bs gs rs)) }
 
-module _ (k : Counts) (m : ℕ) (bs gs rs ys : List ℕ) (f : Chain → Chain) where
-  pub ring-unbonded : Grows rings_as (first k.rings rs) (first m ys) f → Grows unbonded_as (gather k bs gs rs) (gather (record { bonds = k.bonds; groups = k.groups; rings = m; oxygens = k.oxygens }) bs gs ys) f
-  ring-unbonded w = record { takes = λ x. w.takes (unbonded_as x (gather k bs gs rs)) }
+module _ (k : Counts) (m : ℕ) (bs : List DbPos) (gs : List Mod) (rs : List Ring) (f : Chain → Chain) where
+  pub ring-unbonded : (ys : List Ring) → Grows rings_as (first k.rings rs) (first m ys) f → Grows unbonded_as (gather k bs gs rs) (gather (record { bonds = k.bonds; groups = k.groups; rings = m; oxygens = k.oxygens }) bs gs ys) f
+  ring-unbonded ys w = record { takes = λ x. w.takes (unbonded_as x (gather k bs gs rs)) }
 
-  pub group-unbonded : Grows groups_as (first k.groups gs) (first m ys) f → Grows unbonded_as (gather k bs gs rs) (gather (record { bonds = k.bonds; groups = m; rings = k.rings; oxygens = k.oxygens }) bs ys rs) f
-  group-unbonded w = record { takes = λ x. w.takes (unbonded_as x (gather k bs gs rs)) }
+  pub group-unbonded : (ys : List Mod) → Grows groups_as (first k.groups gs) (first m ys) f → Grows unbonded_as (gather k bs gs rs) (gather (record { bonds = k.bonds; groups = m; rings = k.rings; oxygens = k.oxygens }) bs ys rs) f
+  group-unbonded ys w = record { takes = λ x. w.takes (unbonded_as x (gather k bs gs rs)) }
 
 -- the last oxygen count
-pub oxygens-set : (k : Counts) (n : ℕ) (bs gs rs : List ℕ) → Grows unbonded_as (gather k bs gs rs) (gather (record { bonds = k.bonds; groups = k.groups; rings = k.rings; oxygens = n }) bs gs rs) (with_oxygens n)
+pub oxygens-set : (k : Counts) (n : ℕ) (bs : List DbPos) (gs : List Mod) (rs : List Ring) → Grows unbonded_as (gather k bs gs rs) (gather (record { bonds = k.bonds; groups = k.groups; rings = k.rings; oxygens = n }) bs gs rs) (with_oxygens n)
 unfolding with_oxygens
 oxygens-set k n bs gs rs =
     record { takes = λ x. record { holds = λ d u. record { prefix = u.prefix; written = u.written; carbon = u.carbon; branched = u.branched; unlocated = u.unlocated; oxygens = refl; bonds = u.bonds; groups = u.groups; rings = u.rings } } }
 
 -- what is done to several arrays, among all
 
-module _ (carbon : ℕ) (k : Counts) (bs gs rs : List ℕ) (r : Result Counts Refusal) (f : Chain → Outcome) where
-  pub ungrouped-all : (ys zs : List ℕ) → Collects (on carbon ungrouped_as) (gather k bs [] rs) r ys [] zs f → Collects (on carbon all_as) (gather k bs gs rs) r ys gs zs f
+module _ (carbon : ℕ) (k : Counts) (bs : List DbPos) (gs : List Mod) (rs : List Ring) (r : Result Counts Refusal) (f : Chain → Outcome) where
+  pub ungrouped-all : (ys : List DbPos) (zs : List Ring) → Collects (on carbon ungrouped_as) (gather k bs [] rs) r ys [] zs f → Collects (on carbon all_as) (gather k bs gs rs) r ys gs zs f
   ungrouped-all ys zs = go r
     where
       go : (r : Result Counts Refusal) → Collects (on carbon ungrouped_as) (gather k bs [] rs) r ys [] zs f → Collects (on carbon all_as) (gather k bs gs rs) r ys gs zs f
       go (Ok j) w = record { gives = λ x. w.gives (groups_as x (first 0 gs)) }
       go (Err n) w = record { gives = λ x. w.gives (groups_as x (first 0 gs)) }
 
-  pub unbonded-all : (hs zs : List ℕ) → Collects (on carbon unbonded_as) (gather k [] gs rs) r [] hs zs f → Collects (on carbon all_as) (gather k bs gs rs) r bs hs zs f
+  pub unbonded-all : (hs : List Mod) (zs : List Ring) → Collects (on carbon unbonded_as) (gather k [] gs rs) r [] hs zs f → Collects (on carbon all_as) (gather k bs gs rs) r bs hs zs f
   unbonded-all hs zs = go r
     where
       go : (r : Result Counts Refusal) → Collects (on carbon unbonded_as) (gather k [] gs rs) r [] hs zs f → Collects (on carbon all_as) (gather k bs gs rs) r bs hs zs f

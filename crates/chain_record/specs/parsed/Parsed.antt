@@ -1,19 +1,21 @@
 -- Which chain a record of the code holds, and what a reader answers that adds to arrays which are lent to it: what the contracts of `parsed`
 -- and of the token reader above it cite. Assumes nothing.
-use Rattle.std.specs.Prelude.{ℕ, ◌+◌, min, ◌≡◌, cond, List, map, length, take, ltb, Result, Ok, Err}
+use Rattle.std.specs.Prelude.{ℕ, ◌+◌, min, ◌≡◌, cond, List, [], ◌∷◌, ◌++◌, length, take, ltb, Result, Ok, Err}
 use Rattle.chain_record.specs.plain.Chain.{Chain, Outcome, Read, Refused, max_bonds, max_groups, max_rings}
-use Rattle.chain_record.specs.codes.Codes.{bond_in, group_in, ring_in}
+use Rattle.chain_record.specs.declared.plain.DbPos.{DbPos}
+use Rattle.chain_record.specs.declared.plain.Mod.{Mod}
+use Rattle.chain_record.specs.declared.plain.Ring.{Ring}
 use Rattle.chain_record.specs.declared.parsed.ParsedChain.{ParsedChain}
 use Rattle.chain_record.specs.declared.parsed.Counts.{Counts}
 use Rattle.chain_record.specs.declared.refusal.Refusal.{Refusal}
 use Rattle.chain_record.specs.declared.refusal.Refusal.TheVariants.{OverLimit}
 use Rattle.chain_record.specs.refusal.Refusal.{number_of}
 
--- an array of numbers keeps a list up to a limit: its count is the list's length, which it stops following one past the limit, and what it
--- counts within the limit stands for what the list starts with
-pub record Keeps {A : Type 0} (of : ℕ → A) (limit : ℕ) (array : List ℕ) (count : ℕ) (l : List A) : Type 0 where
+-- an array keeps a list up to a limit: its count is the list's length, which it stops following one past the limit, and what it counts within
+-- the limit is what the list starts with
+pub record Keeps {A : Type 0} (limit : ℕ) (array : List A) (count : ℕ) (l : List A) : Type 0 where
   pub counted : count ≡ min (length l) (limit + 1)
-  pub kept : map of (take (min count limit) array) ≡ take limit l
+  pub kept : take (min count limit) array ≡ take limit l
 
 -- the record c holds the chain d
 pub record Holds (c : ParsedChain) (d : Chain) : Type 0 where
@@ -23,9 +25,9 @@ pub record Holds (c : ParsedChain) (d : Chain) : Type 0 where
   pub branched : c.branched ≡ d.branched
   pub unlocated : c.unlocated ≡ d.unlocated
   pub oxygens : c.oxygens ≡ d.oxygens
-  pub bonds : Keeps bond_in max_bonds c.bonds c.bond_count d.bonds
-  pub groups : Keeps group_in max_groups c.groups c.group_count d.groups
-  pub rings : Keeps ring_in max_rings c.rings c.ring_count d.rings
+  pub bonds : Keeps max_bonds c.bonds c.bond_count d.bonds
+  pub groups : Keeps max_groups c.groups c.group_count d.groups
+  pub rings : Keeps max_rings c.rings c.ring_count d.rings
 
 -- a reader's answer: what it has then, or the number by which it refuses
 pub data Answer (S : Type 0) : Type 0 where
@@ -55,23 +57,27 @@ pub record Gives (c : ParsedChain) (r : Answer ParsedChain) (f : Chain → Outco
 -- ---- a part of a record, which is all that a reader has of it
 
 -- one array, and how much of it is used
-pub record Counting : Type 0 where
+pub record Counting (A : Type 0) : Type 0 where
   pub count : ℕ
-  pub items : List ℕ
+  pub items : List A
 
-abbrev pub first : ℕ → List ℕ → Counting
+abbrev pub first : {A : Type 0} → ℕ → List A → Counting A
 first n xs = record { count = n; items = xs }
 
+-- e keeps every list that c keeps up to a limit, with x behind it
+pub record Adds {A : Type 0} (limit : ℕ) (c e : Counting A) (x : A) : Type 0 where
+  pub keeps : (l : List A) → Keeps limit c.items c.count l → Keeps limit e.items e.count (l ++ (x ∷ []))
+
 -- a record x with other double bonds, groups or rings
-abbrev pub bonds_as : ParsedChain → Counting → ParsedChain
+abbrev pub bonds_as : ParsedChain → Counting DbPos → ParsedChain
 bonds_as x c =
     record { prefix = x.prefix; written = x.written; carbon = x.carbon; branched = x.branched; unlocated = x.unlocated; oxygens = x.oxygens; bond_count = c.count; bonds = c.items; group_count = x.group_count; groups = x.groups; ring_count = x.ring_count; rings = x.rings }
 
-abbrev pub groups_as : ParsedChain → Counting → ParsedChain
+abbrev pub groups_as : ParsedChain → Counting Mod → ParsedChain
 groups_as x c =
     record { prefix = x.prefix; written = x.written; carbon = x.carbon; branched = x.branched; unlocated = x.unlocated; oxygens = x.oxygens; bond_count = x.bond_count; bonds = x.bonds; group_count = c.count; groups = c.items; ring_count = x.ring_count; rings = x.rings }
 
-abbrev pub rings_as : ParsedChain → Counting → ParsedChain
+abbrev pub rings_as : ParsedChain → Counting Ring → ParsedChain
 rings_as x c =
     record { prefix = x.prefix; written = x.written; carbon = x.carbon; branched = x.branched; unlocated = x.unlocated; oxygens = x.oxygens; bond_count = x.bond_count; bonds = x.bonds; group_count = x.group_count; groups = x.groups; ring_count = c.count; rings = c.items }
 
@@ -83,11 +89,11 @@ counts_as x k =
 -- the counts and all three arrays
 pub record Gathered : Type 0 where
   pub counts : Counts
-  pub bonds : List ℕ
-  pub groups : List ℕ
-  pub rings : List ℕ
+  pub bonds : List DbPos
+  pub groups : List Mod
+  pub rings : List Ring
 
-abbrev pub gather : Counts → List ℕ → List ℕ → List ℕ → Gathered
+abbrev pub gather : Counts → List DbPos → List Mod → List Ring → Gathered
 gather k bs gs rs = record { counts = k; bonds = bs; groups = gs; rings = rs }
 
 -- a record x with all of these; with its own array of groups, or of double bonds, whatever stands for them
@@ -126,12 +132,12 @@ abbrev pub counted : Result Counts Refusal → Answer Counts
 counted (Ok k) = Has k
 counted (Err r) = Refuses (number_of r)
 
-abbrev pub collected : Result Counts Refusal → List ℕ → List ℕ → List ℕ → Answer Gathered
+abbrev pub collected : Result Counts Refusal → List DbPos → List Mod → List Ring → Answer Gathered
 collected (Ok k) bs gs rs = Has (gather k bs gs rs)
 collected (Err r) bs gs rs = Refuses (number_of r)
 
 -- the count of one array, and the array
-abbrev pub pushed : Result ℕ Refusal → List ℕ → Answer Counting
+abbrev pub pushed : {A : Type 0} → Result ℕ Refusal → List A → Answer (Counting A)
 pushed (Ok n) xs = Has (first n xs)
 pushed (Err r) xs = Refuses (number_of r)
 
@@ -140,11 +146,11 @@ abbrev pub Judges : Counts → Result Counts Refusal → (Chain → Outcome) →
 Judges k r f = Fills counts_as k (counted r) f
 
 -- the answer of a reader that adds to one array: n of xs before, and then so many of ys
-abbrev pub Pushes : (ParsedChain → Counting → ParsedChain) → ℕ → List ℕ → Result ℕ Refusal → List ℕ → (Chain → Outcome) → Type 0
+abbrev pub Pushes : {A : Type 0} → (ParsedChain → Counting A → ParsedChain) → ℕ → List A → Result ℕ Refusal → List A → (Chain → Outcome) → Type 0
 Pushes put n xs r ys f = Fills put (first n xs) (pushed r ys) f
 
 -- the answer of a reader that adds to several arrays
-abbrev pub Collects : (ParsedChain → Gathered → ParsedChain) → Gathered → Result Counts Refusal → List ℕ → List ℕ → List ℕ → (Chain → Outcome) → Type 0
+abbrev pub Collects : (ParsedChain → Gathered → ParsedChain) → Gathered → Result Counts Refusal → List DbPos → List Mod → List Ring → (Chain → Outcome) → Type 0
 Collects put c r bs gs rs f = Fills put c (collected r bs gs rs) f
 
 -- 31 where a count is over its limit, else the counts as they are: `counts_of` of the chain whose lists are counted

@@ -14,6 +14,7 @@ use Rattle.std.specs.Prelude.{Option, Some, None, Result, Ok, Err}
 use Rattle.scanner.proofs.scan.Laws.{to_end, starts-length}
 use Rattle.group_table.specs.groups.Groups.{methyl}
 use Rattle.chain_record.specs.declared.plain.ChainPrefix.{ChainPrefix}
+use Rattle.chain_record.specs.declared.plain.Mod.{Mod}
 use Rattle.chain_record.specs.declared.plain.ChainPrefix.TheVariants.{Acyl, EtherAlkyl, EtherAlkenyl, SphingoidD, SphingoidT}
 use Rattle.chain_record.specs.plain.Chain.{Chain, Read, Refused, no_features, with_group, max_carbons, unreadable, over_limit}
 use Rattle.chain_record.specs.parsed.Parsed.{Grows, first, groups_as}
@@ -170,11 +171,11 @@ opened-digit (x ∷ y ∷ s) d p m h e n f g =
 -- ---- the carbons
 
 module _ (p : ChainPrefix) (offset w : ℕ) where
-  pub too_few : (gs : List ℕ) → w < offset + 3 → Starts (Err Unreadable) gs (branched p offset w)
+  pub too_few : (gs : List Mod) → w < offset + 3 → Starts (Err Unreadable) gs (branched p offset w)
   unfolding branched
   too_few gs h = record { stands = λ bs rs. rw (lt-ltb w (offset + 3) h) refl }
 
-  pub methyl-on : (m : ℕ) (gs ys : List ℕ) → offset + 3 ≤ w → Grows groups_as (first 0 gs) (first m ys) (with_group (record { pos = w - 1 - offset; row = 1 }))
+  pub methyl-on : (m : ℕ) (gs ys : List Mod) → offset + 3 ≤ w → Grows groups_as (first 0 gs) (first m ys) (with_group (record { pos = w - 1 - offset; row = 1 }))
       → Starts (Ok (record { prefix = p; written = w; carbon = w - 1; branched = true; groups = m })) ys (branched p offset w)
   unfolding branched
   methyl-on m gs ys h t =
@@ -184,7 +185,7 @@ module _ (p : ChainPrefix) (offset w : ℕ) where
             rw (le-ltb w (offset + 3) h) ((t.takes (start_as start bs gs rs)).holds (no_features p w (w - 1) true) (holds-none p w (w - 1) true bs gs rs));
       }
 
-module _ (p : ChainPrefix) (b : Branch) (w : ℕ) (gs : List ℕ) where
+module _ (p : ChainPrefix) (b : Branch) (w : ℕ) (gs : List Mod) where
   pub start-straight : b ≡ Straight → Starts (Ok (record { prefix = p; written = w; carbon = w; branched = false; groups = 0 })) gs (start_chain p b w)
   start-straight e = rw e (record { stands = λ bs rs. holds-none p w w false bs gs rs })
 
@@ -194,7 +195,7 @@ module _ (p : ChainPrefix) (b : Branch) (w : ℕ) (gs : List ℕ) where
   pub start-anteiso : (o : ℕ) (r : Result Start Refusal) → b ≡ Anteiso → o ≡ branch_offset b → Starts r gs (branched p o w) → Starts r gs (start_chain p b w)
   start-anteiso o r e f s = let g : o ≡ 2 = f ∙ ap branch_offset e in rw e (rw g at s)
 
-module _ (p : ChainPrefix) (b : Branch) (t : List ℕ) (v : Option ℕ) (e : v ≡ number_up_to 4294967295 t) (gs : List ℕ) where
+module _ (p : ChainPrefix) (b : Branch) (t : List ℕ) (v : Option ℕ) (e : v ≡ number_up_to 4294967295 t) (gs : List Mod) where
   pub carbons-unreadable : v ≡ None → Starts (Err Unreadable) gs (carbons_of p b t)
   unfolding carbons_of
   carbons-unreadable f = record { stands = λ bs rs. rw (sym e ∙ f) refl }
@@ -238,7 +239,7 @@ carbons-few p b t d h = value (number_up_to number_limit t) h
     value None h = let z : ◌≡◌ {A = ℕ} 0 1 = cc in absurd (omega arith)
 
 -- its carbons are within the limit
-pub start-few : (p : ChainPrefix) (b : Branch) (t gs : List ℕ) (r : Result Start Refusal) (s : Start) → Starts r gs (carbons_of p b t) → r ≡ Ok s → s.carbon ≤ max_carbons
+pub start-few : (p : ChainPrefix) (b : Branch) (t : List ℕ) (gs : List Mod) (r : Result Start Refusal) (s : Start) → Starts r gs (carbons_of p b t) → r ≡ Ok s → s.carbon ≤ max_carbons
 start-few p b t gs r s w e =
     let v : Starts (Ok s) gs (carbons_of p b t) = rw e at w in
     let q = stands_read (start_as s [] gs []) (carbons_of p b t) (v.stands [] []) in

@@ -102,11 +102,11 @@ ring-bond start end s d = go (position_of s)
 
 -- the loop: what is left to do gives what was to be done
 
-pub bonding-start : (start end : ℕ) (s : List ℕ) (c : Counting) → (length s ≡ 0 → ⊥) → Onward bonds_as c c (ring_bond_list start end s) (each (ring_bond_at start end) (parts_at 44 s))
+pub bonding-start : (start end : ℕ) (s : List ℕ) (c : Counting DbPos) → (length s ≡ 0 → ⊥) → Onward bonds_as c c (ring_bond_list start end s) (each (ring_bond_at start end) (parts_at 44 s))
 unfolding ring_bond_list
 bonding-start start end s c h = each_start (ring_bond_at start end) s c h
 
-module _ (start end : ℕ) (e c : Counting) (whole : Chain → Outcome) (t : List ℕ) (n : ℕ) (p : Option DbPos)
+module _ (start end : ℕ) (e c : Counting DbPos) (whole : Chain → Outcome) (t : List ℕ) (n : ℕ) (p : Option DbPos)
     (k : Onward bonds_as e c whole (each (ring_bond_at start end) (parts_at 44 t))) (f : Place t (index_of 44 t) n) (g : p ≡ ring_position start end (take (n - 0) t)) where
   -- a part that cannot be read ends the loop
   pub bond-unreadable : p ≡ None → Fills bonds_as e (Refuses 11) whole
@@ -114,7 +114,7 @@ module _ (start end : ℕ) (e c : Counting) (whole : Chain → Outcome) (t : Lis
       each-stop (ring_bond_at start end) 44 e c whole t n k f 11
       (fills-refused 11 c (ring_bond_at start end (take (n - 0) t)) (λ x d w. ring-bond start end (take (n - 0) t) d ∙ rw (sym g ∙ h)))
 
-  module _ (b : DbPos) (h : p ≡ Some b) (q : Counting) (w : Grows bonds_as c q (with_bond b)) where
+  module _ (b : DbPos) (h : p ≡ Some b) (q : Counting DbPos) (w : Grows bonds_as c q (with_bond b)) where
     added : Fills bonds_as c (Has q) (ring_bond_at start end (take (n - 0) t))
     added = fills_same (fills-read w) (λ x d k. sym (ring-bond start end (take (n - 0) t) d ∙ rw (sym g ∙ h)))
 
@@ -162,6 +162,6 @@ any-bond s d = go (position_of s) refl
     go (Some b) e = rw (le-ltb b.pos 0 (omega arith), lt-ltb b.pos 4294967296 (position-below s (Some b) b e refl))
     go None e = refl
 
-pub any-list : (s xs ys : List ℕ) (n : ℕ) (r : Result ℕ Refusal) → Pushes bonds_as n xs r ys (ring_bond_list 0 4294967296 s) → Pushes bonds_as n xs r ys (bond_list s)
+pub any-list : (s : List ℕ) (xs ys : List DbPos) (n : ℕ) (r : Result ℕ Refusal) → Pushes bonds_as n xs r ys (ring_bond_list 0 4294967296 s) → Pushes bonds_as n xs r ys (bond_list s)
 unfolding ring_bond_list bond_list
 any-list s xs ys n r w = fills_same w (λ x d k. each_same (ring_bond_at 0 4294967296) bond_at any-bond (list_parts s) d)

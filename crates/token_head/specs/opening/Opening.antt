@@ -6,6 +6,9 @@ use Rattle.scanner.specs.scan.Number.{is_digit, number_up_to, number_limit}
 use Rattle.group_table.specs.groups.Groups.{methyl}
 use Rattle.chain_record.specs.declared.plain.ChainPrefix.{ChainPrefix}
 use Rattle.chain_record.specs.declared.plain.ChainPrefix.TheVariants.{Acyl, EtherAlkyl, EtherAlkenyl, SphingoidD, SphingoidT}
+use Rattle.chain_record.specs.declared.plain.DbPos.{DbPos}
+use Rattle.chain_record.specs.declared.plain.Mod.{Mod}
+use Rattle.chain_record.specs.declared.plain.Ring.{Ring}
 use Rattle.chain_record.specs.declared.parsed.ParsedChain.{ParsedChain}
 use Rattle.chain_record.specs.parsed.Parsed.{Answer, Has, Refuses, Stands}
 use Rattle.chain_record.specs.plain.Chain.{Outcome, Read, Refused, unreadable, over_limit, max_carbons, no_features, with_group}
@@ -120,15 +123,15 @@ pub record Opened (t : List ℕ) (r : Opening) : Type 0 where
   pub within : r.carbons ≤ length t
 
 -- the record of a chain that was started, with these arrays
-abbrev pub start_as : Start → List ℕ → List ℕ → List ℕ → ParsedChain
+abbrev pub start_as : Start → List DbPos → List Mod → List Ring → ParsedChain
 start_as r bs gs rs =
     record { prefix = r.prefix; written = r.written; carbon = r.carbon; branched = r.branched; unlocated = 0; oxygens = 0; bond_count = 0; bonds = bs; group_count = r.groups; groups = gs; ring_count = 0; rings = rs }
 
 -- 01's number and the values of each case: that record, or 11 or 31
-abbrev pub started : Result Start Refusal → List ℕ → List ℕ → List ℕ → Answer ParsedChain
+abbrev pub started : Result Start Refusal → List DbPos → List Mod → List Ring → Answer ParsedChain
 started (Ok r) bs gs rs = Has (start_as r bs gs rs)
 started (Err r) bs gs rs = Refuses (number_of r)
 
 -- r stands for an outcome, with the groups gs
-pub record Starts (r : Result Start Refusal) (gs : List ℕ) (o : Outcome) : Type 0 where
-  pub stands : (bs rs : List ℕ) → Stands (started r bs gs rs) o
+pub record Starts (r : Result Start Refusal) (gs : List Mod) (o : Outcome) : Type 0 where
+  pub stands : (bs : List DbPos) (rs : List Ring) → Stands (started r bs gs rs) o

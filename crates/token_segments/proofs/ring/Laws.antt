@@ -15,6 +15,7 @@ use Rattle.scanner.proofs.scan.Laws.{to_end}
 use Rattle.token_syntax.specs.form.Parts.{list_parts}
 use Rattle.token_syntax.specs.form.Form.{ends_in_parenthesis, after_place}
 use Rattle.token_syntax.specs.form.Numbers.{trimmed_number, ring_count}
+use Rattle.chain_record.specs.declared.plain.DbPos.{DbPos}
 use Rattle.chain_record.specs.declared.plain.Ring.{Ring}
 use Rattle.chain_record.specs.plain.Chain.{Chain, Outcome, Read, Refused, with_ring}
 use Rattle.chain_record.specs.declared.parsed.ParsedChain.{ParsedChain}
@@ -42,19 +43,19 @@ module _ {S : Type 0} {put : ParsedChain → S → ParsedChain} (f : List ℕ �
 
 -- ---- a ring
 
-module _ (g : Ring) (n : ℕ) (list : List ℕ) (k : Counts) (bs rs : List ℕ) (m : ℕ) (e : m ≡ length (list_parts list)) where
+module _ (g : Ring) (n : ℕ) (list : List ℕ) (k : Counts) (bs : List DbPos) (rs : List Ring) (m : ℕ) (e : m ≡ length (list_parts list)) where
   pub list-many : n < m → Fills ungrouped_as (gather k bs [] rs) (Refuses 11) (ring_list g n list)
   unfolding ring_list
   list-many h = fills-refused 11 (gather k bs [] rs) (ring_list g n list) (λ x d u. rw (← e, lt-ltb n m h))
 
-  module _ (h : m ≤ n) (q : Result ℕ Refusal) (ys : List ℕ) (w : Pushes bonds_as k.bonds bs q ys (ring_bond_list g.start g.end list)) where
+  module _ (h : m ≤ n) (q : Result ℕ Refusal) (ys : List DbPos) (w : Pushes bonds_as k.bonds bs q ys (ring_bond_list g.start g.end list)) where
     pub list-refused : (a : Refusal) (r : Result Counts Refusal) → q ≡ Err a → IsErrAnd r (λ (y : Refusal). y ≡ a) → Collects ungrouped_as (gather k bs [] rs) r ys [] rs (ring_list g n list)
     unfolding ring_list
     list-refused a r z t =
         let v = bonds-ungrouped-refused k bs [] rs (ring_bond_list g.start g.end list) (number_of a) (rw z at w) in
         rw (err_kept r a t) (fills_same (fills-stop (λ e. Read (with_ring g e)) v) (λ x d u. sym (rw (← e, le-ltb n m h))))
 
-    pub list_read : (a i : ℕ) (zs : List ℕ) → q ≡ Ok a → Grows rings_as (first k.rings rs) (first i zs) (with_ring g)
+    pub list_read : (a i : ℕ) (zs : List Ring) → q ≡ Ok a → Grows rings_as (first k.rings rs) (first i zs) (with_ring g)
         → Fills ungrouped_as (gather k bs [] rs) (Has (gather (record { bonds = a; groups = k.groups; rings = i; oxygens = k.oxygens }) ys [] zs)) (ring_list g n list)
     unfolding ring_list
     list_read a i zs z t =
@@ -79,7 +80,7 @@ module _ (g : Ring) (s : List ℕ) (q : ℕ) (p : Place s (index_of 40 s) q) (a 
   bonds-unreadable c h = fills-refused 11 c (ring_bonds g s) (λ x d u. rw (count_at ∙ h))
 
   module _ (n : ℕ) (h : a ≡ Some n) where
-    pub bonds-unlisted : (k : Counts) (bs rs zs : List ℕ) (i : ℕ) → q ≡ length s → Grows rings_as (first k.rings rs) (first i zs) (with_ring g)
+    pub bonds-unlisted : (k : Counts) (bs : List DbPos) (rs zs : List Ring) (i : ℕ) → q ≡ length s → Grows rings_as (first k.rings rs) (first i zs) (with_ring g)
         → Fills ungrouped_as (gather k bs [] rs) (Has (gather (record { bonds = k.bonds; groups = k.groups; rings = i; oxygens = k.oxygens }) bs [] zs)) (ring_bonds g s)
     unfolding ring_bonds
     bonds-unlisted k bs rs zs i l t = fills_same (fills-read (ring-ungrouped k i bs [] rs zs (with_ring g) t)) (λ x d u. sym (rw (count_at ∙ h, ← p.is, eq-eqb q (length s) l)))

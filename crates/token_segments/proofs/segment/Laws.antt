@@ -19,6 +19,7 @@ use Rattle.token_syntax.specs.form.Form.{segment_text, after_opening, before_clo
 use Rattle.token_syntax.specs.declared.form.Form.{Form}
 use Rattle.token_syntax.specs.declared.form.Form.TheVariants.{Ring as Form-as-Ring, Repeated as Form-as-Repeated, Listed as Form-as-Listed, Parts as Form-as-Parts}
 use Rattle.chain_record.specs.declared.plain.Bridge.{Bridge}
+use Rattle.chain_record.specs.declared.plain.DbPos.{DbPos}
 use Rattle.chain_record.specs.declared.plain.Mod.{Mod}
 use Rattle.chain_record.specs.declared.plain.Ring.{Ring}
 use Rattle.chain_record.specs.plain.Chain.{Chain, Outcome, Read, with_group, with_ring, counts_of, max_groups}
@@ -44,14 +45,14 @@ use Rattle.token_segments.specs.segment.Segment.{copies, many_times, with_segmen
 -- ---- a group many times
 
 -- the copies that are left give all of them
-pub record Copying (e c : Counting) (g : Mod) (n left : ℕ) : Type 0 where
-  pub then : (q : Counting) → Grows groups_as c q (copies left g) → Grows groups_as e q (copies n g)
+pub record Copying (e c : Counting Mod) (g : Mod) (n left : ℕ) : Type 0 where
+  pub then : (q : Counting Mod) → Grows groups_as c q (copies left g) → Grows groups_as e q (copies n g)
 
-pub copies-start : (c : Counting) (g : Mod) (n : ℕ) → Copying c c g n n
+pub copies-start : (c : Counting Mod) (g : Mod) (n : ℕ) → Copying c c g n n
 copies-start c g n = record { then = λ q w. w }
 
-module _ (e c : Counting) (g : Mod) (n left : ℕ) (w : Copying e c g n left) where
-  pub copies-more : (q : Counting) → 0 < left → Grows groups_as c q (with_group g) → Copying e q g n (left - 1)
+module _ (e c : Counting Mod) (g : Mod) (n left : ℕ) (w : Copying e c g n left) where
+  pub copies-more : (q : Counting Mod) → 0 < left → Grows groups_as c q (with_group g) → Copying e q g n (left - 1)
   unfolding copies
   copies-more q h t =
       let k : left ≡ suc (left - 1) = omega arith in
@@ -61,7 +62,7 @@ module _ (e c : Counting) (g : Mod) (n left : ℕ) (w : Copying e c g n left) wh
   unfolding copies
   copies-end h = let k : left ≡ 0 = omega arith in w.then c (rw k (record { takes = λ x. record { holds = λ d u. u } }))
 
-module _ (c : Counting) (n : ℕ) (g : Mod) where
+module _ (c : Counting Mod) (n : ℕ) (g : Mod) where
   pub many-before : 16 < c.count → Fills groups_as c (Refuses 31) (many_times n g)
   unfolding many_times
   many-before h = fills-refused 31 c (many_times n g) (λ x d k. rw (lt-ltb max_groups (length d.groups + n) (omega (arith, k.groups.counted))))
@@ -71,26 +72,26 @@ module _ (c : Counting) (n : ℕ) (g : Mod) where
     unfolding many_times
     many-over h = fills-refused 31 c (many_times n g) (λ x d k. rw (lt-ltb max_groups (length d.groups + n) (omega (arith, k.groups.counted))))
 
-    pub many-fit : (q : Counting) → n ≤ 16 - c.count → Grows groups_as c q (copies n g) → Fills groups_as c (Has q) (many_times n g)
+    pub many-fit : (q : Counting Mod) → n ≤ 16 - c.count → Grows groups_as c q (copies n g) → Fills groups_as c (Has q) (many_times n g)
     unfolding many_times
     many-fit q h t = fills_same (fills-read t) (λ x d k. sym (rw (le-ltb max_groups (length d.groups + n) (omega (arith, k.groups.counted)))))
 
 -- ---- what each answer adds
 
-module _ (s : Segment) (k : Counts) (gs rs : List ℕ) where
-  pub adds-ring : (r : Ring) (m : ℕ) (ys : List ℕ) → s ≡ Cycle r → Grows rings_as (first k.rings rs) (first m ys) (with_ring r)
+module _ (s : Segment) (k : Counts) (gs : List Mod) (rs : List Ring) where
+  pub adds-ring : (r : Ring) (m : ℕ) (ys : List Ring) → s ≡ Cycle r → Grows rings_as (first k.rings rs) (first m ys) (with_ring r)
       → Fills unbonded_as (gather k [] gs rs) (Has (gather (record { bonds = k.bonds; groups = k.groups; rings = m; oxygens = k.oxygens }) [] gs ys)) (with_segment s)
-  adds-ring r m ys e t = fills_same (fills-read (ring-unbonded k m [] gs rs ys (with_ring r) t)) (λ x d u. rw e)
+  adds-ring r m ys e t = fills_same (fills-read (ring-unbonded k m [] gs rs (with_ring r) ys t)) (λ x d u. rw e)
 
-  pub adds-group : (g : Mod) (m : ℕ) (ys : List ℕ) → s ≡ Located g → Grows groups_as (first k.groups gs) (first m ys) (with_group g)
+  pub adds-group : (g : Mod) (m : ℕ) (ys : List Mod) → s ≡ Located g → Grows groups_as (first k.groups gs) (first m ys) (with_group g)
       → Fills unbonded_as (gather k [] gs rs) (Has (gather (record { bonds = k.bonds; groups = m; rings = k.rings; oxygens = k.oxygens }) [] ys rs)) (with_segment s)
-  adds-group g m ys e t = fills_same (fills-read (group-unbonded k m [] gs rs ys (with_group g) t)) (λ x d u. rw e)
+  adds-group g m ys e t = fills_same (fills-read (group-unbonded k m [] gs rs (with_group g) ys t)) (λ x d u. rw e)
 
   pub adds-oxygens : (n : ℕ) → s ≡ Oxygens n
       → Fills unbonded_as (gather k [] gs rs) (Has (gather (record { bonds = k.bonds; groups = k.groups; rings = k.rings; oxygens = n }) [] gs rs)) (with_segment s)
   adds-oxygens n e = fills_same (fills-read (oxygens-set k n [] gs rs)) (λ x d u. rw e)
 
-  module _ (row n : ℕ) (q : Result ℕ Refusal) (ys : List ℕ) (e : s ≡ Repeated row n) (w : Pushes groups_as k.groups gs q ys (many_times n (record { pos = 0; row = row }))) where
+  module _ (row n : ℕ) (q : Result ℕ Refusal) (ys : List Mod) (e : s ≡ Repeated row n) (w : Pushes groups_as k.groups gs q ys (many_times n (record { pos = 0; row = row }))) where
     pub adds-many : (m : ℕ) → q ≡ Ok m
         → Fills unbonded_as (gather k [] gs rs) (Has (gather (record { bonds = k.bonds; groups = m; rings = k.rings; oxygens = k.oxygens }) [] ys rs)) (with_segment s)
     adds-many m z = fills_same (groups-unbonded k [] gs rs (many_times n (record { pos = 0; row = row })) m ys (rw z at w)) (λ x d u. rw e)
@@ -131,7 +132,7 @@ module _ (carbon : ℕ) (c : Gathered) where
 -- ---- a loop over parts, with the arrays that its turns leave
 
 module _ {put : ParsedChain → Gathered → ParsedChain} (f : List ℕ → Chain → Outcome) (b : ℕ) (e c : Gathered) (whole : Chain → Outcome) (t : List ℕ) (n : ℕ)
-    (o : Onward put e c whole (each f (parts_at b t))) (p : Place t (index_of b t) n) (r : Result Counts Refusal) (ys hs zs : List ℕ) (w : Collects put c r ys hs zs (f (take (n - 0) t))) where
+    (o : Onward put e c whole (each f (parts_at b t))) (p : Place t (index_of b t) n) (r : Result Counts Refusal) (ys : List DbPos) (hs : List Mod) (zs : List Ring) (w : Collects put c r ys hs zs (f (take (n - 0) t))) where
   pub turn-stop : (m : Refusal) (q : Result Counts Refusal) → r ≡ Err m → IsErrAnd q (λ (y : Refusal). y ≡ m) → Collects put e q ys hs zs whole
   turn-stop m q h k = rw (err_kept q m k) (each-stop f b e c whole t n o p (number_of m) (rw h at w))
 
@@ -148,7 +149,7 @@ unfolding comma_parts
 parting-start carbon s c = onward-start c (each part_at (parts_at 44 s))
 
 module _ (carbon : ℕ) (e c : Gathered) (whole : Chain → Outcome) (t : List ℕ) (n : ℕ) (g : Segment) (o : Onward (on carbon unbonded_as) e c whole (each part_at (parts_at 44 t)))
-    (f : Place t (index_of 44 t) n) (k : g ≡ part_of (take (n - 0) t) carbon) (r : Result Counts Refusal) (ys hs zs : List ℕ) (w : Collects unbonded_as c r ys hs zs (with_segment g)) where
+    (f : Place t (index_of 44 t) n) (k : g ≡ part_of (take (n - 0) t) carbon) (r : Result Counts Refusal) (ys : List DbPos) (hs : List Mod) (zs : List Ring) (w : Collects unbonded_as c r ys hs zs (with_segment g)) where
   one : Collects (on carbon unbonded_as) c r ys hs zs (part_at (take (n - 0) t))
   unfolding part_at
   one = fills_same (fills-on carbon w) (λ x d u. rw (← u.carbon, ← k))
@@ -164,26 +165,26 @@ module _ (carbon : ℕ) (e c : Gathered) (whole : Chain → Outcome) (t : List �
 
 -- ---- a segment
 
-module _ (s : List ℕ) (carbon : ℕ) (k : Counts) (bs gs rs : List ℕ) (r : Result Counts Refusal) (f : Form) (w : Formed s (form_of s) f) where
-  pub as-ring : (dash cy : ℕ) (ys zs : List ℕ) → f ≡ Form-as-Ring dash cy → Collects (on carbon ungrouped_as) (gather k bs [] rs) r ys [] zs (ring_segment s dash cy)
+module _ (s : List ℕ) (carbon : ℕ) (k : Counts) (bs : List DbPos) (gs : List Mod) (rs : List Ring) (r : Result Counts Refusal) (f : Form) (w : Formed s (form_of s) f) where
+  pub as-ring : (dash cy : ℕ) (ys : List DbPos) (zs : List Ring) → f ≡ Form-as-Ring dash cy → Collects (on carbon ungrouped_as) (gather k bs [] rs) r ys [] zs (ring_segment s dash cy)
       → Collects (on carbon all_as) (gather k bs gs rs) r ys gs zs (modification s)
   unfolding modification
   as-ring dash cy ys zs h v =
       fills_same (ungrouped-all carbon k bs gs rs r (ring_segment s dash cy) ys zs v) (λ x d u. sym (rw (sym w.is ∙ h)))
 
-  pub as-repeated : (t : List ℕ) (g : Segment) (hs zs : List ℕ) → f ≡ Form-as-Repeated → t ≡ after_place 0 s → g ≡ repeated_of t → Collects unbonded_as (gather k [] gs rs) r [] hs zs (with_segment g)
+  pub as-repeated : (t : List ℕ) (g : Segment) (hs : List Mod) (zs : List Ring) → f ≡ Form-as-Repeated → t ≡ after_place 0 s → g ≡ repeated_of t → Collects unbonded_as (gather k [] gs rs) r [] hs zs (with_segment g)
       → Collects (on carbon all_as) (gather k bs gs rs) r bs hs zs (modification s)
   unfolding modification
   as-repeated t g hs zs h l e v =
       fills_same (unbonded-all carbon k bs gs rs r (with_segment g) hs zs (fills-on carbon v)) (λ x d u. sym (rw (sym w.is ∙ h, e, l)))
 
-  pub as-listed : (n : ℕ) (t hs zs : List ℕ) → f ≡ Form-as-Listed n → t ≡ after_place n s → Collects (on carbon unbonded_as) (gather k [] gs rs) r [] hs zs (listed_segment (take (n - 0) s) t)
+  pub as-listed : (n : ℕ) (t : List ℕ) (hs : List Mod) (zs : List Ring) → f ≡ Form-as-Listed n → t ≡ after_place n s → Collects (on carbon unbonded_as) (gather k [] gs rs) r [] hs zs (listed_segment (take (n - 0) s) t)
       → Collects (on carbon all_as) (gather k bs gs rs) r bs hs zs (modification s)
   unfolding modification
   as-listed n t hs zs h e v =
       fills_same (unbonded-all carbon k bs gs rs r (listed_segment (take (n - 0) s) t) hs zs v) (λ x d u. sym (rw (sym w.is ∙ h, e, sub-zero n)))
 
-  pub as_parts : (hs zs : List ℕ) → f ≡ Form-as-Parts → Collects (on carbon unbonded_as) (gather k [] gs rs) r [] hs zs (comma_parts s)
+  pub as_parts : (hs : List Mod) (zs : List Ring) → f ≡ Form-as-Parts → Collects (on carbon unbonded_as) (gather k [] gs rs) r [] hs zs (comma_parts s)
       → Collects (on carbon all_as) (gather k bs gs rs) r bs hs zs (modification s)
   unfolding modification
   as_parts hs zs h v = fills_same (unbonded-all carbon k bs gs rs r (comma_parts s) hs zs v) (λ x d u. sym (rw (sym w.is ∙ h)))
@@ -193,7 +194,7 @@ module _ (s t : List ℕ) (carbon : ℕ) (c : Gathered) (e : t ≡ segment_text 
   unfolding segment_at
   segment-empty h = fills_same (fills-none c) (λ x d k. sym (rw (← e, eq-eqb (length t) 0 h)))
 
-  module _ (n : length t ≡ 0 → ⊥) (q : Result Counts Refusal) (bs gs rs : List ℕ) (w : Collects (on carbon all_as) c q bs gs rs (modification t)) where
+  module _ (n : length t ≡ 0 → ⊥) (q : Result Counts Refusal) (bs : List DbPos) (gs : List Mod) (rs : List Ring) (w : Collects (on carbon all_as) c q bs gs rs (modification t)) where
     pub segment-refused : (m : Refusal) (r : Result Counts Refusal) → q ≡ Err m → IsErrAnd r (λ (y : Refusal). y ≡ m) → Collects (on carbon all_as) c r bs gs rs (segment_at s)
     unfolding segment_at
     segment-refused m r h k = rw (err_kept r m k) (fills_same (fills-stop counts_of (rw h at w)) (λ x d u. sym (rw (← e, ne_eqb (length t) 0 n))))
@@ -206,7 +207,7 @@ module _ (s t : List ℕ) (carbon : ℕ) (c : Gathered) (e : t ≡ segment_text 
 -- ---- the segments of a token, one after the other: the part that starts at a place, and the place after it
 
 module _ (carbon : ℕ) (e c : Gathered) (whole : Chain → Outcome) (s : List ℕ) (at : ℕ) (p : Part) (o : Onward (on carbon all_as) e c whole (each segment_at (parts_at 59 (drop at s))))
-    (l : at ≤ length s) (h : p ≡ part_from 59 s at) (r : Result Counts Refusal) (ys hs zs : List ℕ) (w : Collects (on carbon all_as) c r ys hs zs (segment_at (take (p.to - p.from) (drop p.from s)))) where
+    (l : at ≤ length s) (h : p ≡ part_from 59 s at) (r : Result Counts Refusal) (ys : List DbPos) (hs : List Mod) (zs : List Ring) (w : Collects (on carbon all_as) c r ys hs zs (segment_at (take (p.to - p.from) (drop p.from s)))) where
   place : Place (drop at s) (index_of 59 (drop at s)) (p.to - at)
   place = part-place 59 s at p h l
 
