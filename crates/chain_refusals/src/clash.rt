@@ -35,7 +35,7 @@ fn epoxide_on(ring: Ring, bonds: &[DbPos]) -> bool
     ensures { result ≡ epoxide_on bonds.now ring }
 {
     match ring.bridge {
-        Bridge::Epoxide => any_bond_at(bonds, u32::from(ring.start)),
+        Bridge::Epoxide => any_bond_at(bonds, ring.start as u32),
         Bridge::Carbocycle => false,
     }
 }
@@ -53,7 +53,7 @@ fn small_ring(ring: Ring) -> bool
 {
     match ring.bridge {
         Bridge::Epoxide => false,
-        Bridge::Carbocycle => u32::from(ring.end) < u32::from(ring.start) + 2,
+        Bridge::Carbocycle => (ring.end as u32) < ring.start as u32 + 2,
     }
 }
 

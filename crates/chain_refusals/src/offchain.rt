@@ -11,14 +11,14 @@ use drawn_chain::{Lists, Shape};
 fn bond_off(bond: DbPos, first: u16, carbon: u16) -> bool
     ensures { result ≡ double_off first carbon bond }
 {
-    bond.pos < u32::from(first) || u32::from(carbon) <= bond.pos
+    bond.pos < first as u32 || carbon as u32 <= bond.pos
 }
 
 // Whether a group is outside of the carbons from `first` to `carbon`.
 fn group_off(group: Mod, first: u16, carbon: u16) -> bool
     ensures { result ≡ group_off first carbon group }
 {
-    group.pos < u32::from(first) || u32::from(carbon) < group.pos
+    group.pos < first as u32 || (carbon as u32) < group.pos
 }
 
 // Whether a ring starts before `first`, or at the carbonyl of an acyl chain.

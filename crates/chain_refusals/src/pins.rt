@@ -13,7 +13,7 @@ use drawn_chain::{Lists, Shape};
 fn pin_bound(first: u16, acyl: bool) -> u32
     ensures { result ≡ cond acyl 3 (first + 1) }
 {
-    if acyl { 3 } else { u32::from(first) + 1 }
+    if acyl { 3 } else { first as u32 + 1 }
 }
 
 // Whether there is no group and no ring to pin.
@@ -34,7 +34,7 @@ fn groups_past(groups: &[Mod], bound: u32) -> bool
 fn rings_past(rings: &[Ring], bound: u32) -> bool
     ensures { result ≡ all_of (ltb bound) (map ring_pin rings.now) }
 {
-    rings.iter().all(|ring| bound < u32::from(ring.start))
+    rings.iter().all(|ring| bound < ring.start as u32)
 }
 
 // 13: unlocated bonds, and a first pin too far.

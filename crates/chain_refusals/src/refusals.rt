@@ -16,24 +16,24 @@ use drawn_chain::{Lists, Shape};
 fn bonds_rise(bonds: &[DbPos], first: u16, carbon: u16) -> bool
     ensures { Only result (bonds_rise carbon (first - 1) bonds.now) }
 {
-    let mut last = u32::from(first.saturating_sub(1));
+    let mut last = first.saturating_sub(1) as u32;
     for bond in bonds {
         if bond.pos <= last {
             return false;
         }
         last = bond.pos;
     }
-    last < u32::from(carbon)
+    last < carbon as u32
 }
 
 // Whether a ring is a carbocycle of three atoms or more that starts no earlier than a carbon.
 fn ring_past(ring: Ring, least: u32) -> bool
     ensures { result ≡ ring_past least ring }
 {
-    let start = u32::from(ring.start);
+    let start = ring.start as u32;
     match ring.bridge {
         Bridge::Epoxide => false,
-        Bridge::Carbocycle => least <= start && start + 2 <= u32::from(ring.end),
+        Bridge::Carbocycle => least <= start && start + 2 <= ring.end as u32,
     }
 }
 
@@ -46,7 +46,7 @@ fn rings_rise(rings: &[Ring], least: u32) -> bool
         if !ring_past(*ring, next) {
             return false;
         }
-        next = u32::from(ring.start) + 1;
+        next = ring.start as u32 + 1;
     }
     true
 }
@@ -55,7 +55,7 @@ fn rings_rise(rings: &[Ring], least: u32) -> bool
 fn ring_bound(first: u16, acyl: bool) -> u32
     ensures { result ≡ cond acyl 2 first }
 {
-    if acyl { 2 } else { u32::from(first) }
+    if acyl { 2 } else { first as u32 }
 }
 
 // ---- 32 and 33

@@ -32,11 +32,11 @@ fn tail_too_short(x: Shape, part: &Lists) -> bool
     requires { DrawsSome (drawn_of x part.now) }
     ensures { Says (drawn_of x part.now) result tail_too_short }
 {
-    let unlocated = u32::from(x.unlocated);
+    let unlocated = x.unlocated as u32;
     if unlocated == 0 {
         return false;
     }
-    let rest = u32::from(drawn_chain::remaining(x, part));
+    let rest = drawn_chain::remaining(x, part) as u32;
     rest < 2 * unlocated + 2
 }
 
@@ -44,7 +44,7 @@ fn tail_too_short(x: Shape, part: &Lists) -> bool
 fn site_skip(acyl: bool) -> u32
     ensures { result ≡ cond acyl 1 0 }
 {
-    u32::from(acyl)
+    if acyl { 1 } else { 0 }
 }
 
 // 15: an unlocated group with no site.

@@ -4,7 +4,7 @@ use Prim.Native.Nat.{ℕ, ◌+◌}
 use mathlib.Core.Path.{◌≡◌, sym, ◌∙◌}
 use mathlib.Core.Bool.{Bool, true, false, ◌||◌}
 use mathlib.Core.List.{List}
-use lib.Dec.{ltb}
+use lib.Dec.{eqb, ltb}
 use borrow.Author.Tests.{eq-eqb, ne_eqb}
 use Rattle.chain_record.specs.declared.plain.Bridge.TheVariants.{Epoxide, Carbocycle}
 use Rattle.chain_record.specs.declared.plain.DbPos.{DbPos}
@@ -26,6 +26,15 @@ small-epoxide x e = rw e
 pub small-carbocycle : (x : Ring) → x.bridge ≡ Carbocycle → ltb x.end (x.start + 2) ≡ small_ring x
 unfolding small_ring
 small-carbocycle x e = rw e
+
+module _ (x y : Ring) where
+  pub ring-ends : x.start ≡ y.start → eqb x.end y.end ≡ same_ring x y
+  unfolding same_ring
+  ring-ends e = rw (eq-eqb x.start y.start e)
+
+  pub ring-apart : (x.start ≡ y.start → ⊥) → eqb x.start y.start ≡ same_ring x y
+  unfolding same_ring
+  ring-apart h = rw (ne_eqb x.start y.start h)
 
 -- a double bond's own place
 pub same-bond-at : (a : DbPos) (l : List DbPos) (t : Bool) → t ≡ any_of (bond_at a.pos) l → t ≡ any_of (same_bond a) l

@@ -5,9 +5,9 @@ use native.Mathlib.Omega.{arith}
 use mathlib.Core.Path.{◌≡◌, refl, sym, ap, ◌∙◌}
 use mathlib.Core.Bool.{Bool, true, false, not, ◌&&◌, ◌||◌, or-true, or-false, and-false}
 use mathlib.Core.List.{List, [], ◌∷◌, ◌++◌}
-use lib.Dec.{eqb, leb}
+use lib.Dec.{eqb, ltb, leb}
 use lib.ListN.{length}
-use borrow.Author.Tests.{lt-ltb, le-ltb, le-leb, lt-leb, eq-eqb, ne_eqb, not-true, not-false, eqb-false}
+use borrow.Author.Tests.{lt-ltb, le-ltb, le-leb, lt-leb, eq-eqb, ne_eqb, eqb-true, eqb-false, ltb-true, ltb-false, leb-true, leb-false}
 use Rattle.chain_record.specs.declared.plain.DbPos.{DbPos}
 use Rattle.chain_record.specs.declared.plain.Mod.{Mod}
 use Rattle.chain_record.specs.declared.plain.Ring.{Ring}
@@ -17,6 +17,53 @@ use Rattle.chain_rules.specs.chain.Lists.{any_of, only, is_empty}
 use Rattle.chain_rules.specs.chain.Features.{located, unlocated, base_oxygens, groups_on, floating}
 use Rattle.chain_rules.specs.chain.Refusals.{double_off, group_off, ring_off, off_chain}
 use Rattle.drawn_chain.specs.drawable.Drawn.{Drawn, bonds_drawn, groups_drawn, floats_drawn, rings_drawn, Length, Draws, Says}
+
+-- ---- one feature
+
+below : (c p : ℕ) → leb c p ≡ not (ltb p c)
+below c p = go (ltb p c) refl
+  where
+    go : (t : Bool) → ltb p c ≡ t → leb c p ≡ not t
+    go true e = lt-leb c p (ltb-true p c e)
+    go false e = le-leb c p (ltb-false p c e)
+
+past : (c p : ℕ) → ltb c p ≡ not (leb p c)
+past c p = go (leb p c) refl
+  where
+    go : (t : Bool) → leb p c ≡ t → ltb c p ≡ not t
+    go true e = le-ltb c p (leb-true p c e)
+    go false e = lt-ltb c p (leb-false p c e)
+
+module _ (b : DbPos) (f c : ℕ) where
+  pub bond-before : b.pos < f → ltb b.pos f ≡ double_off f c b
+  unfolding double_off
+  bond-before h = rw (lt-ltb b.pos f h, lt-leb f b.pos h)
+
+  pub bond-after : f ≤ b.pos → leb c b.pos ≡ double_off f c b
+  unfolding double_off
+  bond-after h = rw (le-leb f b.pos h) (below c b.pos)
+
+module _ (g : Mod) (f c : ℕ) where
+  pub group-before : g.pos < f → ltb g.pos f ≡ group_off f c g
+  unfolding group_off
+  group-before h = rw (lt-ltb g.pos f h, lt-leb f g.pos h)
+
+  pub group-after : f ≤ g.pos → ltb c g.pos ≡ group_off f c g
+  unfolding group_off
+  group-after h = rw (le-leb f g.pos h) (past c g.pos)
+
+module _ (x : Ring) (f : ℕ) (a : Bool) where
+  pub ring-before : x.start < f → ltb x.start f ≡ ring_off f a x
+  unfolding ring_off
+  ring-before h = rw (lt-ltb x.start f h)
+
+  pub ring-carbonyl : f ≤ x.start → a ≡ true → eqb x.start 1 ≡ ring_off f a x
+  unfolding ring_off
+  ring-carbonyl h k = rw (le-ltb x.start f h, k)
+
+  pub ring-on : f ≤ x.start → a ≡ false → a ≡ ring_off f a x
+  unfolding ring_off
+  ring-on h k = rw (le-ltb x.start f h, k)
 
 -- ---- the whole chain
 
@@ -90,11 +137,18 @@ module _ (x : Drawn) where
                 off-as r d w
                 ∙ rw (as₁ ∙ f₁, as₂ ∙ f₂, as₃ ∙ f₃, f₄, eq-eqb x.carbon 0 (omega arith)) (or-false (not (is_empty d.groups)))
 
-            pub on-nothing : x.carbon ≤ 0 → length (floats_drawn x) ≡ 0 → Says x false off_chain
+            on-nothing : x.carbon ≤ 0 → length (floats_drawn x) ≡ 0 → Says x false off_chain
             unfolding groups_on floating
             on-nothing h z =
                 record { is = λ r d w. sym (off-last h r d w ∙ rw (none-float x.first d.groups (base_oxygens r d.prefix (located d.groups)) (sym (ap length w.floats) ∙ z) (rw (w.groups, none h) at (as₂ ∙ f₂)))) }
 
-            pub off-float : x.carbon ≤ 0 → (length (floats_drawn x) ≡ 0 → ⊥) → Says x true off_chain
+            off-float : x.carbon ≤ 0 → (length (floats_drawn x) ≡ 0 → ⊥) → Says x true off_chain
             unfolding floating
             off-float h z = record { is = λ r d w. sym (off-last h r d w ∙ rw (some-float d.groups (λ e. z (ap length w.floats ∙ e)))) }
+
+            pub off-rest : x.carbon ≤ 0 → {fs : List Mod} → fs ≡ floats_drawn x → (t₄ : Bool) → t₄ ≡ eqb (length fs) 0 → Says x (not t₄) off_chain
+            off-rest h s₄ t₄ e₄ = go t₄ (sym (rw s₄ at e₄))
+              where
+                go : (t : Bool) → eqb (length (floats_drawn x)) 0 ≡ t → Says x (not t) off_chain
+                go true z = on-nothing h (eqb-true (length (floats_drawn x)) 0 z)
+                go false z = off-float h (eqb-false (length (floats_drawn x)) 0 z)

@@ -4,7 +4,7 @@ use Prim.Native.Nat.{ℕ, suc, ◌+◌, ◌-◌, ◌<◌, ◌≤◌}
 use native.Mathlib.Numerals.{add-one}
 use native.Mathlib.Omega.{arith}
 use mathlib.Core.Path.{◌≡◌, refl, sym, ap, ◌∙◌}
-use mathlib.Core.Bool.{Bool, true, false, cond, not, ◌&&◌, ◌||◌, false≢true, or-true}
+use mathlib.Core.Bool.{Bool, true, false, cond, not, ◌&&◌, ◌||◌, false≢true, or-true, and-false}
 use mathlib.Core.List.{List, [], ◌∷◌}
 use lib.Dec.{eqb, ltb, leb}
 use lib.ListN.{length, drop, get_or, drop_of_length-le}
@@ -47,17 +47,17 @@ module _ (v : Bool) (l : List DbPos) (i c m : ℕ) (same : v ≡ bonds_rise c m 
 -- ---- the rings; what was asked is v
 
 module _ (x : Ring) (m : ℕ) where
-  pub past-early : x.start < m → false ≡ ring_past m x
+  pub past-epoxide : x.bridge ≡ Epoxide → false ≡ ring_past m x
   unfolding ring_past
-  past-early h = rw (lt-leb m x.start h)
-
-  pub past-epoxide : m ≤ x.start → x.bridge ≡ Epoxide → false ≡ ring_past m x
-  unfolding ring_past
-  past-epoxide h e = rw (le-leb m x.start h, e)
+  past-epoxide e = rw (e, and-false (leb m x.start))
 
   pub past-carbocycle : m ≤ x.start → x.bridge ≡ Carbocycle → leb (x.start + 2) x.end ≡ ring_past m x
   unfolding ring_past
   past-carbocycle h e = rw (le-leb m x.start h, e)
+
+  pub past-early : x.start < m → leb m x.start ≡ ring_past m x
+  unfolding ring_past
+  past-early h = rw (lt-leb m x.start h)
 
 module _ (v : Bool) (l : List Ring) (i m : ℕ) (same : v ≡ rings_rise m (drop i l)) where
   pub rings-next : (x : Ring) (t : Bool) → i < length l → x ≡ get_or l i no_ring → t ≡ ring_past m x → not t ≡ false → v ≡ rings_rise (x.start + 1) (drop (i + 1) l)

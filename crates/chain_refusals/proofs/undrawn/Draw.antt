@@ -5,28 +5,25 @@ use native.Mathlib.Omega.{arith}
 use mathlib.Core.Path.{◌≡◌, sym, ◌∙◌}
 use mathlib.Core.Bool.{Bool, true, false, cond, not, and-false}
 use mathlib.Core.List.{List}
-use lib.Dec.{ltb, leb}
+use lib.Dec.{eqb, ltb, leb}
+use Rattle.chain_record.specs.declared.plain.Mod.{Mod}
 use lib.ListN.{length}
 use borrow.Author.Tests.{eq-eqb, ne_eqb, not-true, not-false}
-use Rattle.chain_rules.specs.chain.Lists.{any_of}
+use Rattle.chain_rules.specs.chain.Lists.{any_of, is_empty}
 use Rattle.chain_rules.specs.chain.Features.{is_acyl, remaining, drawn_count, site_skip}
 use Rattle.chain_rules.specs.chain.Refusals.{group_on_carbonyl, pin_too_far, tail_too_short, no_site, draw_refusal}
-use Rattle.drawn_chain.specs.drawable.Drawn.{Drawn, groups_drawn, floats_drawn, group_at, Length, Says}
-use Rattle.drawn_chain.proofs.drawable.Lists.{some-empty, none-empty}
+use Rattle.drawn_chain.specs.drawable.Drawn.{Drawn, groups_drawn, floats_drawn, group_at, Says}
+use Rattle.drawn_chain.proofs.drawable.Lists.{empty-length}
 
 -- ---- 12
 
-pub carbonyl-groups : (x : Drawn) (t : Bool) → not x.acyl ≡ false → t ≡ any_of (group_at 1) (groups_drawn x) → Says x t group_on_carbonyl
+pub carbonyl-groups : (x : Drawn) (t : Bool) {gs : List Mod} → x.acyl ≡ true → gs ≡ groups_drawn x → t ≡ any_of (group_at 1) gs → Says x t group_on_carbonyl
 unfolding group_on_carbonyl
-carbonyl-groups x t h e = record { is = λ r d w. rw (← w.acyl, not-false x.acyl h, ← w.groups) e }
+carbonyl-groups x t h s e = record { is = λ r d w. rw (← w.acyl, h, ← w.groups) (rw s at e) }
 
-pub no-carbonyl : (x : Drawn) → not x.acyl ≡ true → Says x false group_on_carbonyl
+pub no-carbonyl : (x : Drawn) → x.acyl ≡ false → Says x false group_on_carbonyl
 unfolding group_on_carbonyl
-no-carbonyl x h = record { is = λ r d w. rw (← w.acyl, not-true x.acyl h) }
-
-pub no-groups : (x : Drawn) → x.group_count ≡ 0 → Says x false group_on_carbonyl
-unfolding group_on_carbonyl any_of
-no-groups x h = record { is = λ r d w. rw (← w.groups, h) (sym (and-false (is_acyl r d.prefix))) }
+no-carbonyl x h = record { is = λ r d w. rw (← w.acyl, h) }
 
 -- ---- 14
 
@@ -40,17 +37,17 @@ tail-some x m h s = record { is = λ r d w. rw (← w.unlocated, ne_eqb x.unloca
 
 -- ---- 15
 
-module _ (x : Drawn) (room n : ℕ) (l : Length room (floats_drawn x) n) where
-  many : n ≡ length (floats_drawn x)
-  many = l.is
+module _ (x : Drawn) {fs : List Mod} (p : fs ≡ floats_drawn x) (t : Bool) (e : t ≡ eqb (length fs) 0) where
+  none : {u : Bool} → t ≡ u → is_empty (floats_drawn x) ≡ u
+  none f = sym (empty-length (floats_drawn x)) ∙ sym (rw p at e) ∙ f
 
-  pub site-none : n ≡ 0 → Says x false no_site
+  pub site-none : t ≡ true → Says x false no_site
   unfolding no_site
-  site-none h = record { is = λ r d w. rw (← w.floats, none-empty (floats_drawn x) (omega (arith, many))) }
+  site-none f = record { is = λ r d w. rw (← w.floats, none f) }
 
-  pub site-some : (k m : ℕ) → (n ≡ 0 → ⊥) → k ≡ cond x.acyl 1 0 → Says x m drawn_count → Says x (leb m k) no_site
+  pub site-some : (k m : ℕ) → t ≡ false → k ≡ cond x.acyl 1 0 → Says x m drawn_count → Says x (leb m k) no_site
   unfolding no_site site_skip
-  site-some k m h e s = record { is = λ r d w. rw (← w.floats, some-empty (floats_drawn x) (omega (arith, many)), ← s.is r d w, ← w.acyl, ← e) }
+  site-some k m f i s = record { is = λ r d w. rw (← w.floats, none f, ← s.is r d w, ← w.acyl, ← i) }
 
 -- ---- 12 to 15, in order
 

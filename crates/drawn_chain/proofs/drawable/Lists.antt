@@ -59,6 +59,11 @@ unfolding is_empty
 empty-map f [] = refl
 empty-map f (a ∷ l) = refl
 
+pub empty-length : {A : Type 0} (l : List A) → eqb (length l) 0 ≡ is_empty l
+unfolding is_empty
+empty-length [] = refl
+empty-length (a ∷ l) = ne_eqb (length (a ∷ l)) 0 (λ e. omega arith)
+
 pub some-empty : {A : Type 0} (l : List A) → 0 < length l → is_empty l ≡ false
 unfolding is_empty
 some-empty [] h = absurd (omega arith)

@@ -4,6 +4,7 @@
 -- Assumes nothing.
 use Prim.Native.Nat.{ℕ, ◌+◌, ◌<◌, ◌≤◌, max}
 use native.Mathlib.Numerals.{add-one}
+use native.Mathlib.Omega.{arith}
 use mathlib.Core.Path.{◌≡◌, refl, sym, ap, ◌∙◌}
 use mathlib.Core.Bool.{Bool, true, false, ◌&&◌, ◌||◌}
 use mathlib.Core.List.{List, [], ◌∷◌, map}
@@ -38,16 +39,21 @@ left_here l i d a h e = rw (add-one i, e) (drop-cons l i d h)
 pub left-none : {A : Type 0} (l : List A) (i : ℕ) → length l ≤ i → drop i l ≡ []
 left-none l i h = drop_of_length-le l {i = i} h
 
--- ---- whether two elements stand in a relation, those before what is left held against all that follow; what was asked is v
+-- ---- whether two elements stand in a relation, the first of what is left held against all that follow; what was asked is v
 
-module _ {A : Type 0} (v : Bool) (rel : A → A → Bool) (l : List A) (a : A) (t : Bool) (same : v ≡ any_two rel (a ∷ l)) where
-  pub two_here : t ≡ any_of (rel a) l → t ≡ true → true ≡ v
+module _ {A : Type 0} (v : Bool) (rel : A → A → Bool) {l : List A} (same : v ≡ any_two rel l) where
+  pub two_here : (a : A) {k : List A} (t : Bool) → l ≡ a ∷ k → t ≡ any_of (rel a) k → t ≡ true → true ≡ v
   unfolding any_two
-  two_here f g = sym (same ∙ rw (sym f ∙ g))
+  two_here a t e f g = sym (same ∙ rw (e, sym f ∙ g))
 
-  pub two_next : t ≡ any_of (rel a) l → t ≡ false → v ≡ any_two rel l
+  pub two_next : (a : A) {k : List A} (t : Bool) → l ≡ a ∷ k → t ≡ any_of (rel a) k → t ≡ false → v ≡ any_two rel k
   unfolding any_two
-  two_next f g = same ∙ rw (sym f ∙ g)
+  two_next a t e f g = same ∙ rw (e, sym f ∙ g)
+
+pub two_none : {A : Type 0} (v : Bool) (rel : A → A → Bool) (l : List A) → v ≡ any_two rel l → length l ≡ 0 → false ≡ v
+unfolding any_two
+two_none v rel [] same h = sym same
+two_none v rel (a ∷ l) same h = absurd (omega arith)
 
 -- ---- the largest of the elements' numbers and m
 

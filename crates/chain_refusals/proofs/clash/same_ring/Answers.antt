@@ -1,8 +1,8 @@
-use Rattle.std.proofs.Common.{rules, arith}
-use Rattle.std.proofs.lemmas.Grind.{common_steps}
-use Rattle.chain_rules.specs.chain.Refusals.{same_ring}
+use Rattle.chain_refusals.proofs.clash.Clashes.{ring-ends, ring-apart}
 use Rattle.chain_refusals.proofs.clash.same_ring.Goals as goal
 
-pub returns : goal.returns
-unfolding same_ring
-returns c = grind (arith, common_steps)
+pub returns-then-a-b : goal.returns-then-a-b
+returns-then-a-b c = search ring-ends
+
+pub returns-else-a-b : goal.returns-else-a-b
+returns-else-a-b c = search ring-apart

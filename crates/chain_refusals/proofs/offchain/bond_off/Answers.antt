@@ -1,8 +1,8 @@
-use Rattle.std.proofs.Common.{rules, arith}
-use Rattle.std.proofs.lemmas.Grind.{common_steps}
-use Rattle.chain_rules.specs.chain.Refusals.{double_off}
+use Rattle.chain_refusals.proofs.offchain.Off.{bond-before, bond-after}
 use Rattle.chain_refusals.proofs.offchain.bond_off.Goals as goal
 
-pub returns : goal.returns
-unfolding double_off
-returns c = grind (arith, common_steps)
+pub returns-then-bond-first : goal.returns-then-bond-first
+returns-then-bond-first c = search bond-before
+
+pub returns-else-bond-first : goal.returns-else-bond-first
+returns-else-bond-first c = search bond-after

@@ -1,8 +1,8 @@
-use Rattle.std.proofs.Common.{rules, arith}
-use Rattle.std.proofs.lemmas.Grind.{common_steps}
-use Rattle.chain_rules.specs.chain.Refusals.{group_off}
+use Rattle.chain_refusals.proofs.offchain.Off.{group-before, group-after}
 use Rattle.chain_refusals.proofs.offchain.group_off.Goals as goal
 
-pub returns : goal.returns
-unfolding group_off
-returns c = grind (arith, common_steps)
+pub returns-then-group-first : goal.returns-then-group-first
+returns-then-group-first c = search group-before
+
+pub returns-else-group-first : goal.returns-else-group-first
+returns-else-group-first c = search group-after

@@ -1,8 +1,11 @@
-use Rattle.std.proofs.Common.{rules, arith}
-use Rattle.std.proofs.lemmas.Grind.{common_steps}
-use Rattle.chain_rules.specs.chain.Refusals.{ring_off}
+use Rattle.chain_refusals.proofs.offchain.Off.{ring-before, ring-carbonyl, ring-on}
 use Rattle.chain_refusals.proofs.offchain.ring_off.Goals as goal
 
-pub returns : goal.returns
-unfolding ring_off
-returns c = grind (arith, common_steps)
+pub returns-then-ring-first : goal.returns-then-ring-first
+returns-then-ring-first c = search ring-before
+
+pub returns-then-acyl : goal.returns-then-acyl
+returns-then-acyl c = search ring-carbonyl
+
+pub returns-else-acyl : goal.returns-else-acyl
+returns-else-acyl c = search ring-on
