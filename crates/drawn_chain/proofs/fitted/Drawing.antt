@@ -5,7 +5,7 @@ use native.Mathlib.Numerals.{add-one}
 use native.Mathlib.Omega.{arith}
 use mathlib.Core.Path.{◌≡◌, refl, sym, ap, ◌∙◌}
 use mathlib.Core.Bool.{Bool, true, false, cond, not}
-use mathlib.Core.List.{List, [], ◌∷◌, ◌++◌, map, append_assoc, append-nil}
+use mathlib.Core.List.{List, [], ◌∷◌, ◌++◌, append_assoc, append-nil}
 use lib.Dec.{eqb}
 use lib.ListN.{length, take, drop, set, get_or, length-append, length-take, length-set}
 use lib.Seq.{take-suc, take-suc-set, take-set-le, take_all, take-append-add, take-take}
@@ -22,7 +22,6 @@ use Rattle.chain_rules.specs.declared.chain.Role.TheVariants.{Slot, Acyl, Base}
 use Rattle.chain_rules.specs.chain.Lists.{any_of, only}
 use Rattle.chain_rules.specs.chain.Features.{alkenyl_bond, doubles, located, unlocated, oxygen_at, triol_oxygen, base_oxygens, groups_on, floating}
 use Rattle.group_table.specs.groups.Groups.{hydroxy}
-use Rattle.chain_record.specs.codes.Codes.{bond_in, group_in, ring_in}
 use Rattle.drawn_chain.specs.drawable.Drawn.{Drawn, DrawsSome, bonds_in, groups_in, rings_in, no_bond, no_group, Length, group_at, chain_of}
 use Rattle.drawn_chain.proofs.drawable.Through.{only-skip, only-keep, only-all}
 use Rattle.drawn_chain.proofs.drawable.Lists.{length-only, take-front}
@@ -31,13 +30,13 @@ use Rattle.drawn_chain.specs.fitted.Fitted.{alkenyl, Parts, More, Pieces, pieces
 
 -- ---- a chain that a record holds, within its limits, is the one that its arrays say
 
-kept : {A : Type 0} (of : ℕ → A) (limit : ℕ) (xs : List ℕ) (n : ℕ) (l : List A) → Keeps of limit xs n l → length l ≤ limit → map of (take (min n limit) xs) ≡ l
-kept of limit xs n l k h = k.kept ∙ take_all limit l h
+kept : {A : Type 0} (limit : ℕ) (xs : List A) (n : ℕ) (l : List A) → Keeps limit xs n l → length l ≤ limit → take (min n limit) xs ≡ l
+kept limit xs n l k h = k.kept ∙ take_all limit l h
 
 pub held-chain : {c : ParsedChain} {d : Chain} → Holds c d → Within d → chain_of c ≡ d
 unfolding chain_of
 held-chain {c} {d} k w =
-    simp (k.prefix, k.written, k.carbon, k.branched, k.unlocated, k.oxygens, kept bond_in max_bonds c.bonds c.bond_count d.bonds k.bonds w.bonds, kept group_in max_groups c.groups c.group_count d.groups k.groups w.groups, kept ring_in max_rings c.rings c.ring_count d.rings k.rings w.rings)
+    simp (k.prefix, k.written, k.carbon, k.branched, k.unlocated, k.oxygens, kept max_bonds c.bonds c.bond_count d.bonds k.bonds w.bonds, kept max_groups c.groups c.group_count d.groups k.groups w.groups, kept max_rings c.rings c.ring_count d.rings k.rings w.rings)
 
 -- what is drawn of every chain with some pieces is drawn of some chain
 pub fits-some : {r : Role} {p : Pieces} {x : Drawn} → Fits r p x → DrawsSome x

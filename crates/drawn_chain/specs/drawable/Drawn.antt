@@ -1,12 +1,11 @@
 -- Which lists a chain as it is drawn holds: what the contracts of `drawable` cite, beside the definitions of `chain_rules::chain`. Assumes nothing.
-use Rattle.std.specs.Prelude.{ℕ, ◌≤◌, min, ◌≡◌, List, map, Bool, eqb, length, take}
+use Rattle.std.specs.Prelude.{ℕ, ◌≤◌, min, ◌≡◌, List, Bool, eqb, length, take}
 use Rattle.chain_record.specs.declared.plain.Geometry.TheVariants.{Unstated}
 use Rattle.chain_record.specs.declared.plain.Bridge.TheVariants.{Epoxide}
 use Rattle.chain_record.specs.declared.plain.DbPos.{DbPos}
 use Rattle.chain_record.specs.declared.plain.Mod.{Mod}
 use Rattle.chain_record.specs.declared.plain.Ring.{Ring}
 use Rattle.chain_record.specs.plain.Chain.{Chain, max_bonds, max_groups, max_rings}
-use Rattle.chain_record.specs.codes.Codes.{bond_in, group_in, ring_in}
 use Rattle.chain_record.specs.declared.parsed.ParsedChain.{ParsedChain}
 use Rattle.chain_rules.specs.declared.chain.Role.{Role}
 use Rattle.chain_rules.specs.chain.Features.{first_drawn, is_acyl, doubles, groups_on, floating}
@@ -50,7 +49,7 @@ group_pin g = g.pos
 -- the chain that a record of the code holds, a count past its limit counting as the limit
 unfoldable pub chain_of : ParsedChain → Chain
 chain_of c =
-    record { prefix = c.prefix; written = c.written; carbon = c.carbon; branched = c.branched; unlocated = c.unlocated; oxygens = c.oxygens; bonds = map bond_in (take (min c.bond_count max_bonds) c.bonds); groups = map group_in (take (min c.group_count max_groups) c.groups); rings = map ring_in (take (min c.ring_count max_rings) c.rings) }
+    record { prefix = c.prefix; written = c.written; carbon = c.carbon; branched = c.branched; unlocated = c.unlocated; oxygens = c.oxygens; bonds = take (min c.bond_count max_bonds) c.bonds; groups = take (min c.group_count max_groups) c.groups; rings = take (min c.ring_count max_rings) c.rings }
 
 -- ---- a chain as it is drawn
 
