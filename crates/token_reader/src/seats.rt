@@ -1,11 +1,10 @@
 // Seats for the double bonds that a token declares without a position. Only whether each finds one matters: where they sit is not kept.
 // The search goes by an array of used positions, by carbon, so its work is bounded by the carbons and not by the number declared.
-ghost use Rattle.std.specs.Prelude.{◌≡◌, ◌≤◌, ◌<◌, ◌+◌, ◌*◌, ◌-◌, true, map, length};
+ghost use Rattle.std.specs.Prelude.{◌≡◌, ◌≤◌, ◌<◌, ◌+◌, ◌*◌, ◌-◌, true, length};
 ghost use Rattle.chain_record.specs.plain.Chain.{max_carbons};
-ghost use Rattle.chain_record.specs.codes.Codes.{bond_in};
 ghost use Rattle.token_reader.specs.seats.Seats.{used_in, free, first_free, seat_from, SeatIs, seats_from, first_start, positions, NoMarks, Marks, MarksAll, Seated};
 
-use chain_record::MAX_CARBONS;
+use chain_record::{DbPos, MAX_CARBONS};
 
 // One place for each position from 0 to MAX_CARBONS.
 const PLACES: usize = 256;
@@ -84,11 +83,11 @@ fn take_seats(used: &mut [bool], carbon: u16, start: u16, missing: u64) -> bool
 }
 
 // Marks the positions of the listed double bonds.
-fn mark_listed(used: &mut [bool], listed: &[u64])
-    ensures { MarksAll used.old (positions (map bond_in listed.now)) used.new }
+fn mark_listed(used: &mut [bool], listed: &[DbPos])
+    ensures { MarksAll used.old (positions listed.now) used.new }
 {
-    for code in listed {
-        mark(used, chain_record::bond_in(*code).pos);
+    for bond in listed {
+        mark(used, bond.pos);
     }
 }
 
@@ -101,16 +100,16 @@ fn first_start(carbon: u16) -> u16
 }
 
 // Whether no position is listed and the seats 9, 12, 15 and so on are enough: nothing is used there, so the search needs no array.
-fn seats_in_row(carbon: u16, listed: &[u64], missing: u64) -> bool
+fn seats_in_row(carbon: u16, listed: &[DbPos], missing: u64) -> bool
     ensures { result ≡ true → (length listed.now ≡ 0) × (6 + 3 * missing < carbon) }
 {
     listed.is_empty() && missing <= MAX_CARBONS as u64 && 6 + 3 * missing < carbon as u64
 }
 
-// Whether each of the missing bonds finds a seat beside the listed double bonds, which are numbers of `chain_record::codes`.
-pub fn placeholder_positions(carbon: u16, listed: &[u64], missing: u64) -> bool
+// Whether each of the missing bonds finds a seat beside the listed double bonds.
+pub fn placeholder_positions(carbon: u16, listed: &[DbPos], missing: u64) -> bool
     requires { carbon ≤ max_carbons }
-    ensures { Seated carbon (positions (map bond_in listed.now)) missing result }
+    ensures { Seated carbon (positions listed.now) missing result }
 {
     if missing == 0 {
         return true;

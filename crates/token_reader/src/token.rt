@@ -10,7 +10,7 @@ ghost use Rattle.token_reader.specs.token.Short.{Numbered, HeadAt, Headed, SpotO
 
 use super::seats;
 use chain_record::{
-    ChainPrefix, Counts, DbPos, Geometry, MAX_BONDS, MAX_GROUPS, MAX_RINGS, Mod, Refusal,
+    ChainPrefix, Counts, DbPos, Geometry, MAX_BONDS, MAX_GROUPS, MAX_RINGS, Mod, Refusal, Ring,
 };
 use token_features::{Feature, Segment};
 use token_head::{Branch, Start};
@@ -50,7 +50,7 @@ fn all_printable(s: &[u8]) -> bool
 }
 
 // The bonds missing beside the first n, which are those of the `(..)` list: how many are declared without a position, where each finds a seat.
-fn missing_bonds(carbon: u16, bonds: &[u64], n: usize, declared: u64) -> Option<u16>
+fn missing_bonds(carbon: u16, bonds: &[DbPos], n: usize, declared: u64) -> Option<u16>
     requires carbon_le_max_carbons { carbon ≤ max_carbons }
     requires n_in_bounds { n ≤ length bonds.now }
     ensures { result ≡ missing_of carbon (bonds_in n bonds.now) declared }
@@ -106,9 +106,9 @@ fn parse_rest(
     missing: Option<u16>,
     s: &[u8],
     carbon: u16,
-    bonds: &mut [u64],
-    groups: &mut [u64],
-    rings: &mut [u64],
+    bonds: &mut [DbPos],
+    groups: &mut [Mod],
+    rings: &mut [Ring],
     counts: Counts,
 ) -> Result<Ending, Refusal>
     requires max_bonds_in_bounds { max_bonds ≤ length bonds.old }
@@ -124,7 +124,7 @@ fn parse_rest(
 }
 
 // The `(..)` list, and its count.
-fn parse_list(s: &[u8], bonds: &mut [u64], counts: Counts) -> Result<Counts, Refusal>
+fn parse_list(s: &[u8], bonds: &mut [DbPos], counts: Counts) -> Result<Counts, Refusal>
     requires { max_bonds ≤ length bonds.old }
     ensures { ListIs s.now counts bonds.old result bonds.new }
 {
@@ -138,9 +138,9 @@ fn parse_listed(
     declared: u64,
     s: &[u8],
     carbon: u16,
-    bonds: &mut [u64],
-    groups: &mut [u64],
-    rings: &mut [u64],
+    bonds: &mut [DbPos],
+    groups: &mut [Mod],
+    rings: &mut [Ring],
     counts: Counts,
 ) -> Result<Ending, Refusal>
     requires carbon_le_max_carbons { carbon ≤ max_carbons }
@@ -163,9 +163,9 @@ fn parse_after_count(
     declared: u64,
     s: &[u8],
     carbon: u16,
-    bonds: &mut [u64],
-    groups: &mut [u64],
-    rings: &mut [u64],
+    bonds: &mut [DbPos],
+    groups: &mut [Mod],
+    rings: &mut [Ring],
     counts: Counts,
 ) -> Result<Ending, Refusal>
     requires carbon_le_max_carbons { carbon ≤ max_carbons }
@@ -186,9 +186,9 @@ fn parse_after_count(
 fn parse_bonds(
     s: &[u8],
     carbon: u16,
-    bonds: &mut [u64],
-    groups: &mut [u64],
-    rings: &mut [u64],
+    bonds: &mut [DbPos],
+    groups: &mut [Mod],
+    rings: &mut [Ring],
     counts: Counts,
 ) -> Result<Ending, Refusal>
     requires carbon_le_max_carbons { carbon ≤ max_carbons }
@@ -254,9 +254,9 @@ fn parse_named(
     prefix: ChainPrefix,
     branch: Branch,
     s: &[u8],
-    bonds: &mut [u64],
-    groups: &mut [u64],
-    rings: &mut [u64],
+    bonds: &mut [DbPos],
+    groups: &mut [Mod],
+    rings: &mut [Ring],
 ) -> Result<ReadChain, Refusal>
     requires max_bonds_in_bounds { max_bonds ≤ length bonds.old }
     requires max_groups_in_bounds { max_groups ≤ length groups.old }
@@ -281,9 +281,9 @@ fn parse_named(
 // A trimmed token.
 fn parse_trimmed(
     t: &[u8],
-    bonds: &mut [u64],
-    groups: &mut [u64],
-    rings: &mut [u64],
+    bonds: &mut [DbPos],
+    groups: &mut [Mod],
+    rings: &mut [Ring],
 ) -> Result<ReadChain, Refusal>
     requires max_bonds_in_bounds { max_bonds ≤ length bonds.old }
     requires max_groups_in_bounds { max_groups ≤ length groups.old }
@@ -303,9 +303,9 @@ fn parse_trimmed(
 // A token of at most 255 bytes, into arrays with room for all that it may say.
 fn read_any(
     s: &[u8],
-    bonds: &mut [u64],
-    groups: &mut [u64],
-    rings: &mut [u64],
+    bonds: &mut [DbPos],
+    groups: &mut [Mod],
+    rings: &mut [Ring],
 ) -> Result<ReadChain, Refusal>
     requires s_len_bound { length s.now ≤ max_bytes }
     requires max_bonds_in_bounds { max_bonds ≤ length bonds.old }
@@ -386,15 +386,15 @@ fn read_head(s: &[u8]) -> Option<Head>
     head_at(&s[1..], opening.prefix, 1)
 }
 
-// A double bond of a list, as a number of `chain_record::codes`, and how many bytes it has.
+// A double bond, a group or a ring that was read, and how many bytes it has.
 #[derive(Clone, Copy)]
-pub struct Spot {
-    pub code: u64,
+pub struct Item<T> {
+    pub what: T,
     pub next: usize,
 }
 
 // A position with the large letter after it.
-fn lettered(pos: u32, b: u8, next: usize) -> Option<Spot>
+fn lettered(pos: u32, b: u8, next: usize) -> Option<Item<DbPos>>
     ensures { IfSome result (λ r. SpotOf pos b next r) }
 {
     let geom = match b {
@@ -402,12 +402,12 @@ fn lettered(pos: u32, b: u8, next: usize) -> Option<Spot>
         b'E' => Geometry::Trans,
         _ => return None,
     };
-    let code = chain_record::bond_code(DbPos { pos, geom });
-    Some(Spot { code, next })
+    let what = DbPos { pos, geom };
+    Some(Item { what, next })
 }
 
 // One or two digits and a letter, with a byte behind them.
-fn read_spot(t: &[u8]) -> Option<Spot>
+fn read_spot(t: &[u8]) -> Option<Item<DbPos>>
     ensures { IfSome result (λ r. Spotted t.now r) }
 {
     if t.len() < 3 || !scanner::is_digit(t[0]) {
@@ -435,7 +435,7 @@ pub struct Listed {
 const NOTHING: Listed = Listed { count: 0, rest: 0 };
 
 // The list that follows a `(`, where each position is written as nearly all are.
-fn read_list(s: &[u8], bonds: &mut [u64]) -> Option<Listed>
+fn read_list(s: &[u8], bonds: &mut [DbPos]) -> Option<Listed>
     requires { max_bonds ≤ length bonds.old }
     ensures { IfSome result (λ r. Listing s.now bonds.new r) }
 {
@@ -443,7 +443,7 @@ fn read_list(s: &[u8], bonds: &mut [u64]) -> Option<Listed>
     for count in 0..MAX_BONDS {
         let spot = read_spot(t)?;
         let n = spot.next;
-        bonds[count] = spot.code;
+        bonds[count] = spot.what;
         if t[n] == b')' {
             return Some(Listed {
                 count: count + 1,
@@ -459,7 +459,7 @@ fn read_list(s: &[u8], bonds: &mut [u64]) -> Option<Listed>
 }
 
 // The list straight after the bond count.
-fn usual_list(u: &[u8], bonds: &mut [u64]) -> Option<Listed>
+fn usual_list(u: &[u8], bonds: &mut [DbPos]) -> Option<Listed>
     requires { max_bonds ≤ length bonds.old }
     ensures { IfSome result (λ r. Lists u.now bonds.new r) }
 {
@@ -537,15 +537,8 @@ fn read_lead(t: &[u8]) -> Option<Lead>
     })
 }
 
-// A group or a ring of a segment, as a number of `chain_record::codes`, and how many bytes it has.
-#[derive(Clone, Copy)]
-pub struct Item {
-    pub code: u64,
-    pub next: usize,
-}
-
 // A position, which may be missing, and the abbreviation of a group.
-fn read_item(t: &[u8]) -> Option<Item>
+fn read_item(t: &[u8]) -> Option<Item<Mod>>
     ensures { IfSome result (λ r. Itemed t.now r) }
 {
     let lead = read_lead(t).unwrap_or(NOWHERE);
@@ -560,8 +553,8 @@ fn read_item(t: &[u8]) -> Option<Item>
     let Feature::Group(row) = token_features::feature_of(&t[n..n + m]) else {
         return None;
     };
-    let code = chain_record::group_code(Mod { pos: lead.pos, row });
-    Some(Item { code, next: n + m })
+    let what = Mod { pos: lead.pos, row };
+    Some(Item { what, next: n + m })
 }
 
 // Whether a part ends at a byte.
@@ -572,7 +565,7 @@ fn is_separator(b: u8) -> bool
 }
 
 // The segments, where each is a list of groups that is written as nearly all are: how many groups they give.
-fn read_groups(s: &[u8], groups: &mut [u64]) -> Option<usize>
+fn read_groups(s: &[u8], groups: &mut [Mod]) -> Option<usize>
     requires { max_groups ≤ length groups.old }
     ensures { IfSome result (λ n. Grouped s.now groups.new n) }
 {
@@ -583,7 +576,7 @@ fn read_groups(s: &[u8], groups: &mut [u64]) -> Option<usize>
     for count in 0..MAX_GROUPS {
         let item = read_item(t)?;
         let n = item.next;
-        groups[count] = item.code;
+        groups[count] = item.what;
         if n == t.len() {
             return Some(count + 1);
         }
@@ -596,7 +589,7 @@ fn read_groups(s: &[u8], groups: &mut [u64]) -> Option<usize>
 }
 
 // The size of a ring and the `]` behind it.
-fn read_size(t: &[u8], start: u32, end: u32, carbon: u16) -> Option<Item>
+fn read_size(t: &[u8], start: u32, end: u32, carbon: u16) -> Option<Item<Ring>>
     ensures { IfSome result (λ r. Sized start end carbon t.now r) }
 {
     let size = read_lead(t)?;
@@ -609,13 +602,13 @@ fn read_size(t: &[u8], start: u32, end: u32, carbon: u16) -> Option<Item>
         return None;
     };
     Some(Item {
-        code: chain_record::ring_code(cycle),
+        what: cycle,
         next: n + 1,
     })
 }
 
 // The last carbon of a ring, `cy` and what follows it.
-fn read_span(t: &[u8], start: u32, carbon: u16) -> Option<Item>
+fn read_span(t: &[u8], start: u32, carbon: u16) -> Option<Item<Ring>>
     ensures { IfSome result (λ r. Spanned start carbon t.now r) }
 {
     let end = read_lead(t)?;
@@ -625,13 +618,13 @@ fn read_span(t: &[u8], start: u32, carbon: u16) -> Option<Item>
     }
     let sized = read_size(&t[n + 2..], start, end.pos, carbon)?;
     Some(Item {
-        code: sized.code,
+        what: sized.what,
         next: n + 2 + sized.next,
     })
 }
 
 // The first carbon of a ring, `-` and what follows it.
-fn read_bracket(t: &[u8], carbon: u16) -> Option<Item>
+fn read_bracket(t: &[u8], carbon: u16) -> Option<Item<Ring>>
     ensures { IfSome result (λ r. Enclosed carbon t.now r) }
 {
     let start = read_lead(t)?;
@@ -641,13 +634,13 @@ fn read_bracket(t: &[u8], carbon: u16) -> Option<Item>
     }
     let span = read_span(&t[n + 1..], start.pos, carbon)?;
     Some(Item {
-        code: span.code,
+        what: span.what,
         next: n + 1 + span.next,
     })
 }
 
 // The ring in brackets that the first segment is.
-fn first_ring(v: &[u8], carbon: u16, rings: &mut [u64]) -> Option<Listed>
+fn first_ring(v: &[u8], carbon: u16, rings: &mut [Ring]) -> Option<Listed>
     requires { max_rings ≤ length rings.old }
     ensures { IfSome result (λ r. RingFirst carbon v.now rings.new r) }
 {
@@ -655,7 +648,7 @@ fn first_ring(v: &[u8], carbon: u16, rings: &mut [u64]) -> Option<Listed>
         return None;
     }
     let ring = read_bracket(&v[2..], carbon)?;
-    rings[0] = ring.code;
+    rings[0] = ring.what;
     Some(Listed {
         count: 1,
         rest: ring.next + 2,
@@ -675,7 +668,7 @@ pub struct Usual {
 }
 
 // The head, the list, a ring and segments of groups. What was looked at here needs no look at its bytes and spaces before.
-fn read_usual(s: &[u8], bonds: &mut [u64], groups: &mut [u64], rings: &mut [u64]) -> Option<Usual>
+fn read_usual(s: &[u8], bonds: &mut [DbPos], groups: &mut [Mod], rings: &mut [Ring]) -> Option<Usual>
     requires s_len_bound { length s.now ≤ max_bytes }
     requires max_bonds_in_bounds { max_bonds ≤ length bonds.old }
     requires max_groups_in_bounds { max_groups ≤ length groups.old }
@@ -749,7 +742,7 @@ fn plain_chain(usual: Usual, missing: Option<u16>) -> Result<ReadChain, Refusal>
 }
 
 // The same, where the bonds are yet to be seated: none are missing where all have a position.
-fn end_plain(usual: Usual, bonds: &[u64]) -> Result<ReadChain, Refusal>
+fn end_plain(usual: Usual, bonds: &[DbPos]) -> Result<ReadChain, Refusal>
     requires carbon_le_max_carbons { usual.carbon ≤ max_carbons }
     requires count_in_bounds { usual.count ≤ length bonds.now }
     ensures { PlainIn usual.prefix usual.carbon usual.declared usual.count usual.groups usual.rings bonds.now result }
@@ -765,9 +758,9 @@ fn end_plain(usual: Usual, bonds: &[u64]) -> Result<ReadChain, Refusal>
 fn end_segments(
     usual: Usual,
     s: &[u8],
-    bonds: &mut [u64],
-    groups: &mut [u64],
-    rings: &mut [u64],
+    bonds: &mut [DbPos],
+    groups: &mut [Mod],
+    rings: &mut [Ring],
 ) -> Result<ReadChain, Refusal>
     requires carbon_le_max_carbons { usual.carbon ≤ max_carbons }
     requires count_le_max_bonds { usual.count ≤ max_bonds }
@@ -801,9 +794,9 @@ fn end_segments(
 // A token, into arrays with room for all that it may say. Nearly every token starts in one way, and has no segments.
 fn read_token(
     s: &[u8],
-    bonds: &mut [u64],
-    groups: &mut [u64],
-    rings: &mut [u64],
+    bonds: &mut [DbPos],
+    groups: &mut [Mod],
+    rings: &mut [Ring],
 ) -> Result<ReadChain, Refusal>
     requires max_bonds_in_bounds { max_bonds ≤ length bonds.old }
     requires max_groups_in_bounds { max_groups ≤ length groups.old }
@@ -826,9 +819,9 @@ fn read_token(
 // The chain that a token says, its double bonds, groups and rings in lent arrays. Arrays with less room than the limits ask are refused by 31.
 pub fn parse_token(
     s: &[u8],
-    bonds: &mut [u64],
-    groups: &mut [u64],
-    rings: &mut [u64],
+    bonds: &mut [DbPos],
+    groups: &mut [Mod],
+    rings: &mut [Ring],
 ) -> Result<ReadChain, Refusal>
     ensures { Tells result bonds.new groups.new rings.new (token_in (length bonds.old) (length groups.old) (length rings.old) s.now) }
 {

@@ -51,17 +51,10 @@ fn put_bond(out: &mut [u8], at: usize, bond: DbPos) -> usize {
 }
 
 fn put_bonds(out: &mut [u8], at: usize, chain: ParsedChain) -> usize {
-    let n = chain.bond_count;
-    let bonds = chain.bonds;
-    let mut p = put_none(out, at, n);
-    let mut i = 0;
-    while i < n {
-        if MAX_BONDS <= i {
-            return p;
-        }
+    let mut p = put_none(out, at, chain.bond_count);
+    for (i, bond) in chain.bonds.iter().take(chain.bond_count).enumerate() {
         p = writer::put_byte(out, p, separator(i));
-        p = put_bond(out, p, chain_record::bond_in(bonds[i]));
-        i += 1;
+        p = put_bond(out, p, *bond);
     }
     p
 }
@@ -80,17 +73,10 @@ fn put_group(out: &mut [u8], at: usize, group: Mod) -> usize {
 }
 
 fn put_groups(out: &mut [u8], at: usize, chain: ParsedChain) -> usize {
-    let n = chain.group_count;
-    let groups = chain.groups;
-    let mut p = put_none(out, at, n);
-    let mut i = 0;
-    while i < n {
-        if GROUP_ROOM <= i {
-            return p;
-        }
+    let mut p = put_none(out, at, chain.group_count);
+    for (i, group) in chain.groups.iter().take(chain.group_count).enumerate() {
         p = writer::put_byte(out, p, separator(i));
-        p = put_group(out, p, chain_record::group_in(groups[i]));
-        i += 1;
+        p = put_group(out, p, *group);
     }
     p
 }
@@ -107,17 +93,10 @@ fn put_ring(out: &mut [u8], at: usize, ring: Ring) -> usize {
 }
 
 fn put_rings(out: &mut [u8], at: usize, chain: ParsedChain) -> usize {
-    let n = chain.ring_count;
-    let rings = chain.rings;
-    let mut p = put_none(out, at, n);
-    let mut i = 0;
-    while i < n {
-        if MAX_RINGS <= i {
-            return p;
-        }
+    let mut p = put_none(out, at, chain.ring_count);
+    for (i, ring) in chain.rings.iter().take(chain.ring_count).enumerate() {
         p = writer::put_byte(out, p, separator(i));
-        p = put_ring(out, p, chain_record::ring_in(rings[i]));
-        i += 1;
+        p = put_ring(out, p, *ring);
     }
     p
 }
@@ -139,10 +118,24 @@ fn put_record(out: &mut [u8], at: usize, chain: ParsedChain) -> usize {
     put_rings(out, r, chain)
 }
 
+// What stands in an array where nothing was read.
+const NO_BOND: DbPos = DbPos {
+    pos: 0,
+    geom: Geometry::Unstated,
+};
+
+const NO_GROUP: Mod = Mod { pos: 0, row: 0 };
+
+const NO_RING: Ring = Ring {
+    start: 0,
+    end: 0,
+    bridge: Bridge::Epoxide,
+};
+
 fn put_answer(out: &mut [u8], token: &[u8]) -> usize {
-    let mut bonds = [0u64; MAX_BONDS];
-    let mut groups = [0u64; GROUP_ROOM];
-    let mut rings = [0u64; MAX_RINGS];
+    let mut bonds = [NO_BOND; MAX_BONDS];
+    let mut groups = [NO_GROUP; GROUP_ROOM];
+    let mut rings = [NO_RING; MAX_RINGS];
     let read = token_reader::parse_token(token, &mut bonds, &mut groups, &mut rings);
     match read {
         Err(refusal) => {
@@ -180,7 +173,7 @@ fn write_answer(rt: HostRuntime, out: &mut [u8], token: &[u8]) {
     }
 }
 
-// A line as it comes in.
+// A line as it comes in: a part of it may come with the next block, so its bytes stand in an array of their own (no heap).
 #[derive(Clone, Copy)]
 struct Line {
     len: usize,
@@ -212,16 +205,13 @@ fn answer_line(rt: HostRuntime, out: &mut [u8], line: Line) {
 // The lines that end in a block, and what is left of the last.
 fn answer_block(rt: HostRuntime, out: &mut [u8], line: Line, block: &[u8]) -> Line {
     let mut l = line;
-    let mut i = 0;
-    while i < block.len() {
-        let b = block[i];
-        i += 1;
-        if b == b'\n' {
+    for b in block {
+        if *b == b'\n' {
             answer_line(rt, out, l);
             l = empty_line();
-            continue;
+        } else {
+            l = with_byte(l, *b);
         }
-        l = with_byte(l, b);
     }
     l
 }
@@ -265,11 +255,10 @@ fn read_block(rt: HostRuntime, out: &mut [u8], line: Line) -> Turn {
     }
 }
 
-// A proved loop ends, and nothing says that the input does: the turns count down from a number that no run uses up.
+// A proved loop ends, and nothing says that the input does: there are as many turns as no run uses up.
 fn answer_all(rt: HostRuntime, out: &mut [u8]) {
     let mut line = empty_line();
-    let mut turns = u64::MAX;
-    while turns > 0 {
+    for _ in 0..u64::MAX {
         let turn = read_block(rt, out, line);
         let rest = turn.line;
         if !turn.more {
@@ -279,7 +268,6 @@ fn answer_all(rt: HostRuntime, out: &mut [u8]) {
             return;
         }
         line = rest;
-        turns -= 1;
     }
 }
 

@@ -49,7 +49,7 @@ group_pin g = g.pos
 -- the chain that a record of the code holds, a count past its limit counting as the limit
 unfoldable pub chain_of : ParsedChain → Chain
 chain_of c =
-    record { prefix = c.prefix; written = c.written; carbon = c.carbon; branched = c.branched; unlocated = c.unlocated; oxygens = c.oxygens; bonds = take (min c.bond_count max_bonds) c.bonds; groups = take (min c.group_count max_groups) c.groups; rings = take (min c.ring_count max_rings) c.rings }
+    record { prefix = c.prefix; written = c.written; carbon = c.carbon; branched = c.branched; unlocated = c.unlocated; oxygens = c.oxygens; bonds = bonds_in (min c.bond_count max_bonds) c.bonds; groups = groups_in (min c.group_count max_groups) c.groups; rings = rings_in (min c.ring_count max_rings) c.rings }
 
 -- ---- a chain as it is drawn
 

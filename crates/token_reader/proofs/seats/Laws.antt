@@ -17,7 +17,6 @@ use borrow.Author.Tests.{lt-ltb, le-ltb, eq-eqb, ne_eqb, ltb-true, ltb-false}
 use Rattle.std.specs.Prelude.{Option, Some, None}
 use Rattle.std.specs.Option.{option_or}
 use Rattle.chain_record.specs.declared.plain.DbPos.{DbPos}
-use Rattle.chain_record.specs.codes.Codes.{bond_in}
 use Rattle.token_reader.specs.seats.Seats.{among, also, free, Found, SeatIs, first_free, seat_from, on_seat, seats_from, first_start, seated, used_in, positions, NoMarks, Marks, MarksAll, Seated}
 
 -- ---- a free seat
@@ -155,23 +154,26 @@ positions-one [] b = refl
 positions-one (x ∷ bs) b = ap (λ (r : List ℕ). x.pos ∷ r) (positions-one bs b)
 
 -- nothing marked yet
-pub marks-none : (xs : List Bool) (bs : List ℕ) → MarksAll xs (positions (map bond_in (take 0 bs))) xs
+pub marks-none : (xs : List Bool) (bs : List DbPos) → MarksAll xs (positions (take 0 bs)) xs
 unfolding positions among
 marks-none xs bs = record { same_length = refl; marked = λ k h. refl }
 
 -- one listed bond more
-pub marks-one : (xs ys zs : List Bool) (bs : List ℕ) (i : ℕ) (b : DbPos) → i < length bs → b ≡ bond_in (get_or bs i 0)
-    → MarksAll xs (positions (map bond_in (take i bs))) ys → Marks ys b.pos zs → MarksAll xs (positions (map bond_in (take (i + 1) bs))) zs
+pub marks-one : (xs ys zs : List Bool) (bs : List DbPos) (i : ℕ) (e : DbPos) → i < length bs
+    → MarksAll xs (positions (take i bs)) ys → Marks ys (get_or bs i e).pos zs → MarksAll xs (positions (take (i + 1) bs)) zs
 unfolding also
-marks-one xs ys zs bs i b h f m n = record { same_length = ap length n.marked ∙ length-set ys _ true ∙ m.same_length; marked = each }
+marks-one xs ys zs bs i e h m n = record { same_length = ap length n.marked ∙ length-set ys _ true ∙ m.same_length; marked = each }
   where
+    b : DbPos
+    b = get_or bs i e
+
     listed : List ℕ
-    listed = positions (map bond_in (take i bs))
+    listed = positions (take i bs)
 
-    more : positions (map bond_in (take (i + 1) bs)) ≡ listed ++ (b.pos ∷ [])
-    more = rw (add-one i, take-suc bs i 0 h, map-append bond_in (take i bs) (get_or bs i 0 ∷ []), ← f) (positions-one (map bond_in (take i bs)) b)
+    more : positions (take (i + 1) bs) ≡ listed ++ (b.pos ∷ [])
+    more = rw (add-one i, take-suc bs i e h) (positions-one (take i bs) b)
 
-    each : (k : ℕ) → k < length xs → used_in zs k ≡ cond (among (positions (map bond_in (take (i + 1) bs))) k) true (used_in xs k)
+    each : (k : ℕ) → k < length xs → used_in zs k ≡ cond (among (positions (take (i + 1) bs)) k) true (used_in xs k)
     each k g =
         rw (more, among_one listed b.pos k)
         (ap (λ (z : List Bool). used_in z k) n.marked ∙ sym (also-set ys b.pos k (omega (arith, m.same_length))) ∙ rw (m.marked k g) (go (eqb b.pos k) (among listed k)))
@@ -285,7 +287,7 @@ unfolding seats_from
 row-all c u s zero h g = refl
 row-all c u s (suc n) h g = rw (row-seat c u s (omega arith) g) (row-all c (also s u) (s + 3) n (omega arith) (row_next u s g))
 
-pub seats-row : (c : ℕ) (bs : List ℕ) (n : ℕ) (r : Bool) → (n ≡ 0 → ⊥) → c ≤ 255 → (r ≡ true → (length bs ≡ 0) × (6 + 3 * n < c)) → r ≡ true → Seated c (positions (map bond_in bs)) n true
+pub seats-row : (c : ℕ) (bs : List DbPos) (n : ℕ) (r : Bool) → (n ≡ 0 → ⊥) → c ≤ 255 → (r ≡ true → (length bs ≡ 0) × (6 + 3 * n < c)) → r ≡ true → Seated c (positions bs) n true
 unfolding seated positions among
 seats-row c [] n r z h f e =
     let w = f e in

@@ -24,8 +24,6 @@ use Rattle.chain_record.specs.declared.plain.DbPos.{DbPos}
 use Rattle.chain_record.specs.declared.plain.Mod.{Mod}
 use Rattle.chain_record.specs.declared.plain.Ring.{Ring}
 use Rattle.chain_record.specs.plain.Chain.{Chain, Outcome, Read, Refused, and_then, with_group, counts_of, max_bonds, max_groups, max_rings}
-use Rattle.chain_record.specs.codes.Codes.{group_in, group_code}
-use Rattle.chain_record.proofs.codes.Laws.{group-back}
 use Rattle.group_table.specs.groups.Groups.{substituent_of, alias_ring_size}
 use Rattle.std.specs.Prelude.{Option, Some, None}
 use Rattle.group_table.proofs.groups.Laws.{substituent-row}
@@ -134,12 +132,11 @@ numeral-two x y e f =
 record Before (t : List ℕ) (r : Lead) : Type 0 where
   within : r.length ≤ length t
   plain : Plainly (take r.length t)
-  small : r.pos ≤ 99
   says : (c x : ℕ) (b : List ℕ) → is_digit x ≡ false → part_of (take r.length t ++ x ∷ b) c ≡ item_at (x ∷ b) r.pos c
 
 before-either : (t : List ℕ) (o : Option Lead) (r : Lead) → IfSome o (λ r. Leads t r) → r ≡ unwrap_or o (record { pos = 0; length = 0 }) → Before t r
-before-either t None r w e = rw e (record { within = omega arith; plain = tt; small = omega arith; says = λ c x b e. part_none c x b e })
-before-either t (Some q) r w e = rw e (record { within = w.within; plain = w.plain; small = w.small; says = w.says })
+before-either t None r w e = rw e (record { within = omega arith; plain = tt; says = λ c x b e. part_none c x b e })
+before-either t (Some q) r w e = rw e (record { within = w.within; plain = w.plain; says = w.says })
 
 pub lead-one : (t : List ℕ) (a : Bool) (x : ℕ) → 2 ≤ length t → a ≡ is_digit (get_or t 0 0) → not a ≡ false → x ≡ get_or t 0 0 - 48 → Leads t (record { pos = x; length = 1 })
 lead-one [] a x l e n f = absurd (omega arith)
@@ -158,15 +155,6 @@ lead-two (i ∷ j ∷ t) a b x y l e n f m g h =
 
 -- ---- a group
 
-group-row : (abbr : List ℕ) (row : ℕ) → feature_of abbr ≡ Feature-as-Group row → row < 17
-unfolding feature_of
-group-row abbr row e = go (alias_ring_size abbr) (substituent_of abbr) refl e
-  where
-    go : (r : Option ℕ) (f : Option ℕ) → substituent_of abbr ≡ f → named r f ≡ Feature-as-Group row → row < 17
-    go (Some n) f h e = let z : ◌≡◌ {A = ℕ} 0 1 = cc in absurd (omega arith)
-    go None (Some i) h e = let z : i ≡ row = cc in rw (← z) (substituent-row abbr i h)
-    go None None h e = let z : ◌≡◌ {A = ℕ} 0 1 = cc in absurd (omega arith)
-
 item-group : (abbr : List ℕ) (row pos c : ℕ) → feature_of abbr ≡ Feature-as-Group row → item_at abbr pos c ≡ Located (record { pos = pos; row = row })
 unfolding item_at
 item-group abbr row pos c e = rw e
@@ -180,32 +168,31 @@ abbrev head_of : List ℕ → ℕ
 head_of [] = 0
 head_of (x ∷ s) = x
 
-item_from : (t : List ℕ) (q : Lead) (m : ℕ) (u : List ℕ) (row code : ℕ) → Before t q → drop q.length t ≡ u → (q.length ≡ length t → ⊥) → is_digit (get_or t q.length 0) ≡ false → PlainRun u m → (m ≡ 0 → ⊥)
-    → feature_of (take m u) ≡ Feature-as-Group row → code ≡ group_code (record { pos = q.pos; row = row }) → Itemed t (record { code = code; next = q.length + m })
-item_from t q zero u row code w i n d p z g e = absurd (z refl)
-item_from t q (suc k) [] row code w i n d p z g e = absurd (omega (arith, p.within))
-item_from t q (suc k) (x ∷ u) row code w i n d p z g e =
+item_from : (t : List ℕ) (q : Lead) (m : ℕ) (u : List ℕ) (row : ℕ) → Before t q → drop q.length t ≡ u → (q.length ≡ length t → ⊥) → is_digit (get_or t q.length 0) ≡ false → PlainRun u m → (m ≡ 0 → ⊥)
+    → feature_of (take m u) ≡ Feature-as-Group row → Itemed t (record { what = record { pos = q.pos; row = row }; next = q.length + m })
+item_from t q zero u row w i n d p z g = absurd (z refl)
+item_from t q (suc k) [] row w i n d p z g = absurd (omega (arith, p.within))
+item_from t q (suc k) (x ∷ u) row w i n d p z g =
     let l : q.length < length t = omega (arith, w.within, n) in
     let y : get_or t q.length 0 ≡ x = ap head_of (sym (drop-cons t q.length 0 l) ∙ i) in
     let v : is_digit x ≡ false = sym (ap is_digit y) ∙ d in
     let r : length t - q.length ≡ length (x ∷ u) = sym (length-drop q.length t) ∙ ap length i in
     let j : take (q.length + suc k) t ≡ take q.length t ++ x ∷ take k u = take-plus q.length (suc k) t ∙ rw i in
-    let b : group_in code ≡ record { pos = q.pos; row = row } = ap group_in e ∙ group-back (record { pos = q.pos; row = row }) (omega (arith, w.small)) (omega (arith, group-row (x ∷ take k u) row g)) in
     record {
       some = omega arith;
       room = omega (arith, r, p.within, w.within);
       plain = rw j (plainly-append (take q.length t) (x ∷ take k u) w.plain p.plain);
-      says = λ c. rw (j, b) (w.says c x (take k u) v ∙ item-group (x ∷ take k u) row q.pos c g);
+      says = λ c. rw j (w.says c x (take k u) v ∙ item-group (x ∷ take k u) row q.pos c g);
     }
 
-pub item-read : (t : List ℕ) (q : Lead) (a : Bool) (m : ℕ) (f : Feature) (row code : ℕ) (o : Option Lead) → IfSome o (λ r. Leads t r) → q ≡ unwrap_or o (record { pos = 0; length = 0 }) → (q.length ≡ length t → ⊥) → a ≡ is_digit (get_or t q.length 0) → a ≡ false
+pub item-read : (t : List ℕ) (q : Lead) (a : Bool) (m : ℕ) (f : Feature) (row : ℕ) (o : Option Lead) → IfSome o (λ r. Leads t r) → q ≡ unwrap_or o (record { pos = 0; length = 0 }) → (q.length ≡ length t → ⊥) → a ≡ is_digit (get_or t q.length 0) → a ≡ false
     → PlainRun (take (length t - q.length) (drop q.length t)) m → (m ≡ 0 → ⊥) → f ≡ feature_of (take (q.length + m - q.length) (drop q.length t)) → f ≡ Feature-as-Group row
-    → code ≡ group_code (record { pos = q.pos; row = row }) → Itemed t (record { code = code; next = q.length + m })
-item-read t q a m f row code o w y n e b p z g h k =
+    → Itemed t (record { what = record { pos = q.pos; row = row }; next = q.length + m })
+item-read t q a m f row o w y n e b p z g h =
     let cut : q.length + m - q.length ≡ m = omega arith in
     let r : PlainRun (drop q.length t) m = rw (to_end q.length t) at p in
     let i : feature_of (take m (drop q.length t)) ≡ Feature-as-Group row = sym (rw cut at g) ∙ h in
-    item_from t q m (drop q.length t) row code (before-either t o q w y) refl n (sym e ∙ b) r z i k
+    item_from t q m (drop q.length t) row (before-either t o q w y) refl n (sym e ∙ b) r z i
 
 -- ---- a segment without marks
 
@@ -369,22 +356,22 @@ module _ (a : List ℕ) (g : Mod) (h : Plainly a) (w : (c : ℕ) → part_of a c
 -- ---- the loop
 
 -- so far: what the segments say is what the rest says, on the chain with the groups read
-pub record Onto (s t hs : List ℕ) (n : ℕ) : Type 0 where
+pub record Onto (s t : List ℕ) (hs : List Mod) (n : ℕ) : Type 0 where
   passed : Passed s t
   says : Cleanly (take (index_of 59 t) t) → 0 < index_of 59 t → (p : ChainPrefix) (w : ℕ) (l : List DbPos) (z : List Ring) → length l ≤ max_bonds → length z ≤ max_rings → segments s (laden p w l [] z) ≡ parts_left t (laden p w l (groups_in n hs) z)
 
-pub onto-none : (s hs : List ℕ) → (length s ≡ 0 → ⊥) → get_or s 0 0 ≡ 59 → Onto s (take (length s - 1) (drop 1 s)) hs 0
+pub onto-none : (s : List ℕ) (hs : List Mod) → (length s ≡ 0 → ⊥) → get_or s 0 0 ≡ 59 → Onto s (take (length s - 1) (drop 1 s)) hs 0
 onto-none [] hs l e = absurd (l refl)
 onto-none (x ∷ t) hs l e =
     rw (to_end 1 (x ∷ t), e)
     (record { passed = passed-one 59 t t (omega arith) (omega arith) (passed_here t); says = λ c i p w l z h k. first-empty t (laden p w l [] z) ∙ segment-start t (laden p w l [] z) c i })
 
-groups-more : (p : ChainPrefix) (w : ℕ) (l : List DbPos) (z : List Ring) (n code : ℕ) (hs : List ℕ) → n < length hs → with_group (group_in code) (laden p w l (groups_in n hs) z) ≡ laden p w l (groups_in (n + 1) (set hs n code)) z
+groups-more : (p : ChainPrefix) (w : ℕ) (l : List DbPos) (z : List Ring) (n : ℕ) (g : Mod) (hs : List Mod) → n < length hs → with_group g (laden p w l (groups_in n hs) z) ≡ laden p w l (groups_in (n + 1) (set hs n g)) z
 unfolding with_group
-groups-more p w l z n code hs h = rw (add-one n, take-suc-set hs n code h, map-append group_in (take n hs) (code ∷ []))
+groups-more p w l z n g hs h = rw (add-one n, take-suc-set hs n g h)
 
-groups-few : (n : ℕ) (hs : List ℕ) → length (groups_in n hs) ≤ n
-groups-few n hs = omega (arith, length-map (take n hs) group_in, length-take n hs)
+groups-few : (n : ℕ) (hs : List Mod) → length (groups_in n hs) ≤ n
+groups-few n hs = omega (arith, length-take n hs)
 
 pub laden-counts : (p : ChainPrefix) (w : ℕ) (l : List DbPos) (g : List Mod) (z : List Ring) → length l ≤ 32 → length g ≤ 16 → length z ≤ 8 → counts_of (laden p w l g z) ≡ Read (laden p w l g z)
 unfolding counts_of
@@ -396,45 +383,45 @@ clean-only (x ∷ a) h =
     let y = byte_of x h.0 in
     (record { low = omega (arith, y.low); opens = y.opens; closes = y.closes; cy = y.cy }, clean-only a h.1)
 
-module _ (s t a hs : List ℕ) (n code : ℕ) (o : Onto s t hs n) (h : Plainly a) (long : 0 < length a) (w : (c : ℕ) → part_of a c ≡ Located (group_in code)) (few : n < 16) (roomy : 16 ≤ length hs) where
-  counted : (p : ChainPrefix) (i : ℕ) (l : List DbPos) (z : List Ring) → length l ≤ 32 → length z ≤ 8 → counts_of (with_group (group_in code) (laden p i l (groups_in n hs) z)) ≡ Read (laden p i l (groups_in (n + 1) (set hs n code)) z)
-  counted p i l z k j = rw (groups-more p i l z n code hs (omega arith)) (laden-counts p i l (groups_in (n + 1) (set hs n code)) z k (omega (arith, groups-few (n + 1) (set hs n code))) j)
+module _ (s t a : List ℕ) (hs : List Mod) (n : ℕ) (g : Mod) (o : Onto s t hs n) (h : Plainly a) (long : 0 < length a) (w : (c : ℕ) → part_of a c ≡ Located g) (few : n < 16) (roomy : 16 ≤ length hs) where
+  counted : (p : ChainPrefix) (i : ℕ) (l : List DbPos) (z : List Ring) → length l ≤ 32 → length z ≤ 8 → counts_of (with_group g (laden p i l (groups_in n hs) z)) ≡ Read (laden p i l (groups_in (n + 1) (set hs n g)) z)
+  counted p i l z k j = rw (groups-more p i l z n g hs (omega arith)) (laden-counts p i l (groups_in (n + 1) (set hs n g)) z k (omega (arith, groups-few (n + 1) (set hs n g))) j)
 
-  onto-comma : (u : List ℕ) → t ≡ a ++ 44 ∷ u → Passed s u → Onto s u (set hs n code) (n + 1)
+  onto-comma : (u : List ℕ) → t ≡ a ++ 44 ∷ u → Passed s u → Onto s u (set hs n g) (n + 1)
   onto-comma u e q =
       let v : Onto s (a ++ 44 ∷ u) hs n = rw e at o in
       record {
         passed = q;
         says = λ k i p j l x m y.
             v.says
-            (rw (take-comma a (group_in code) h w u) (clean-plain a (44 ∷ take (index_of 59 u) u) h (record { low = omega arith; opens = λ z. omega arith; closes = λ z. omega arith; cy = λ z. omega arith }, k)))
-            (omega (arith, at-comma a (group_in code) h w u)) p j l x m y
-            ∙ left-comma a (group_in code) h w u (laden p j l (groups_in n hs) x)
-            ∙ ap (parts_left u) (groups-more p j l x n code hs (omega arith));
+            (rw (take-comma a g h w u) (clean-plain a (44 ∷ take (index_of 59 u) u) h (record { low = omega arith; opens = λ z. omega arith; closes = λ z. omega arith; cy = λ z. omega arith }, k)))
+            (omega (arith, at-comma a g h w u)) p j l x m y
+            ∙ left-comma a g h w u (laden p j l (groups_in n hs) x)
+            ∙ ap (parts_left u) (groups-more p j l x n g hs (omega arith));
       }
 
-  onto-next : (u : List ℕ) → t ≡ a ++ 59 ∷ u → Passed s u → Onto s u (set hs n code) (n + 1)
+  onto-next : (u : List ℕ) → t ≡ a ++ 59 ∷ u → Passed s u → Onto s u (set hs n g) (n + 1)
   onto-next u e q =
       let v : Onto s (a ++ 59 ∷ u) hs n = rw e at o in
       record {
         passed = q;
         says = λ k i p j l x m y.
-            v.says (rw (at_next a (group_in code) h w u, take-append_seam a (59 ∷ u)) (clean-only a h)) (omega (arith, at_next a (group_in code) h w u)) p j l x m y
-            ∙ left-next a (group_in code) h w u (laden p j l (groups_in n hs) x)
-            ∙ rw (counted p j l x m y) (segment-start u (laden p j l (groups_in (n + 1) (set hs n code)) x) k i);
+            v.says (rw (at_next a g h w u, take-append_seam a (59 ∷ u)) (clean-only a h)) (omega (arith, at_next a g h w u)) p j l x m y
+            ∙ left-next a g h w u (laden p j l (groups_in n hs) x)
+            ∙ rw (counted p j l x m y) (segment-start u (laden p j l (groups_in (n + 1) (set hs n g)) x) k i);
       }
 
-  onto-end : t ≡ a → Passed s [] → may_follow s ≡ true → Grouped s (set hs n code) (n + 1)
+  onto-end : t ≡ a → Passed s [] → may_follow s ≡ true → Grouped s (set hs n g) (n + 1)
   unfolding all_printable ending
   onto-end e q f =
       let v : Onto s a hs n = rw e at o in
       record {
         few = omega arith;
-        stored = omega (arith, length-set hs n code);
+        stored = omega (arith, length-set hs n g);
         follows = record { bytes = q.bytes; solid = q.solid refl; start = f };
         says = λ p j l x m y.
-            v.says (rw (at-end a (group_in code) h w, take_all (length a) a (omega arith)) (clean-only a h)) (omega (arith, at-end a (group_in code) h w)) p j l x m y
-            ∙ left_end a (group_in code) h w (laden p j l (groups_in n hs) x)
+            v.says (rw (at-end a g h w, take_all (length a) a (omega arith)) (clean-only a h)) (omega (arith, at-end a g h w)) p j l x m y
+            ∙ left_end a g h w (laden p j l (groups_in n hs) x)
             ∙ rw (counted p j l x m y);
       }
 
@@ -442,34 +429,34 @@ may-follow : (s : List ℕ) → get_or s 0 0 ≡ 59 → may_follow s ≡ true
 may-follow [] e = refl
 may-follow (x ∷ s) e = eq-eqb x 59 e
 
-module _ (s t hs : List ℕ) (n : ℕ) (o : Onto s t hs n) (r : Item) (v : Itemed t r) (few : n < 16) (roomy : 16 ≤ length hs) where
+module _ (s t : List ℕ) (hs : List Mod) (n : ℕ) (o : Onto s t hs n) (r : Item Mod) (v : Itemed t r) (few : n < 16) (roomy : 16 ≤ length hs) where
   item-long : 0 < length (take r.next t)
   item-long = omega (arith, length-take r.next t, v.room, v.some)
 
   -- the last group
-  pub onto-last : get_or s 0 0 ≡ 59 → r.next ≡ length t → Grouped s (set hs n r.code) (n + 1)
+  pub onto-last : get_or s 0 0 ≡ 59 → r.next ≡ length t → Grouped s (set hs n r.what) (n + 1)
   onto-last c e =
       let y : t ≡ take r.next t = sym (take_all r.next t (omega arith)) in
       let k : drop r.next t ≡ [] = drop_of_length-le t {i = r.next} (omega arith) in
       let q : Passed s [] = rw k at (passed_on s t (drop r.next t) o.passed (passed-plain r.next t v.room v.plain)) in
-      onto-end s t (take r.next t) hs n r.code o v.plain item-long v.says few roomy y q (may-follow s c)
+      onto-end s t (take r.next t) hs n r.what o v.plain item-long v.says few roomy y q (may-follow s c)
 
   item-past : r.next < length t → 33 ≤ get_or t r.next 0 → get_or t r.next 0 ≤ 126 → Passed s (drop (suc r.next) t)
   item-past l i j =
       let k : Passed t (get_or t r.next 0 ∷ drop (suc r.next) t) = rw (drop-cons t r.next 0 l) at (passed-plain r.next t v.room v.plain) in
       passed_on s t _ o.passed (passed_on t _ _ k (passed-one (get_or t r.next 0) _ _ i j (passed_here _)))
 
-  item-more : (r.next ≡ length t → ⊥) → (get_or t r.next 0 ≡ 44) ⊎ (get_or t r.next 0 ≡ 59) → Onto s (drop (suc r.next) t) (set hs n r.code) (n + 1)
+  item-more : (r.next ≡ length t → ⊥) → (get_or t r.next 0 ≡ 44) ⊎ (get_or t r.next 0 ≡ 59) → Onto s (drop (suc r.next) t) (set hs n r.what) (n + 1)
   item-more e (inl c) =
       let l : r.next < length t = omega (arith, v.room, e) in
       let y : t ≡ take r.next t ++ 44 ∷ drop (suc r.next) t = split_at t r.next 0 l ∙ ap (λ (x : ℕ). take r.next t ++ x ∷ drop (suc r.next) t) c in
-      onto-comma s t (take r.next t) hs n r.code o v.plain item-long v.says few roomy (drop (suc r.next) t) y (item-past l (omega arith) (omega arith))
+      onto-comma s t (take r.next t) hs n r.what o v.plain item-long v.says few roomy (drop (suc r.next) t) y (item-past l (omega arith) (omega arith))
   item-more e (inr c) =
       let l : r.next < length t = omega (arith, v.room, e) in
       let y : t ≡ take r.next t ++ 59 ∷ drop (suc r.next) t = split_at t r.next 0 l ∙ ap (λ (x : ℕ). take r.next t ++ x ∷ drop (suc r.next) t) c in
-      onto-next s t (take r.next t) hs n r.code o v.plain item-long v.says few roomy (drop (suc r.next) t) y (item-past l (omega arith) (omega arith))
+      onto-next s t (take r.next t) hs n r.what o v.plain item-long v.says few roomy (drop (suc r.next) t) y (item-past l (omega arith) (omega arith))
 
   -- a comma, or another segment
   pub onto-more : (r.next ≡ length t → ⊥) → (b : Bool) → (b ≡ true → (get_or t r.next 0 ≡ 44) ⊎ (get_or t r.next 0 ≡ 59)) → not b ≡ false
-      → Onto s (take (length t - (r.next + 1)) (drop (r.next + 1) t)) (set hs n r.code) (n + 1)
+      → Onto s (take (length t - (r.next + 1)) (drop (r.next + 1) t)) (set hs n r.what) (n + 1)
   onto-more e b q m = rw (to_end (r.next + 1) t, add-one r.next) (item-more e (q (not-false b m)))

@@ -8,8 +8,8 @@ use mir.Syntax.{w16}
 use mir.Val.{Fits}
 use mathlib.Core.Path.{◌≡◌, refl, sym, ap, ◌∙◌}
 use mathlib.Core.Bool.{Bool, true, false, not, cond}
-use mathlib.Core.List.{List, [], ◌∷◌, map}
-use lib.ListN.{length, take, drop, get_or, length-map, length-take}
+use mathlib.Core.List.{List, [], ◌∷◌}
+use lib.ListN.{length, take, drop, get_or, length-take}
 use lib.Dec.{eqb, leb}
 use borrow.Author.Tests.{lt-ltb, le-ltb, eq-eqb, ne_eqb, not-true, not-false}
 use Rattle.scanner.specs.scan.Part.{trimmed, index_of, starts_with, same_bytes, Place}
@@ -20,8 +20,9 @@ use Rattle.scanner.proofs.scan.Laws.{to_end, starts-length}
 use Rattle.chain_record.specs.declared.plain.ChainPrefix.{ChainPrefix}
 use Rattle.chain_record.specs.declared.plain.ChainPrefix.TheVariants.{Acyl}
 use Rattle.chain_record.specs.declared.plain.DbPos.{DbPos}
+use Rattle.chain_record.specs.declared.plain.Mod.{Mod}
+use Rattle.chain_record.specs.declared.plain.Ring.{Ring}
 use Rattle.chain_record.specs.plain.Chain.{Chain, Outcome, and_then, counts_of, with_unlocated, max_bonds, max_groups, max_rings}
-use Rattle.chain_record.specs.codes.Codes.{bond_in}
 use Rattle.chain_record.specs.declared.parsed.Counts.{Counts}
 use Rattle.chain_record.specs.declared.refusal.Refusal.{Refusal}
 use Rattle.chain_record.specs.declared.refusal.Refusal.TheVariants.{OverLimit, Unreadable}
@@ -69,15 +70,15 @@ module _ (A : Bool) where
 
 -- ---- the missing bonds
 
-pub bonds-long : (n : ℕ) (bs : List ℕ) → n ≤ length bs → length (bonds_in n bs) ≡ n
-bonds-long n bs l = omega (arith, length-map (take n bs) bond_in, length-take n bs)
+pub bonds-long : (n : ℕ) (bs : List DbPos) → n ≤ length bs → length (bonds_in n bs) ≡ n
+bonds-long n bs l = omega (arith, length-take n bs)
 
-module _ (carbon : ℕ) (bs : List ℕ) (n declared : ℕ) (l : n ≤ length bs) where
+module _ (carbon : ℕ) (bs : List DbPos) (n declared : ℕ) (l : n ≤ length bs) where
   pub given-many : declared < n → None ≡ missing_of carbon (bonds_in n bs) declared
   unfolding missing_of
   given-many h = rw (bonds-long n bs l, lt-ltb declared n h)
 
-  module _ (s : Bool) (g : n ≤ declared) (w : Seated carbon (positions (map bond_in (take n bs))) (declared - n) s) where
+  module _ (s : Bool) (g : n ≤ declared) (w : Seated carbon (positions (take n bs)) (declared - n) s) where
     same : missing_of carbon (bonds_in n bs) declared ≡ cond s (Some (declared - n)) None
     unfolding missing_of
     same = rw (bonds-long n bs l, le-ltb declared n g, ← w.is)
@@ -92,12 +93,12 @@ module _ (carbon : ℕ) (bs : List ℕ) (n declared : ℕ) (l : n ≤ length bs)
     seated-fits z = record { fits = omega (arith, w.few (not-false s z)) }
 
 -- the double bonds that an array keeps within the limit are the list's
-bonds-kept : (bs : List ℕ) (n : ℕ) (l : List DbPos) → Keeps bond_in max_bonds bs n l → n ≤ max_bonds → bonds_in n bs ≡ l
+bonds-kept : (bs : List DbPos) (n : ℕ) (l : List DbPos) → Keeps max_bonds bs n l → n ≤ max_bonds → bonds_in n bs ≡ l
 bonds-kept bs n l k h = keeps-all k (keeps-within k h)
 
 -- ---- an oxygen count that stands alone
 
-module _ {A : Type 0} {of : ℕ → A} {limit : ℕ} {xs : List ℕ} {n : ℕ} {l : List A} (k : Keeps of limit xs n l) where
+module _ {A : Type 0} {limit : ℕ} {xs : List A} {n : ℕ} {l : List A} (k : Keeps limit xs n l) where
   nothing : n ≡ 0 → length l ≡ 0
   nothing e = omega (arith, k.counted)
 
@@ -153,8 +154,8 @@ module _ (m : Option ℕ) (c : Counts) where
               };
         })
 
-module _ (m : Option ℕ) (s : List ℕ) (carbon : ℕ) (k : Counts) (bs gs rs : List ℕ) where
-  last : (q : Counts) (ys hs zs : List ℕ) (r : Result Ending Refusal) → Finishes q r (finished m) → Ends carbon q ys hs zs r ys hs zs (finished m)
+module _ (m : Option ℕ) (s : List ℕ) (carbon : ℕ) (k : Counts) (bs : List DbPos) (gs : List Mod) (rs : List Ring) where
+  last : (q : Counts) (ys : List DbPos) (hs : List Mod) (zs : List Ring) (r : Result Ending Refusal) → Finishes q r (finished m) → Ends carbon q ys hs zs r ys hs zs (finished m)
   last q ys hs zs (Ok e) w = record { gives = λ x. w.gives (telling_as (carbon_as x carbon) (tell 0 q ys hs zs)) }
   last q ys hs zs (Err n) w = record { gives = λ x. w.gives (telling_as (carbon_as x carbon) (tell 0 q ys hs zs)) }
 
@@ -166,7 +167,7 @@ module _ (m : Option ℕ) (s : List ℕ) (carbon : ℕ) (k : Counts) (bs gs rs :
       go [] h = fills_same (last k bs gs rs r w) (λ x d u. sym (rest-empty m d))
       go (x ∷ s) h = absurd (omega arith)
 
-  module _ (p : Result Counts Refusal) (ys hs zs : List ℕ) (w : Collects (on carbon all_as) (gather k bs gs rs) p ys hs zs (segments s)) where
+  module _ (p : Result Counts Refusal) (ys : List DbPos) (hs : List Mod) (zs : List Ring) (w : Collects (on carbon all_as) (gather k bs gs rs) p ys hs zs (segments s)) where
     pub rest-refused : (n : Refusal) (r : Result Ending Refusal) → p ≡ Err n → IsErrAnd r (λ (y : Refusal). y ≡ n) → Ends carbon k bs gs rs r ys hs zs (rest_of m s)
     unfolding rest_of
     rest-refused n r e f =
@@ -181,7 +182,7 @@ module _ (m : Option ℕ) (s : List ℕ) (carbon : ℕ) (k : Counts) (bs gs rs :
 
 -- ---- the position list
 
-module _ (s : List ℕ) (k : Counts) (bs : List ℕ) (p : Result ℕ Refusal) (ys : List ℕ) (w : Pushes bonds_as k.bonds bs p ys (bond_list s)) where
+module _ (s : List ℕ) (k : Counts) (bs : List DbPos) (p : Result ℕ Refusal) (ys : List DbPos) (w : Pushes bonds_as k.bonds bs p ys (bond_list s)) where
   pub list-refused : (n : Refusal) (r : Result Counts Refusal) → p ≡ Err n → IsErrAnd r (λ (y : Refusal). y ≡ n) → ListIs s k bs r ys
   unfolding counted_list
   list-refused n r e f =
@@ -213,12 +214,12 @@ module _ (s : List ℕ) (k : Counts) (bs : List ℕ) (p : Result ℕ Refusal) (y
           few = listed-few r h;
         }
 
-module _ (declared : ℕ) (s : List ℕ) (carbon : ℕ) (k : Counts) (bs gs rs : List ℕ) (n : ℕ) (f : Place s (index_of 41 s) n) where
+module _ (declared : ℕ) (s : List ℕ) (carbon : ℕ) (k : Counts) (bs : List DbPos) (gs : List Mod) (rs : List Ring) (n : ℕ) (f : Place s (index_of 41 s) n) where
   pub list_open : n ≡ length s → Ends carbon k bs gs rs (Err Unreadable) bs gs rs (listed_of declared s)
   unfolding listed_of
   list_open h = fills-refused 11 (tell 0 k bs gs rs) (listed_of declared s) (λ x d u. rw (eq-eqb (index_of 41 s) (length s) (sym f.is ∙ h)))
 
-  module _ (h : n ≡ length s → ⊥) (p : Result Counts Refusal) (ys : List ℕ) (w : ListIs (take (n - 0) s) k bs p ys) where
+  module _ (h : n ≡ length s → ⊥) (p : Result Counts Refusal) (ys : List DbPos) (w : ListIs (take (n - 0) s) k bs p ys) where
     closed : eqb (index_of 41 s) (length s) ≡ false
     closed = ne_eqb (index_of 41 s) (length s) (λ e. h (f.is ∙ e))
 
@@ -242,7 +243,7 @@ module _ (declared : ℕ) (s : List ℕ) (carbon : ℕ) (k : Counts) (bs gs rs :
       pub listed-few-bonds : q.bonds ≤ max_bonds
       listed-few-bonds = let v : ListIs (take (n - 0) s) k bs (Ok q) ys = rw e at w in v.few
 
-      pub listed-read : (m : Option ℕ) (r : Result Ending Refusal) (xs hs zs : List ℕ) → m ≡ missing_of carbon (bonds_in q.bonds ys) declared
+      pub listed-read : (m : Option ℕ) (r : Result Ending Refusal) (xs : List DbPos) (hs : List Mod) (zs : List Ring) → m ≡ missing_of carbon (bonds_in q.bonds ys) declared
           → Ends carbon q ys gs rs r xs hs zs (rest_of m (take (length s - (n + 1)) (drop (n + 1) s))) → Ends carbon k bs gs rs r xs hs zs (listed_of declared s)
       listed-read m r xs hs zs g t =
           record {
@@ -260,11 +261,11 @@ module _ (declared : ℕ) (s : List ℕ) (carbon : ℕ) (k : Counts) (bs gs rs :
 
 -- ---- from the bond count on
 
-module _ (declared : ℕ) (s : List ℕ) (carbon : ℕ) (k : Counts) (bs gs rs : List ℕ) (b : Bool) (e : b ≡ starts_with (40 ∷ []) s) where
+module _ (declared : ℕ) (s : List ℕ) (carbon : ℕ) (k : Counts) (bs : List DbPos) (gs : List Mod) (rs : List Ring) (b : Bool) (e : b ≡ starts_with (40 ∷ []) s) where
   pub list-room : b ≡ true → 1 ≤ length s
   list-room t = starts-length (40 ∷ []) s (sym e ∙ t)
 
-  module _ (r : Result Ending Refusal) (ys hs zs : List ℕ) where
+  module _ (r : Result Ending Refusal) (ys : List DbPos) (hs : List Mod) (zs : List Ring) where
     pub with-list : b ≡ true → Ends carbon k bs gs rs r ys hs zs (listed_of declared (take (length s - 1) (drop 1 s))) → Ends carbon k bs gs rs r ys hs zs (after_count declared s)
     unfolding after_count
     with-list t w = fills_same w (λ x d u. sym (rw (sym e ∙ t, to_end 1 s)))
@@ -277,7 +278,7 @@ module _ (declared : ℕ) (s : List ℕ) (carbon : ℕ) (k : Counts) (bs gs rs :
         let q : m ≡ missing_of d.carbon d.bonds declared = v ∙ rw (bonds-kept bs k.bonds d.bonds u.bonds l, u.carbon) in
         sym (rw (sym e ∙ t, ← q)))
 
-module _ (s : List ℕ) (carbon : ℕ) (k : Counts) (bs gs rs : List ℕ) (n : ℕ) (f : Place s (digit_run s) n) (v : Option ℕ) (e : v ≡ digits_up_to 4294967295 (take (n - 0) s)) where
+module _ (s : List ℕ) (carbon : ℕ) (k : Counts) (bs : List DbPos) (gs : List Mod) (rs : List Ring) (n : ℕ) (f : Place s (digit_run s) n) (v : Option ℕ) (e : v ≡ digits_up_to 4294967295 (take (n - 0) s)) where
   run : v ≡ digits_up_to 4294967295 (take (digit_run s) s)
   run = rw (sub-zero n, f.is) at e
 
@@ -285,18 +286,18 @@ module _ (s : List ℕ) (carbon : ℕ) (k : Counts) (bs gs rs : List ℕ) (n : �
   unfolding bonds_of
   no-count g = fills-refused 11 (tell 0 k bs gs rs) (bonds_of s) (λ x d u. rw (sym run ∙ g))
 
-  pub count-read : (m : ℕ) (r : Result Ending Refusal) (ys hs zs : List ℕ) → v ≡ Some m → Ends carbon k bs gs rs r ys hs zs (after_count m (take (length s - n) (drop n s))) → Ends carbon k bs gs rs r ys hs zs (bonds_of s)
+  pub count-read : (m : ℕ) (r : Result Ending Refusal) (ys : List DbPos) (hs : List Mod) (zs : List Ring) → v ≡ Some m → Ends carbon k bs gs rs r ys hs zs (after_count m (take (length s - n) (drop n s))) → Ends carbon k bs gs rs r ys hs zs (bonds_of s)
   unfolding bonds_of
   count-read m r ys hs zs g w = fills_same w (λ x d u. sym (rw (sym run ∙ g, ← f.is, to_end n s)))
 
 -- ---- the token
 
 -- a start and what was read from the bond count on stand for an outcome as a token
-pub with-start : (s : Start) (e : Result Ending Refusal) (bs gs rs : List ℕ) (o : Outcome) → Stands (answered (telling_as (carbon_as (start_as s bs gs rs) s.carbon)) (told e bs gs rs)) o → Tells (ended_as s e) bs gs rs o
+pub with-start : (s : Start) (e : Result Ending Refusal) (bs : List DbPos) (gs : List Mod) (rs : List Ring) (o : Outcome) → Stands (answered (telling_as (carbon_as (start_as s bs gs rs) s.carbon)) (told e bs gs rs)) o → Tells (ended_as s e) bs gs rs o
 with-start s (Ok e) bs gs rs o w = record { stands = w }
 with-start s (Err n) bs gs rs o w = record { stands = w }
 
-module _ (p : ChainPrefix) (b : Branch) (s bs gs rs : List ℕ) (n : ℕ) (f : Place s (index_of 58 s) n) where
+module _ (p : ChainPrefix) (b : Branch) (s : List ℕ) (bs : List DbPos) (gs : List Mod) (rs : List Ring) (n : ℕ) (f : Place s (index_of 58 s) n) where
   pub no-colon : n ≡ length s → Tells (Err Unreadable) bs gs rs (named_chain p b s)
   unfolding named_chain
   no-colon h = record { stands = rw (eq-eqb (index_of 58 s) (length s) (sym f.is ∙ h)) refl }
@@ -314,7 +315,7 @@ module _ (p : ChainPrefix) (b : Branch) (s bs gs rs : List ℕ) (n : ℕ) (f : P
         let v : Starts (Err m) gs (carbons_of p b (take (n - 0) s)) = rw e at w in
         rw (err_kept r m g) (record { stands = rw (colon, ← text, stands-refused (number_of m) (carbons_of p b (take (n - 0) s)) (v.stands bs rs)) refl })
 
-    pub carbons-then : (a : Start) (e : Result Ending Refusal) (r : Result ReadChain Refusal) (ys hs zs : List ℕ) → q ≡ Ok a
+    pub carbons-then : (a : Start) (e : Result Ending Refusal) (r : Result ReadChain Refusal) (ys : List DbPos) (hs : List Mod) (zs : List Ring) → q ≡ Ok a
         → Ends a.carbon (record { bonds = 0; groups = a.groups; rings = 0; oxygens = 0 }) bs gs rs e ys hs zs (bonds_of (take (length s - (n + 1)) (drop (n + 1) s)))
         → r ≡ ended_as a e → Tells r ys hs zs (named_chain p b s)
     unfolding named_chain
@@ -325,15 +326,15 @@ module _ (p : ChainPrefix) (b : Branch) (s bs gs rs : List ℕ) (n : ℕ) (f : P
         rw (i, colon, ← text, g.1, ← f.is, ← t) (with-start a e ys hs zs _ ((v.gives (start_as a bs gs rs)).stands g.0 g.2))
 
 module _ (t : List ℕ) (a : Bool) (e : a ≡ same_bytes t empty_text) where
-  pub empty-token : (r : ReadChain) (bs gs rs : List ℕ) → a ≡ true → r ≡ empty_chain → Tells (Ok r) bs gs rs (trimmed_of t)
+  pub empty-token : (r : ReadChain) (bs : List DbPos) (gs : List Mod) (rs : List Ring) → a ≡ true → r ≡ empty_chain → Tells (Ok r) bs gs rs (trimmed_of t)
   unfolding trimmed_of
   empty-token r bs gs rs h k = rw k (record { stands = rw (sym e ∙ h) (holds-none Acyl 0 0 false bs gs rs) })
 
-  pub opened-chain : (o : Opening) (r : Result ReadChain Refusal) (bs gs rs : List ℕ) → a ≡ false → Opened t o → Tells r bs gs rs (named_chain o.prefix o.branch (take (length t - o.carbons) (drop o.carbons t))) → Tells r bs gs rs (trimmed_of t)
+  pub opened-chain : (o : Opening) (r : Result ReadChain Refusal) (bs : List DbPos) (gs : List Mod) (rs : List Ring) → a ≡ false → Opened t o → Tells r bs gs rs (named_chain o.prefix o.branch (take (length t - o.carbons) (drop o.carbons t))) → Tells r bs gs rs (trimmed_of t)
   unfolding trimmed_of
   opened-chain o r bs gs rs h w s = record { stands = rw (sym e ∙ h, ← w.is, ← to_end o.carbons t) s.stands }
 
-module _ (s bs gs rs : List ℕ) where
+module _ (s : List ℕ) (bs : List DbPos) (gs : List Mod) (rs : List Ring) where
   pub token-long : 255 < length s → Tells (Err OverLimit) bs gs rs (token_of s)
   unfolding token_of
   token-long h = record { stands = rw (lt-ltb 255 (length s) h) refl }
@@ -349,7 +350,7 @@ module _ (s bs gs rs : List ℕ) where
 
 -- ---- in arrays of any length
 
-module _ (b g n : ℕ) (s bs gs rs : List ℕ) where
+module _ (b g n : ℕ) (s : List ℕ) (bs : List DbPos) (gs : List Mod) (rs : List Ring) where
   pub bonds-short : b < 32 → Tells (Err OverLimit) bs gs rs (token_in b g n s)
   unfolding token_in
   bonds-short h = record { stands = rw (lt-ltb b max_bonds h) refl }

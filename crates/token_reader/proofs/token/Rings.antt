@@ -20,8 +20,6 @@ use Rattle.chain_record.specs.declared.plain.DbPos.{DbPos}
 use Rattle.chain_record.specs.declared.plain.Ring.{Ring}
 use Rattle.chain_record.specs.declared.plain.Bridge.TheVariants.{Carbocycle}
 use Rattle.chain_record.specs.plain.Chain.{Chain, Read, with_ring, counts_of}
-use Rattle.chain_record.specs.codes.Codes.{ring_in, ring_code}
-use Rattle.chain_record.proofs.codes.Laws.{ring-back}
 use Rattle.token_syntax.specs.form.Parts.{parts_at}
 use Rattle.token_syntax.specs.form.Form.{segment_text, after_opening, before_closing, cy_text, span_form, form_of}
 use Rattle.token_syntax.specs.form.Numbers.{ring_count}
@@ -199,39 +197,24 @@ module _ (t : List ℕ) (h : Inners t) (long : 0 < length t) (d e : Chain) (f : 
 
 -- ---- the ways out
 
-ring-kept : (start end n c : ℕ) (g : Ring) → c < 65536 → ring_of start end n c ≡ Cycle g → ring_in (ring_code g) ≡ g
-unfolding ring_of
-ring-kept start end n c g l e = go (ltb end start) (ltb c end) (eqb (end - start + 1) n) refl refl e
-  where
-    go : (i j k : Bool) → ltb end start ≡ i → ltb c end ≡ j → cond i Unreadable (cond j Unreadable (cond k (Cycle (record { start = start; end = end; bridge = Carbocycle })) Unreadable)) ≡ Cycle g → ring_in (ring_code g) ≡ g
-    go true j k a b e = let z : ◌≡◌ {A = ℕ} 0 1 = cc in absurd (omega arith)
-    go false true k a b e = let z : ◌≡◌ {A = ℕ} 0 1 = cc in absurd (omega arith)
-    go false false false a b e = let z : ◌≡◌ {A = ℕ} 0 1 = cc in absurd (omega arith)
-    go false false true a b e =
-        let z : record { start = start; end = end; bridge = Carbocycle } ≡ g = cc in
-        let p = ltb-false end start a in
-        let q = ltb-false c end b in
-        rw (← z) (ring-back (record { start = start; end = end; bridge = Carbocycle }) (omega arith) (omega arith))
-
 -- the size
-pub sized-read : (start end carbon : ℕ) (t : List ℕ) (q : Lead) (s : Segment) (g : Ring) (code : ℕ) → carbon < 65536 → Leads t q → (q.length ≡ length t → ⊥) → get_or t q.length 0 ≡ 93
-    → s ≡ ring_of start end q.pos carbon → s ≡ Cycle g → code ≡ ring_code g → Sized start end carbon t (record { code = code; next = q.length + 1 })
-sized-read start end carbon t q s g code l w m e f h k =
+pub sized-read : (start end carbon : ℕ) (t : List ℕ) (q : Lead) (s : Segment) (g : Ring) → Leads t q → (q.length ≡ length t → ⊥) → get_or t q.length 0 ≡ 93
+    → s ≡ ring_of start end q.pos carbon → s ≡ Cycle g → Sized start end carbon t (record { what = g; next = q.length + 1 })
+sized-read start end carbon t q s g w m e f h =
     let i : q.length < length t = omega (arith, w.within, m) in
-    let o : ring_of start end q.pos carbon ≡ Cycle g = sym f ∙ h in
     record {
       size = take q.length t;
       span = q.pos;
       spans = w.figures;
       room = omega arith;
       split = split_at t q.length 0 i ∙ rw (e, add-one q.length);
-      closes = o ∙ ap Cycle (sym (ap ring_in k ∙ ring-kept start end q.pos carbon g l o));
+      closes = sym f ∙ h;
     }
 
 -- the last carbon
-pub span-read : (start carbon : ℕ) (t : List ℕ) (q : Lead) (r : Item) → Leads t q → q.length + 2 ≤ length t → get_or t q.length 0 ≡ 99 → get_or t (q.length + 1) 0 ≡ 121
+pub span-read : (start carbon : ℕ) (t : List ℕ) (q : Lead) (r : Item Ring) → Leads t q → q.length + 2 ≤ length t → get_or t q.length 0 ≡ 99 → get_or t (q.length + 1) 0 ≡ 121
     → Sized start q.pos carbon (take (length t - (q.length + 2)) (drop (q.length + 2) t)) r
-    → Spanned start carbon t (record { code = r.code; next = q.length + 2 + r.next })
+    → Spanned start carbon t (record { what = r.what; next = q.length + 2 + r.next })
 span-read start carbon t q r w l e f v =
     let k : Sized start q.pos carbon (drop (q.length + 2) t) r = rw (to_end (q.length + 2) t) at v in
     let i : suc (suc q.length) ≡ q.length + 2 = omega arith in
@@ -252,9 +235,9 @@ span-read start carbon t q r w l e f v =
     }
 
 -- the first carbon
-pub bracket-read : (carbon : ℕ) (t : List ℕ) (q : Lead) (r : Item) → Leads t q → (q.length ≡ length t → ⊥) → get_or t q.length 0 ≡ 45
+pub bracket-read : (carbon : ℕ) (t : List ℕ) (q : Lead) (r : Item Ring) → Leads t q → (q.length ≡ length t → ⊥) → get_or t q.length 0 ≡ 45
     → Spanned q.pos carbon (take (length t - (q.length + 1)) (drop (q.length + 1) t)) r
-    → Enclosed carbon t (record { code = r.code; next = q.length + 1 + r.next })
+    → Enclosed carbon t (record { what = r.what; next = q.length + 1 + r.next })
 bracket-read carbon t q r w l e v =
     let k : Spanned q.pos carbon (drop (q.length + 1) t) r = rw (to_end (q.length + 1) t) at v in
     let i : q.length < length t = omega (arith, w.within, l) in
@@ -280,11 +263,11 @@ bracket-read carbon t q r w l e v =
 text-joined : (a b c v : List ℕ) → a ++ 45 ∷ (b ++ 99 ∷ 121 ∷ (c ++ 93 ∷ v)) ≡ ring_text a b c ++ 93 ∷ v
 text-joined a b c v = sym (append_assoc a (45 ∷ (b ++ 99 ∷ 121 ∷ c)) (93 ∷ v) ∙ ap (λ (x : List ℕ). a ++ 45 ∷ x) (append_assoc b (99 ∷ 121 ∷ c) (93 ∷ v)))
 
-one_in : (rs : List ℕ) (code : ℕ) → 8 ≤ length rs → rings_in 1 (set rs 0 code) ≡ ring_in code ∷ []
-one_in [] code h = absurd (omega arith)
-one_in (x ∷ rs) code h = refl
+one_in : (rs : List Ring) (g : Ring) → 8 ≤ length rs → rings_in 1 (set rs 0 g) ≡ g ∷ []
+one_in [] g h = absurd (omega arith)
+one_in (x ∷ rs) g h = refl
 
-module _ (w : ℕ) (t rs : List ℕ) (r : Item) (k : Enclosed w t r) (roomy : 8 ≤ length rs) where
+module _ (w : ℕ) (t : List ℕ) (rs : List Ring) (r : Item Ring) (k : Enclosed w t r) (roomy : 8 ≤ length rs) where
   abbrev text : List ℕ
   text = ring_text k.first k.last k.size
 
@@ -300,26 +283,26 @@ module _ (w : ℕ) (t rs : List ℕ) (r : Item) (k : Enclosed w t r) (roomy : 8 
       let q : Passed t (drop r.next t) = rw (← whole) at p in
       passed-one 59 _ _ (omega arith) (omega arith) (passed-one 91 _ _ (omega arith) (omega arith) q)
 
-  ring-says : (p : ChainPrefix) (l : List DbPos) → length l ≤ 32 → may_follow (drop r.next t) ≡ true → segments (59 ∷ 91 ∷ t) (bonded p w l) ≡ segments (drop r.next t) (laden p w l [] (ring_in r.code ∷ []))
+  ring-says : (p : ChainPrefix) (l : List DbPos) → length l ≤ 32 → may_follow (drop r.next t) ≡ true → segments (59 ∷ 91 ∷ t) (bonded p w l) ≡ segments (drop r.next t) (laden p w l [] (r.what ∷ []))
   unfolding with_ring
   ring-says p l h m =
       ap (λ (x : List ℕ). segments (59 ∷ 91 ∷ x) (bonded p w l)) whole
-      ∙ segments-ring text inside (omega (arith, text-long k.first k.last k.size)) (bonded p w l) (laden p w l [] (ring_in r.code ∷ []))
-      (text-reads k.first k.last k.size k.start k.end k.span (ring_in r.code) (bonded p w l) k.starts k.ends k.spans k.closes)
-      (laden-counts p w l [] (ring_in r.code ∷ []) h (omega arith) (omega arith)) (drop r.next t) m
+      ∙ segments-ring text inside (omega (arith, text-long k.first k.last k.size)) (bonded p w l) (laden p w l [] (r.what ∷ []))
+      (text-reads k.first k.last k.size k.start k.end k.span r.what (bonded p w l) k.starts k.ends k.spans k.closes)
+      (laden-counts p w l [] (r.what ∷ []) h (omega arith) (omega arith)) (drop r.next t) m
 
-  ring-first : RingFirst w (59 ∷ 91 ∷ t) (set rs 0 r.code) (record { count = 1; rest = suc (suc r.next) })
+  ring-first : RingFirst w (59 ∷ 91 ∷ t) (set rs 0 r.what) (record { count = 1; rest = suc (suc r.next) })
   ring-first =
       record {
         room = omega (arith, k.room);
         few = omega arith;
-        stored = omega (arith, length-set rs 0 r.code);
+        stored = omega (arith, length-set rs 0 r.what);
         follows = λ f. record { bytes = passed-ring.bytes ∙ f.bytes; solid = passed-ring.solid f.solid; start = refl };
-        says = λ f p l h. rw (one_in rs r.code roomy) (ring-says p l h f.start);
+        says = λ f p l h. rw (one_in rs r.what roomy) (ring-says p l h f.start);
       }
 
-pub ring-one : (w : ℕ) (v rs : List ℕ) (r : Item) → 2 ≤ length v → get_or v 0 0 ≡ 59 → get_or v 1 0 ≡ 91 → Enclosed w (take (length v - 2) (drop 2 v)) r → 8 ≤ length rs
-    → RingFirst w v (set rs 0 r.code) (record { count = 1; rest = r.next + 2 })
+pub ring-one : (w : ℕ) (v : List ℕ) (rs : List Ring) (r : Item Ring) → 2 ≤ length v → get_or v 0 0 ≡ 59 → get_or v 1 0 ≡ 91 → Enclosed w (take (length v - 2) (drop 2 v)) r → 8 ≤ length rs
+    → RingFirst w v (set rs 0 r.what) (record { count = 1; rest = r.next + 2 })
 ring-one w [] rs r l a b f h = absurd (omega arith)
 ring-one w (x ∷ []) rs r l a b f h = absurd (omega arith)
 ring-one w (x ∷ y ∷ t) rs r l a b f h =

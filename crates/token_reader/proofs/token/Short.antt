@@ -23,12 +23,12 @@ use Rattle.chain_record.specs.declared.plain.ChainPrefix.TheVariants.{Acyl, Sphi
 use Rattle.chain_record.specs.declared.plain.Geometry.{Geometry}
 use Rattle.chain_record.specs.declared.plain.Geometry.TheVariants.{Unstated, Cis, Trans}
 use Rattle.chain_record.specs.declared.plain.DbPos.{DbPos}
+use Rattle.chain_record.specs.declared.plain.Mod.{Mod}
+use Rattle.chain_record.specs.declared.plain.Ring.{Ring}
 use Rattle.chain_record.specs.plain.Chain.{Chain, Outcome, Read, Refused, and_then, unreadable, no_features, with_bond, with_unlocated, counts_of, max_carbons, max_bonds, max_groups, max_rings}
 use Rattle.chain_record.specs.declared.parsed.ParsedChain.{ParsedChain}
 use Rattle.chain_record.specs.parsed.Parsed.{Keeps}
 use Rattle.token_reader.specs.seats.Seats.{seated}
-use Rattle.chain_record.specs.codes.Codes.{bond_code, bond_in, group_in, ring_in}
-use Rattle.chain_record.proofs.codes.Laws.{bond-back}
 use Rattle.token_syntax.specs.form.Parts.{onto, parts_at, list_parts}
 use Rattle.token_head.specs.positions.Each.{each}
 use Rattle.token_head.specs.positions.Positions.{geometry_of, numbered, lettered, position_of, bond_at, bond_list}
@@ -38,11 +38,10 @@ use Rattle.token_head.specs.opening.Opening.{sphingoid_of, prefix_length, carbon
 use Rattle.token_head.proofs.opening.Laws.{opened-digit}
 use Rattle.token_reader.specs.declared.token.Head.{Head}
 use Rattle.token_reader.specs.token.Token.{missing_of, bare_oxygens, finished, rest_of, counted_list, listed_of, after_count, bonds_of, named_chain, empty_text, trimmed_of, printable, all_printable, token_of}
-use Rattle.token_reader.specs.declared.token.Spot.{Spot}
+use Rattle.token_reader.specs.declared.token.Item.{Item}
 use Rattle.token_reader.specs.declared.token.Listed.{Listed}
 use Rattle.token_reader.specs.declared.token.Usual.{Usual}
 use Rattle.std.specs.Prelude.{Option, Some, None, IfSome, unwrap_or}
-use Rattle.token_reader.specs.declared.token.Ended.{Ended}
 use Rattle.chain_record.specs.declared.refusal.Refusal.{Refusal}
 use Rattle.chain_record.specs.declared.refusal.Refusal.TheVariants.{Unreadable}
 use Rattle.token_reader.specs.declared.token.Ending.{Ending}
@@ -206,13 +205,13 @@ head-letter s o (Some r) l q e w = go s q (rw (to_end 1 s) at w)
 
 -- ---- one double bond of a list
 
-pub letter-cis : (pos b next code : ℕ) (g : Geometry) → b ≡ 90 → g ≡ Cis → code ≡ bond_code (record { pos = pos; geom = g }) → SpotOf pos b next (record { code = code; next = next })
+pub letter-cis : (pos b next : ℕ) → b ≡ 90 → SpotOf pos b next (record { what = record { pos = pos; geom = Cis }; next = next })
 unfolding geometry_of
-letter-cis pos b next code g e i f = rw (e, f, i) (record { is = refl; low = omega arith; high = omega arith; stated = λ h. let z : ◌≡◌ {A = ℕ} 0 1 = cc in absurd (omega arith) })
+letter-cis pos b next e = rw e (record { is = refl; low = omega arith; high = omega arith; stated = λ h. let z : ◌≡◌ {A = ℕ} 0 1 = cc in absurd (omega arith) })
 
-pub letter-trans : (pos b next code : ℕ) (g : Geometry) → b ≡ 69 → g ≡ Trans → code ≡ bond_code (record { pos = pos; geom = g }) → SpotOf pos b next (record { code = code; next = next })
+pub letter-trans : (pos b next : ℕ) → b ≡ 69 → SpotOf pos b next (record { what = record { pos = pos; geom = Trans }; next = next })
 unfolding geometry_of
-letter-trans pos b next code g e i f = rw (e, f, i) (record { is = refl; low = omega arith; high = omega arith; stated = λ h. let z : ◌≡◌ {A = ℕ} 0 1 = cc in absurd (omega arith) })
+letter-trans pos b next e = rw e (record { is = refl; low = omega arith; high = omega arith; stated = λ h. let z : ◌≡◌ {A = ℕ} 0 1 = cc in absurd (omega arith) })
 
 -- the number before a letter
 number_at : (g : Geometry) (s : List ℕ) (n : ℕ) → number_up_to number_limit s ≡ Some n → numbered g s ≡ Some (record { pos = n; geom = g })
@@ -329,7 +328,7 @@ module _ (declared : ℕ) (d : Chain) (x v y : ℕ) (u : List ℕ) (e : is_digit
       let p : parts_at 44 (x ∷ v ∷ y ∷ []) ≡ (x ∷ v ∷ y ∷ []) ∷ [] = not-comma x _ (omega (arith, digit-from x e)) ∙ ap (onto x) (not-comma v _ (omega (arith, digit-from v f)) ∙ ap (onto v) (not-comma y _ (omega arith) ∙ ap (onto y) no-comma)) in
       left-at declared 3 (x ∷ v ∷ y ∷ 41 ∷ u) d i ∙ rw (ne_eqb 3 (length (x ∷ v ∷ y ∷ 41 ∷ u)) (λ z. omega arith), p, only_part (x ∷ v ∷ y ∷ []) b d (position-two x v y e f l h n))
 
-pub spot-one : (t : List ℕ) (pos : ℕ) (o : Option Spot) (a : Bool) → 3 ≤ length t → a ≡ is_digit (get_or t 0 0) → not a ≡ false → pos ≡ get_or t 0 0 - 48 → IfSome o (λ r. SpotOf pos (get_or t 1 0) 2 r) → IfSome o (λ r. Spotted t r)
+pub spot-one : (t : List ℕ) (pos : ℕ) (o : Option (Item DbPos)) (a : Bool) → 3 ≤ length t → a ≡ is_digit (get_or t 0 0) → not a ≡ false → pos ≡ get_or t 0 0 - 48 → IfSome o (λ r. SpotOf pos (get_or t 1 0) 2 r) → IfSome o (λ r. Spotted t r)
 spot-one t pos None a l e k f w = tt
 spot-one t pos (Some r) a l e k f w = go t l (digit-is _ a e k) f w
   where
@@ -338,18 +337,17 @@ spot-one t pos (Some r) a l e k f w = go t l (digit-is _ a e k) f w
     go (x ∷ []) l e f s = absurd (omega arith)
     go (x ∷ y ∷ []) l e f s = absurd (omega arith)
     go (x ∷ y ∷ z ∷ u) l e f s =
-        let i : r ≡ record { code = bond_code (record { pos = x - 48; geom = geometry_of y }); next = 2 } = s.is ∙ rw f in
-        let k : bond_in (bond_code (record { pos = x - 48; geom = geometry_of y })) ≡ record { pos = x - 48; geom = geometry_of y } = bond-back (record { pos = x - 48; geom = geometry_of y }) (omega (arith, digit-most x e)) in
+        let i : r ≡ record { what = record { pos = x - 48; geom = geometry_of y }; next = 2 } = s.is ∙ rw f in
         rw i
         (record {
           room = omega arith;
           some = omega (arith, not_end x (y ∷ z ∷ u) (omega (arith, digit-from x e)));
           passed = passed-digit x _ _ e (passed-one y _ _ (omega (arith, s.low)) (omega (arith, s.high)) (passed_here (z ∷ u)));
-          more = λ declared d c. rw (k, c) (more-one declared d x y u e s.low s.high s.stated);
-          last = λ declared d c. rw (k, c) (last_one declared d x y u e s.low s.high s.stated);
+          more = λ declared d c. rw c (more-one declared d x y u e s.low s.high s.stated);
+          last = λ declared d c. rw c (last_one declared d x y u e s.low s.high s.stated);
         })
 
-pub spot-two : (t : List ℕ) (a b : ℕ) (o : Option Spot) (i j : Bool) → 4 ≤ length t → i ≡ is_digit (get_or t 0 0) → not i ≡ false → j ≡ is_digit (get_or t 1 0) → not j ≡ false → a ≡ get_or t 0 0 - 48 → b ≡ get_or t 1 0 - 48
+pub spot-two : (t : List ℕ) (a b : ℕ) (o : Option (Item DbPos)) (i j : Bool) → 4 ≤ length t → i ≡ is_digit (get_or t 0 0) → not i ≡ false → j ≡ is_digit (get_or t 1 0) → not j ≡ false → a ≡ get_or t 0 0 - 48 → b ≡ get_or t 1 0 - 48
     → IfSome o (λ r. SpotOf (a * 10 + b) (get_or t 2 0) 3 r) → IfSome o (λ r. Spotted t r)
 spot-two t a b None i j l e m f k g h w = tt
 spot-two t a b (Some r) i j l e m f k g h w = go t l (digit-is _ i e m) (digit-is _ j f k) g h w
@@ -360,15 +358,14 @@ spot-two t a b (Some r) i j l e m f k g h w = go t l (digit-is _ i e m) (digit-i
     go (x ∷ v ∷ []) l e f g h s = absurd (omega arith)
     go (x ∷ v ∷ y ∷ []) l e f g h s = absurd (omega arith)
     go (x ∷ v ∷ y ∷ z ∷ u) l e f g h s =
-        let i : r ≡ record { code = bond_code (record { pos = (x - 48) * 10 + (v - 48); geom = geometry_of y }); next = 3 } = s.is ∙ rw (g, h) in
-        let k : bond_in (bond_code (record { pos = (x - 48) * 10 + (v - 48); geom = geometry_of y })) ≡ record { pos = (x - 48) * 10 + (v - 48); geom = geometry_of y } = bond-back (record { pos = (x - 48) * 10 + (v - 48); geom = geometry_of y }) (omega (arith, digit-most x e, digit-most v f)) in
+        let i : r ≡ record { what = record { pos = (x - 48) * 10 + (v - 48); geom = geometry_of y }; next = 3 } = s.is ∙ rw (g, h) in
         rw i
         (record {
           room = omega arith;
           some = omega (arith, not_end x (v ∷ y ∷ z ∷ u) (omega (arith, digit-from x e)));
           passed = passed-digit x _ _ e (passed-digit v _ _ f (passed-one y _ _ (omega (arith, s.low)) (omega (arith, s.high)) (passed_here (z ∷ u))));
-          more = λ declared d c. rw (k, c) (more-two declared d x v y u e f s.low s.high s.stated);
-          last = λ declared d c. rw (k, c) (last-two declared d x v y u e f s.low s.high s.stated);
+          more = λ declared d c. rw c (more-two declared d x v y u e f s.low s.high s.stated);
+          last = λ declared d c. rw c (last-two declared d x v y u e f s.low s.high s.stated);
         })
 
 -- ---- the list
@@ -383,12 +380,12 @@ passed-past s t n l a b p q =
     let r : Passed t (get_or t n 0 ∷ drop (n + 1) t) = rw c at q in
     passed_on s t _ p (passed_on t _ _ r (passed-one (get_or t n 0) (drop (n + 1) t) (drop (n + 1) t) a b (passed_here _)))
 
-bonds-more : (p : ChainPrefix) (w n code : ℕ) (bs : List ℕ) → n < length bs → with_bond (bond_in code) (bonded p w (bonds_in n bs)) ≡ bonded p w (bonds_in (n + 1) (set bs n code))
+bonds-more : (p : ChainPrefix) (w n : ℕ) (b : DbPos) (bs : List DbPos) → n < length bs → with_bond b (bonded p w (bonds_in n bs)) ≡ bonded p w (bonds_in (n + 1) (set bs n b))
 unfolding with_bond
-bonds-more p w n code bs h = rw (add-one n, take-suc-set bs n code h, map-append bond_in (take n bs) (code ∷ []))
+bonds-more p w n b bs h = rw (add-one n, take-suc-set bs n b h)
 
-bonds-few : (n : ℕ) (bs : List ℕ) → length (bonds_in n bs) ≤ n
-bonds-few n bs = omega (arith, length-map (take n bs) bond_in, length-take n bs)
+bonds-few : (n : ℕ) (bs : List DbPos) → length (bonds_in n bs) ≤ n
+bonds-few n bs = omega (arith, length-take n bs)
 
 bonded-counts : (p : ChainPrefix) (w : ℕ) (l : List DbPos) → length l ≤ 32 → counts_of (bonded p w l) ≡ Read (bonded p w l)
 unfolding counts_of
@@ -401,13 +398,13 @@ parts-some (suc n) [] h l = absurd (omega arith)
 parts-some (suc n) (x ∷ s) h l = refl
 
 -- so far: what the list says is what is left of it says, on the chain with the bonds read
-pub record So (s t bs : List ℕ) (n : ℕ) : Type 0 where
+pub record So (s t : List ℕ) (bs : List DbPos) (n : ℕ) : Type 0 where
   within : length t ≤ length s
   left : t ≡ drop (length s - length t) s
   passed : Passed s t
   says : 0 < index_of 41 t → (declared : ℕ) (p : ChainPrefix) (w : ℕ) → listed_of declared s (no_features p w w false) ≡ list_left declared t (bonded p w (bonds_in n bs))
 
-pub so-none : (s bs : List ℕ) → So s s bs 0
+pub so-none : (s : List ℕ) (bs : List DbPos) → So s s bs 0
 unfolding listed_of counted_list bond_list list_left
 so-none s bs =
     let z : length s - length s ≡ 0 = omega arith in
@@ -418,7 +415,7 @@ so-none s bs =
       says = λ h declared p w. rw (parts-some (index_of 41 s) s h (first-within (λ x. eqb x 41) s));
     }
 
-module _ (s t bs : List ℕ) (n : ℕ) (h : So s t bs n) (r : Spot) (v : Spotted t r) (few : n < 32) (roomy : 32 ≤ length bs) where
+module _ (s t : List ℕ) (bs : List DbPos) (n : ℕ) (h : So s t bs n) (r : Item DbPos) (v : Spotted t r) (few : n < 32) (roomy : 32 ≤ length bs) where
   rest_at : drop (r.next + 1) t ≡ drop (length s - length t + r.next + 1) s
   rest_at =
       let k : length s - length t + (r.next + 1) ≡ length s - length t + r.next + 1 = omega arith in
@@ -429,7 +426,7 @@ module _ (s t bs : List ℕ) (n : ℕ) (h : So s t bs n) (r : Spot) (v : Spotted
   passed_to (inr e) = passed-past s t r.next v.room (omega arith) (omega arith) h.passed v.passed
 
   -- a double bond more, and more to come
-  pub so-more : get_or t r.next 0 ≡ 44 → So s (take (length t - (r.next + 1)) (drop (r.next + 1) t)) (set bs n r.code) (n + 1)
+  pub so-more : get_or t r.next 0 ≡ 44 → So s (take (length t - (r.next + 1)) (drop (r.next + 1) t)) (set bs n r.what) (n + 1)
   so-more e =
       let m : length (drop (r.next + 1) t) ≡ length t - (r.next + 1) = length-drop (r.next + 1) t in
       let k : length s - length t + r.next + 1 ≡ length s - length (drop (r.next + 1) t) = omega (arith, m, h.within, v.room) in
@@ -438,21 +435,21 @@ module _ (s t bs : List ℕ) (n : ℕ) (h : So s t bs n) (r : Spot) (v : Spotted
         within = omega (arith, m, h.within);
         left = rest_at ∙ ap (λ (i : ℕ). drop i s) k;
         passed = passed_to (inl e);
-        says = λ g declared p w. h.says v.some declared p w ∙ v.more declared (bonded p w (bonds_in n bs)) e ∙ ap (list_left declared (drop (r.next + 1) t)) (bonds-more p w n r.code bs (omega arith));
+        says = λ g declared p w. h.says v.some declared p w ∙ v.more declared (bonded p w (bonds_in n bs)) e ∙ ap (list_left declared (drop (r.next + 1) t)) (bonds-more p w n r.what bs (omega arith));
       })
 
   -- the last one
-  pub list-last : get_or t r.next 0 ≡ 41 → Listing s (set bs n r.code) (record { count = n + 1; rest = length s - length t + r.next + 1 })
+  pub list-last : get_or t r.next 0 ≡ 41 → Listing s (set bs n r.what) (record { count = n + 1; rest = length s - length t + r.next + 1 })
   list-last e =
       record {
         room = omega (arith, h.within, v.room);
         few = omega arith;
-        stored = omega (arith, length-set bs n r.code);
+        stored = omega (arith, length-set bs n r.what);
         passed = rw (← rest_at) (passed_to (inr e));
         says = λ declared p w.
             h.says v.some declared p w
             ∙ v.last declared (bonded p w (bonds_in n bs)) e
-            ∙ rw (bonds-more p w n r.code bs (omega arith), bonded-counts p w (bonds_in (n + 1) (set bs n r.code)) (omega (arith, bonds-few (n + 1) (set bs n r.code))), rest_at);
+            ∙ rw (bonds-more p w n r.what bs (omega arith), bonded-counts p w (bonds_in (n + 1) (set bs n r.what)) (omega (arith, bonds-few (n + 1) (set bs n r.what))), rest_at);
       }
 
 -- ---- a list or none
@@ -465,7 +462,7 @@ unfolding starts_with
 not-open x s n = rw (ne_eqb x 40 n)
 
 -- where no list stands, or one that is not read here, nothing is passed
-module _ (ys : List ℕ) where
+module _ (ys : List DbPos) where
   none-says : (u : List ℕ) → may_follow u ≡ true → (declared : ℕ) (p : ChainPrefix) (w : ℕ)
       → after_count declared u (no_features p w w false) ≡ rest_of (missing_of w [] declared) u (bonded p w [])
   unfolding after_count starts_with
@@ -520,10 +517,10 @@ follows-some v b l e n f g =
 
 -- ---- a ring or none
 
-ring-none : (w : ℕ) (v zs : List ℕ) (r : Listed) → r ≡ no_list → RingFirst w v zs r
+ring-none : (w : ℕ) (v : List ℕ) (zs : List Ring) (r : Listed) → r ≡ no_list → RingFirst w v zs r
 ring-none w v zs r e = rw e (record { room = omega arith; few = omega arith; stored = omega arith; follows = λ f. f; says = λ f p l h. refl })
 
-ring-either : (w : ℕ) (v zs : List ℕ) (o : Option Listed) (r : Listed) → IfSome o (λ r. RingFirst w v zs r) → r ≡ unwrap_or o no_list → RingFirst w v zs r
+ring-either : (w : ℕ) (v : List ℕ) (zs : List Ring) (o : Option Listed) (r : Listed) → IfSome o (λ r. RingFirst w v zs r) → r ≡ unwrap_or o no_list → RingFirst w v zs r
 ring-either w v zs None r f e = ring-none w v zs r e
 ring-either w v zs (Some q) r f e = rw e f
 
@@ -539,7 +536,7 @@ ending-last [] l n e = absurd (l refl)
 ending-last (x ∷ s) l n e = rw (e, ne_eqb x 32 n) (take_all (length (x ∷ s) - 0) (x ∷ s) (omega arith))
 
 -- what is left after the head and the list
-left-read : (s ys : List ℕ) (h : Head) (l : Listed) → length s ≤ 255 → Headed s h → Lists (drop h.rest s) ys l → Follows (drop l.rest (drop h.rest s))
+left-read : (s : List ℕ) (ys : List DbPos) (h : Head) (l : Listed) → length s ≤ 255 → Headed s h → Lists (drop h.rest s) ys l → Follows (drop l.rest (drop h.rest s))
     → token_of s ≡ rest_of (missing_of h.carbon (bonds_in l.count ys) h.declared) (drop l.rest (drop h.rest s)) (bonded h.prefix h.carbon (bonds_in l.count ys))
 unfolding token_of
 left-read s ys h l few k g i =
@@ -547,7 +544,7 @@ left-read s ys h l few k g i =
     let c : trimmed s ≡ s = ending-last s k.some k.first (p.solid i.solid) in
     rw (le-ltb 255 (length s) few, p.bytes ∙ i.bytes, c) (k.says (g.start i.start) ∙ g.says i.start h.declared h.prefix h.carbon)
 
-module _ (s ys hs zs : List ℕ) (h : Head) (l : Listed) (few : length s ≤ 255) (k : Headed s h) (o : Option Listed) (q : IfSome o (λ r. Lists (take (length s - h.rest) (drop h.rest s)) ys r)) (li : l ≡ unwrap_or o no_list) where
+module _ (s : List ℕ) (ys : List DbPos) (hs : List Mod) (zs : List Ring) (h : Head) (l : Listed) (few : length s ≤ 255) (k : Headed s h) (o : Option Listed) (q : IfSome o (λ r. Lists (take (length s - h.rest) (drop h.rest s)) ys r)) (li : l ≡ unwrap_or o no_list) where
   listing : Lists (drop h.rest s) ys l
   listing = rw (to_end h.rest s) at (lists-either ys (take (length s - h.rest) (drop h.rest s)) o l q li)
 
@@ -591,7 +588,7 @@ module _ (s ys hs zs : List ℕ) (h : Head) (l : Listed) (few : length s ≤ 255
         left-read s ys h l few k listing (x.follows f) ∙ rw (x.says f h.prefix (bonds_in l.count ys) (omega (arith, bonds-few l.count ys, listing.few)))
 
     rings-few : length (rings_in z.count zs) ≤ 8
-    rings-few = omega (arith, ringing.few, length-map (take z.count zs) ring_in, length-take z.count zs)
+    rings-few = omega (arith, ringing.few, length-take z.count zs)
 
     module _ (t : List ℕ) (c : t ≡ take (length left - z.rest) (drop z.rest left)) where
       after_is : t ≡ drop z.rest (drop l.rest (drop h.rest s))
@@ -647,22 +644,22 @@ module _ (s ys hs zs : List ℕ) (h : Head) (l : Listed) (few : length s ≤ 255
 
 -- ---- the whole token
 
-keeps-in : (n : ℕ) (bs : List ℕ) → n ≤ 32 → n ≤ length bs → Keeps bond_in max_bonds bs n (bonds_in n bs)
+keeps-in : (n : ℕ) (bs : List DbPos) → n ≤ 32 → n ≤ length bs → Keeps max_bonds bs n (bonds_in n bs)
 keeps-in n bs h l =
     let a : min n 32 ≡ n = omega arith in
-    record { counted = omega (arith, length-map (take n bs) bond_in, length-take n bs); kept = rw a (sym (take_all 32 (bonds_in n bs) (omega (arith, bonds-few n bs)))) }
+    record { counted = omega (arith, length-take n bs); kept = rw a (sym (take_all 32 (bonds_in n bs) (omega (arith, bonds-few n bs)))) }
 
-keeps-groups : (n : ℕ) (gs : List ℕ) → n ≤ 16 → n ≤ length gs → Keeps group_in max_groups gs n (groups_in n gs)
+keeps-groups : (n : ℕ) (gs : List Mod) → n ≤ 16 → n ≤ length gs → Keeps max_groups gs n (groups_in n gs)
 keeps-groups n gs h l =
     let a : min n 16 ≡ n = omega arith in
-    let k : length (groups_in n gs) ≤ n = omega (arith, length-map (take n gs) group_in, length-take n gs) in
-    record { counted = omega (arith, length-map (take n gs) group_in, length-take n gs); kept = rw a (sym (take_all 16 (groups_in n gs) (omega arith))) }
+    let k : length (groups_in n gs) ≤ n = omega (arith, length-take n gs) in
+    record { counted = omega (arith, length-take n gs); kept = rw a (sym (take_all 16 (groups_in n gs) (omega arith))) }
 
-keeps-rings : (n : ℕ) (rs : List ℕ) → n ≤ 8 → n ≤ length rs → Keeps ring_in max_rings rs n (rings_in n rs)
+keeps-rings : (n : ℕ) (rs : List Ring) → n ≤ 8 → n ≤ length rs → Keeps max_rings rs n (rings_in n rs)
 keeps-rings n rs h l =
     let a : min n 8 ≡ n = omega arith in
-    let k : length (rings_in n rs) ≤ n = omega (arith, length-map (take n rs) ring_in, length-take n rs) in
-    record { counted = omega (arith, length-map (take n rs) ring_in, length-take n rs); kept = rw a (sym (take_all 8 (rings_in n rs) (omega arith))) }
+    let k : length (rings_in n rs) ≤ n = omega (arith, length-take n rs) in
+    record { counted = omega (arith, length-take n rs); kept = rw a (sym (take_all 8 (rings_in n rs) (omega arith))) }
 
 module _ (p : ChainPrefix) (w : ℕ) (m : Option ℕ) (n g c : ℕ) where
   pub plain-unseated : m ≡ None → Plain p w m n g c (Err Unreadable)
@@ -679,21 +676,21 @@ module _ (p : ChainPrefix) (w : ℕ) (m : Option ℕ) (n g c : ℕ) where
             };
       })
 
-all-given : (w n : ℕ) (bs : List ℕ) → n ≤ length bs → missing_of w (bonds_in n bs) n ≡ Some 0
+all-given : (w n : ℕ) (bs : List DbPos) → n ≤ length bs → missing_of w (bonds_in n bs) n ≡ Some 0
 unfolding missing_of seated
 all-given w n bs l =
-    let k : length (bonds_in n bs) ≡ n = omega (arith, length-map (take n bs) bond_in, length-take n bs) in
+    let k : length (bonds_in n bs) ≡ n = omega (arith, length-take n bs) in
     let z : n - n ≡ 0 = omega arith in
     rw (k, le-ltb n n (le_refl n), z)
 
-module _ (p : ChainPrefix) (w declared n g c : ℕ) (bs : List ℕ) (r : Result ReadChain Refusal) where
+module _ (p : ChainPrefix) (w declared n g c : ℕ) (bs : List DbPos) (r : Result ReadChain Refusal) where
   pub plain-all : declared ≡ n → Plain p w (Some 0) n g c r → PlainIn p w declared n g c bs r
   plain-all e k = rw e (record { tells = λ gs rs h l i j x y. rw (all-given w n bs l) (k.tells bs gs rs h l i j x y) })
 
   pub plain_in : (m : Option ℕ) → m ≡ missing_of w (bonds_in n bs) declared → Plain p w m n g c r → PlainIn p w declared n g c bs r
   plain_in m v k = record { tells = λ gs rs h l i j x y. rw (← v) (k.tells bs gs rs h l i j x y) }
 
-pub segments-end : (u : Usual) (s bs gs rs : List ℕ) (m : Option ℕ) (e : Result Ending Refusal) (r : Result ReadChain Refusal) (ys hs zs : List ℕ) → u.count ≤ 32 → u.groups ≤ 16 → u.rings ≤ 8 → 32 ≤ length bs → 16 ≤ length gs → 8 ≤ length rs
+pub segments-end : (u : Usual) (s : List ℕ) (bs : List DbPos) (gs : List Mod) (rs : List Ring) (m : Option ℕ) (e : Result Ending Refusal) (r : Result ReadChain Refusal) (ys : List DbPos) (hs : List Mod) (zs : List Ring) → u.count ≤ 32 → u.groups ≤ 16 → u.rings ≤ 8 → 32 ≤ length bs → 16 ≤ length gs → 8 ≤ length rs
     → m ≡ missing_of u.carbon (bonds_in u.count bs) u.declared → Ends u.carbon (record { bonds = u.count; groups = u.groups; rings = u.rings; oxygens = 0 }) bs gs rs e ys hs zs (rest_of m s)
     → r ≡ ended_as (record { prefix = u.prefix; written = u.carbon; carbon = u.carbon; branched = false; groups = u.groups }) e
     → Tells r ys hs zs (rest_of (missing_of u.carbon (bonds_in u.count bs) u.declared) s (laden u.prefix u.carbon (bonds_in u.count bs) (groups_in u.groups gs) (rings_in u.rings rs)))
@@ -704,7 +701,7 @@ segments-end u s bs gs rs m e r ys hs zs h g c l o q v w f =
     ((w.gives x).stands (laden u.prefix u.carbon (bonds_in u.count bs) (groups_in u.groups gs) (rings_in u.rings rs))
     (record { prefix = refl; written = refl; carbon = refl; branched = refl; unlocated = refl; oxygens = refl; bonds = keeps-in u.count bs h (omega arith); groups = keeps-groups u.groups gs g (omega arith); rings = keeps-rings u.rings rs c (omega arith) })))
 
-module _ (s ys hs zs : List ℕ) (u : Usual) (r : Result ReadChain Refusal) (q : Starts s ys hs zs u) where
+module _ (s : List ℕ) (ys : List DbPos) (hs : List Mod) (zs : List Ring) (u : Usual) (r : Result ReadChain Refusal) (q : Starts s ys hs zs u) where
   pub token-plain : u.rest ≡ length s → PlainIn u.prefix u.carbon u.declared u.count u.groups u.rings ys r → Tells r ys hs zs (token_of s)
   token-plain e k =
       let v : drop u.rest s ≡ [] = rw e (drop-length s) in

@@ -1,10 +1,11 @@
 -- What the readers of a token answer on lent arrays: what the contracts of `token` cite beside the definitions of specs/token/Token.antt. Assumes
 -- nothing.
-use Rattle.std.specs.Prelude.{ℕ, ◌≤◌, ◌≡◌, List, [], map, Bool, false, cond, take, ltb, Result, Ok, Err}
+use Rattle.std.specs.Prelude.{ℕ, ◌≤◌, ◌≡◌, List, [], Bool, false, cond, take, ltb, Result, Ok, Err}
 use Rattle.chain_record.specs.declared.plain.ChainPrefix.TheVariants.{Acyl}
 use Rattle.chain_record.specs.declared.plain.DbPos.{DbPos}
+use Rattle.chain_record.specs.declared.plain.Mod.{Mod}
+use Rattle.chain_record.specs.declared.plain.Ring.{Ring}
 use Rattle.chain_record.specs.plain.Chain.{Chain, Outcome, Refused, over_limit, max_bonds, max_groups, max_rings}
-use Rattle.chain_record.specs.codes.Codes.{bond_in}
 use Rattle.chain_record.specs.declared.parsed.ParsedChain.{ParsedChain}
 use Rattle.chain_record.specs.declared.parsed.Counts.{Counts}
 use Rattle.chain_record.specs.declared.refusal.Refusal.{Refusal}
@@ -16,8 +17,8 @@ use Rattle.token_reader.specs.declared.token.ReadChain.{ReadChain}
 use Rattle.token_reader.specs.token.Token.{bare_oxygens, counted_list, token_of}
 
 -- the double bonds of an array
-abbrev pub bonds_in : ℕ → List ℕ → List DbPos
-bonds_in n xs = map bond_in (take n xs)
+abbrev pub bonds_in : ℕ → List DbPos → List DbPos
+bonds_in n xs = take n xs
 
 -- r is whether the oxygen count stands alone
 pub record Bare (k : Counts) (r : Bool) : Type 0 where
@@ -34,11 +35,11 @@ ending_as x e =
 pub record Telling : Type 0 where
   pub unlocated : ℕ
   pub counts : Counts
-  pub bonds : List ℕ
-  pub groups : List ℕ
-  pub rings : List ℕ
+  pub bonds : List DbPos
+  pub groups : List Mod
+  pub rings : List Ring
 
-abbrev pub tell : ℕ → Counts → List ℕ → List ℕ → List ℕ → Telling
+abbrev pub tell : ℕ → Counts → List DbPos → List Mod → List Ring → Telling
 tell u k bs gs rs = record { unlocated = u; counts = k; bonds = bs; groups = gs; rings = rs }
 
 abbrev pub telling_as : ParsedChain → Telling → ParsedChain
@@ -50,7 +51,7 @@ abbrev pub ended : Result Ending Refusal → Answer Ending
 ended (Ok e) = Has e
 ended (Err r) = Refuses (number_of r)
 
-abbrev pub told : Result Ending Refusal → List ℕ → List ℕ → List ℕ → Answer Telling
+abbrev pub told : Result Ending Refusal → List DbPos → List Mod → List Ring → Answer Telling
 told (Ok e) bs gs rs = Has (tell e.unlocated e.counts bs gs rs)
 told (Err r) bs gs rs = Refuses (number_of r)
 
@@ -59,7 +60,7 @@ abbrev pub Finishes : Counts → Result Ending Refusal → (Chain → Outcome) �
 Finishes k r f = Fills ending_as (record { unlocated = 0; counts = k }) (ended r) f
 
 -- the answer of a reader that reads to the end of the token
-abbrev pub Ends : ℕ → Counts → List ℕ → List ℕ → List ℕ → Result Ending Refusal → List ℕ → List ℕ → List ℕ → (Chain → Outcome) → Type 0
+abbrev pub Ends : ℕ → Counts → List DbPos → List Mod → List Ring → Result Ending Refusal → List DbPos → List Mod → List Ring → (Chain → Outcome) → Type 0
 Ends carbon k bs gs rs r ys hs zs f = Fills (on carbon telling_as) (tell 0 k bs gs rs) (told r ys hs zs) f
 
 -- ---- the position list
@@ -75,7 +76,7 @@ FewBonds (Ok k) = k.bonds ≤ max_bonds
 FewBonds (Err r) = Unit {0}
 
 -- the answer of the list s, with the double bonds ys
-pub record ListIs (s : List ℕ) (k : Counts) (bs : List ℕ) (r : Result Counts Refusal) (ys : List ℕ) : Type 0 where
+pub record ListIs (s : List ℕ) (k : Counts) (bs : List DbPos) (r : Result Counts Refusal) (ys : List DbPos) : Type 0 where
   pub collects : Collects listed_as (gather k bs [] []) r ys [] [] (counted_list s)
   pub few : FewBonds r
 
@@ -91,17 +92,17 @@ ended_as s (Ok e) = Ok (record { prefix = s.prefix; written = s.written; carbon 
 ended_as s (Err r) = Err r
 
 -- the record of a chain that was read, with its arrays
-abbrev pub chain_as : ReadChain → List ℕ → List ℕ → List ℕ → ParsedChain
+abbrev pub chain_as : ReadChain → List DbPos → List Mod → List Ring → ParsedChain
 chain_as r bs gs rs =
     record { prefix = r.prefix; written = r.written; carbon = r.carbon; branched = r.branched; unlocated = r.unlocated; oxygens = r.counts.oxygens; bond_count = r.counts.bonds; bonds = bs; group_count = r.counts.groups; groups = gs; ring_count = r.counts.rings; rings = rs }
 
 -- 01's number and the values of each case: that record, or 11 or 31
-abbrev pub token_as : Result ReadChain Refusal → List ℕ → List ℕ → List ℕ → Answer ParsedChain
+abbrev pub token_as : Result ReadChain Refusal → List DbPos → List Mod → List Ring → Answer ParsedChain
 token_as (Ok r) bs gs rs = Has (chain_as r bs gs rs)
 token_as (Err r) bs gs rs = Refuses (number_of r)
 
 -- r and the arrays stand for an outcome
-pub record Tells (r : Result ReadChain Refusal) (bs gs rs : List ℕ) (o : Outcome) : Type 0 where
+pub record Tells (r : Result ReadChain Refusal) (bs : List DbPos) (gs : List Mod) (rs : List Ring) (o : Outcome) : Type 0 where
   pub stands : Stands (token_as r bs gs rs) o
 
 -- what a token says where the arrays have so much room: 31 where that is less than its limits ask

@@ -1,6 +1,6 @@
 -- What the short way reads of a token that starts as nearly all do, `18:1(9Z)`: what the contracts of its functions cite. Each says what is left
 -- of the definitions of specs/token/Token.antt once so many bytes are read. Assumes nothing.
-use Rattle.std.specs.Prelude.{ℕ, ◌+◌, ◌*◌, ◌-◌, ◌≤◌, ◌<◌, ◌≡◌, List, [], ◌∷◌, ◌++◌, map, Bool, true, false, cond, length, take, drop, get_or, eqb, ltb, Some, Option, Result}
+use Rattle.std.specs.Prelude.{ℕ, ◌+◌, ◌*◌, ◌-◌, ◌≤◌, ◌<◌, ◌≡◌, List, [], ◌∷◌, ◌++◌, Bool, true, false, cond, length, take, drop, get_or, eqb, ltb, Some, Option, Result}
 use Rattle.scanner.specs.scan.Part.{index_of, ending}
 use Rattle.scanner.specs.scan.Number.{is_digit, digit_run}
 use Rattle.chain_record.specs.declared.plain.ChainPrefix.{ChainPrefix}
@@ -9,13 +9,11 @@ use Rattle.chain_record.specs.declared.plain.DbPos.{DbPos}
 use Rattle.chain_record.specs.declared.plain.Mod.{Mod}
 use Rattle.chain_record.specs.declared.plain.Ring.{Ring}
 use Rattle.chain_record.specs.plain.Chain.{Chain, Outcome, Read, Refused, and_then, unreadable, no_features, with_bond, counts_of, max_carbons, max_bonds, max_groups, max_rings}
-use Rattle.chain_record.specs.codes.Codes.{bond_code, bond_in, group_in, ring_in}
 use Rattle.token_syntax.specs.form.Parts.{parts_at}
 use Rattle.token_syntax.specs.form.Numbers.{trimmed_number}
 use Rattle.token_head.specs.positions.Each.{each}
 use Rattle.token_head.specs.positions.Positions.{geometry_of, bond_at}
 use Rattle.token_reader.specs.declared.token.Head.{Head}
-use Rattle.token_reader.specs.declared.token.Spot.{Spot}
 use Rattle.token_reader.specs.declared.token.Listed.{Listed}
 use Rattle.token_features.specs.declared.features.Segment.TheVariants.{Cycle, Located}
 use Rattle.token_features.specs.features.Features.{ring_of, item_at, part_of}
@@ -71,23 +69,23 @@ list_left declared t d =
     (and_then (and_then (each bond_at (parts_at 44 (take n t)) d) counts_of) (λ e. rest_of (missing_of d.carbon e.bonds declared) (drop (n + 1) t) e))
 
 -- r is the double bond at pos with the geometry of the byte b, which is a large letter
-pub record SpotOf (pos b next : ℕ) (r : Spot) : Type 0 where
-  pub is : r ≡ record { code = bond_code (record { pos = pos; geom = geometry_of b }); next = next }
+pub record SpotOf (pos b next : ℕ) (r : Item DbPos) : Type 0 where
+  pub is : r ≡ record { what = record { pos = pos; geom = geometry_of b }; next = next }
   pub low : 69 ≤ b
   pub high : b ≤ 90
   pub stated : geometry_of b ≡ Unstated → ⊥
 
 -- r is the double bond that t starts with: with a comma behind it, and with the list's end
-pub record Spotted (t : List ℕ) (r : Spot) : Type 0 where
+pub record Spotted (t : List ℕ) (r : Item DbPos) : Type 0 where
   pub room : r.next < length t
   pub some : 0 < index_of 41 t
   pub passed : Passed t (drop r.next t)
-  pub more : (declared : ℕ) (d : Chain) → get_or t r.next 0 ≡ 44 → list_left declared t d ≡ list_left declared (drop (r.next + 1) t) (with_bond (bond_in r.code) d)
+  pub more : (declared : ℕ) (d : Chain) → get_or t r.next 0 ≡ 44 → list_left declared t d ≡ list_left declared (drop (r.next + 1) t) (with_bond r.what d)
   pub last : (declared : ℕ) (d : Chain) → get_or t r.next 0 ≡ 41
-      → list_left declared t d ≡ and_then (counts_of (with_bond (bond_in r.code) d)) (λ e. rest_of (missing_of d.carbon e.bonds declared) (drop (r.next + 1) t) e)
+      → list_left declared t d ≡ and_then (counts_of (with_bond r.what d)) (λ e. rest_of (missing_of d.carbon e.bonds declared) (drop (r.next + 1) t) e)
 
 -- the list that follows a `(`, read into the array ys
-pub record Listing (s ys : List ℕ) (r : Listed) : Type 0 where
+pub record Listing (s : List ℕ) (ys : List DbPos) (r : Listed) : Type 0 where
   pub room : r.rest ≤ length s
   pub few : r.count ≤ max_bonds
   pub stored : r.count ≤ length ys
@@ -142,21 +140,21 @@ pub record Leads (t : List ℕ) (r : Lead) : Type 0 where
   pub says : (c x : ℕ) (b : List ℕ) → is_digit x ≡ false → part_of (take r.length t ++ x ∷ b) c ≡ item_at (x ∷ b) r.pos c
 
 -- r is the group that t starts with
-pub record Itemed (t : List ℕ) (r : Item) : Type 0 where
+pub record Itemed (t : List ℕ) (r : Item Mod) : Type 0 where
   pub some : 0 < r.next
   pub room : r.next ≤ length t
   pub plain : Plainly (take r.next t)
-  pub says : (c : ℕ) → part_of (take r.next t) c ≡ Located (group_in r.code)
+  pub says : (c : ℕ) → part_of (take r.next t) c ≡ Located r.what
 
 -- a chain with these double bonds, groups and rings and nothing else; the groups of an array
 abbrev pub laden : ChainPrefix → ℕ → List DbPos → List Mod → List Ring → Chain
 laden p w l g z = record { prefix = p; written = w; carbon = w; branched = false; unlocated = 0; oxygens = 0; bonds = l; groups = g; rings = z }
 
-abbrev pub groups_in : ℕ → List ℕ → List Mod
-groups_in n xs = map group_in (take n xs)
+abbrev pub groups_in : ℕ → List Mod → List Mod
+groups_in n xs = take n xs
 
 -- all segments were read, as n groups in the array ys
-pub record Grouped (s ys : List ℕ) (n : ℕ) : Type 0 where
+pub record Grouped (s : List ℕ) (ys : List Mod) (n : ℕ) : Type 0 where
   pub few : n ≤ max_groups
   pub stored : n ≤ length ys
   pub follows : Follows s
@@ -165,16 +163,16 @@ pub record Grouped (s ys : List ℕ) (n : ℕ) : Type 0 where
 -- ---- a ring in brackets, `[8-12cy5]`
 
 -- its size, and the `]`
-pub record Sized (start end carbon : ℕ) (t : List ℕ) (r : Item) : Type 0 where
+pub record Sized (start end carbon : ℕ) (t : List ℕ) (r : Item Ring) : Type 0 where
   pub size : List ℕ
   pub span : ℕ
   pub spans : Numeral size span
   pub room : r.next ≤ length t
   pub split : t ≡ size ++ 93 ∷ drop r.next t
-  pub closes : ring_of start end span carbon ≡ Cycle (ring_in r.code)
+  pub closes : ring_of start end span carbon ≡ Cycle r.what
 
 -- its last carbon and `cy` before those
-pub record Spanned (start carbon : ℕ) (t : List ℕ) (r : Item) : Type 0 where
+pub record Spanned (start carbon : ℕ) (t : List ℕ) (r : Item Ring) : Type 0 where
   pub last : List ℕ
   pub end : ℕ
   pub ends : Numeral last end
@@ -183,10 +181,10 @@ pub record Spanned (start carbon : ℕ) (t : List ℕ) (r : Item) : Type 0 where
   pub spans : Numeral size span
   pub room : r.next ≤ length t
   pub split : t ≡ last ++ 99 ∷ 121 ∷ (size ++ 93 ∷ drop r.next t)
-  pub closes : ring_of start end span carbon ≡ Cycle (ring_in r.code)
+  pub closes : ring_of start end span carbon ≡ Cycle r.what
 
 -- its first carbon and `-` before those
-pub record Enclosed (carbon : ℕ) (t : List ℕ) (r : Item) : Type 0 where
+pub record Enclosed (carbon : ℕ) (t : List ℕ) (r : Item Ring) : Type 0 where
   pub first : List ℕ
   pub start : ℕ
   pub starts : Numeral first start
@@ -198,14 +196,14 @@ pub record Enclosed (carbon : ℕ) (t : List ℕ) (r : Item) : Type 0 where
   pub spans : Numeral size span
   pub room : r.next ≤ length t
   pub split : t ≡ first ++ 45 ∷ (last ++ 99 ∷ 121 ∷ (size ++ 93 ∷ drop r.next t))
-  pub closes : ring_of start end span carbon ≡ Cycle (ring_in r.code)
+  pub closes : ring_of start end span carbon ≡ Cycle r.what
 
 -- the rings of an array
-abbrev pub rings_in : ℕ → List ℕ → List Ring
-rings_in n xs = map ring_in (take n xs)
+abbrev pub rings_in : ℕ → List Ring → List Ring
+rings_in n xs = take n xs
 
 -- the ring that segments start with, or none, and what is left where more or nothing may follow
-pub record RingFirst (w : ℕ) (v zs : List ℕ) (r : Listed) : Type 0 where
+pub record RingFirst (w : ℕ) (v : List ℕ) (zs : List Ring) (r : Listed) : Type 0 where
   pub room : r.rest ≤ length v
   pub few : r.count ≤ max_rings
   pub stored : r.count ≤ length zs
@@ -215,7 +213,7 @@ pub record RingFirst (w : ℕ) (v zs : List ℕ) (r : Listed) : Type 0 where
 -- ---- the start of the token
 
 -- a list or none after the bond count, and what is left where segments or nothing may follow
-pub record Lists (u ys : List ℕ) (r : Listed) : Type 0 where
+pub record Lists (u : List ℕ) (ys : List DbPos) (r : Listed) : Type 0 where
   pub room : r.rest ≤ length u
   pub few : r.count ≤ max_bonds
   pub stored : r.count ≤ length ys
@@ -225,11 +223,11 @@ pub record Lists (u ys : List ℕ) (r : Listed) : Type 0 where
       → after_count declared u (no_features p w w false) ≡ rest_of (missing_of w (bonds_in r.count ys) declared) (drop r.rest u) (bonded p w (bonds_in r.count ys))
 
 -- what is left of a token of at most 255 bytes
-abbrev pub left_of : Usual → List ℕ → List ℕ → List ℕ → List ℕ → Outcome
+abbrev pub left_of : Usual → List ℕ → List DbPos → List Mod → List Ring → Outcome
 left_of r s ys hs zs =
     rest_of (missing_of r.carbon (bonds_in r.count ys) r.declared) (drop r.rest s) (laden r.prefix r.carbon (bonds_in r.count ys) (groups_in r.groups hs) (rings_in r.rings zs))
 
-pub record Starts (s ys hs zs : List ℕ) (r : Usual) : Type 0 where
+pub record Starts (s : List ℕ) (ys : List DbPos) (hs : List Mod) (zs : List Ring) (r : Usual) : Type 0 where
   pub room : r.rest ≤ length s
   pub few : r.carbon ≤ max_carbons
   pub listed : r.count ≤ max_bonds
@@ -244,9 +242,9 @@ pub record Starts (s ys hs zs : List ℕ) (r : Usual) : Type 0 where
 
 -- r is what is judged of a chain of which all is read
 pub record Plain (p : ChainPrefix) (w : ℕ) (m : Option ℕ) (n k j : ℕ) (r : Result ReadChain Refusal) : Type 0 where
-  pub tells : (bs gs rs : List ℕ) → n ≤ max_bonds → n ≤ length bs → k ≤ max_groups → k ≤ length gs → j ≤ max_rings → j ≤ length rs
+  pub tells : (bs : List DbPos) (gs : List Mod) (rs : List Ring) → n ≤ max_bonds → n ≤ length bs → k ≤ max_groups → k ≤ length gs → j ≤ max_rings → j ≤ length rs
       → Tells r bs gs rs (finished m (laden p w (bonds_in n bs) (groups_in k gs) (rings_in j rs)))
 
-pub record PlainIn (p : ChainPrefix) (w declared n k j : ℕ) (bs : List ℕ) (r : Result ReadChain Refusal) : Type 0 where
-  pub tells : (gs rs : List ℕ) → n ≤ max_bonds → n ≤ length bs → k ≤ max_groups → k ≤ length gs → j ≤ max_rings → j ≤ length rs
+pub record PlainIn (p : ChainPrefix) (w declared n k j : ℕ) (bs : List DbPos) (r : Result ReadChain Refusal) : Type 0 where
+  pub tells : (gs : List Mod) (rs : List Ring) → n ≤ max_bonds → n ≤ length bs → k ≤ max_groups → k ≤ length gs → j ≤ max_rings → j ≤ length rs
       → Tells r bs gs rs (finished (missing_of w (bonds_in n bs) declared) (laden p w (bonds_in n bs) (groups_in k gs) (rings_in j rs)))
