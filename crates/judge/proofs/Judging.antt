@@ -4,20 +4,17 @@ use Prim.Native.Nat.{ℕ, ◌+◌, ◌≤◌, ◌<◌, min}
 use native.Mathlib.Omega.{arith}
 use mathlib.Core.Path.{◌≡◌, refl, sym, ◌∙◌}
 use mathlib.Core.Bool.{Bool, true, false, cond, not, false≢true}
-use mathlib.Core.List.{List, [], ◌∷◌}
+use mathlib.Core.List.{List, []}
 use lib.ListN.{length, take, get_or, length-take}
 use lib.Dec.{eqb, ltb}
 use borrow.Author.Tests.{lt-ltb, le-ltb, ltb-false}
 use Rattle.std.specs.Prelude.{Option, None, Some, Result, Ok, Err}
-use Rattle.std.specs.Option.{option_or}
 use Rattle.chain_record.specs.declared.refusal.Refusal.{Refusal}
-use Rattle.chain_record.specs.declared.refusal.Refusal.TheVariants.{UnknownClass, WrongCount, WrongTail}
-use Rattle.chain_record.specs.refusal.Refusal.{number_of}
+use Rattle.chain_record.specs.declared.refusal.Refusal.TheVariants.{UnknownClass, WrongCount}
 use Rattle.chain_record.specs.plain.Chain.{Chain}
 use Rattle.token_reader.specs.token.Token.{token_of}
 use Rattle.token_reader.specs.token.Request as token
 use Rattle.tail_grammar.specs.tail.Grammar.{is_tail, atoms_of_tail}
-use Rattle.chain_rules.specs.chain.Refusals.{place_refusal, draw_refusal}
 use Rattle.template_rules.specs.declared.Class.{Class}
 use Rattle.template_rules.specs.declared.Class.TheVariants.{Fa, Gl1, Gl2, Gl3, Gp, Cl, Sb, Sa}
 use Rattle.template_rules.specs.Template.{fewest, most, role_of, has_tail}
@@ -29,11 +26,10 @@ use Rattle.drawn_chain.proofs.drawable.Parts.{items-length}
 use Rattle.request_chains.specs.chain_shapes.Shapes.{chains_kept}
 use Rattle.judge.specs.declared.Fault as code
 use Rattle.judge.specs.declared.Drawable as code_drawable
-use Rattle.judge.specs.declared.Faults.{Faults}
 use Rattle.judge.specs.declared.Looked.{Looked}
-use Rattle.judge.specs.Verdict.{Verdict, Refused, Drawable, Fault, Nothing, Due, earlier_of, first_of, kind_refusal, wrong_tail, or_else, judge_drawn, judge_chains, judge_read, wrong_count, judge_tokens, verdict}
+use Rattle.judge.specs.Verdict.{Verdict, Refused, Drawable, Fault, Nothing, Due, earlier_of, wrong_tail, or_else, judge_drawn, judge_chains, judge_read, wrong_count, judge_tokens, verdict}
 use Rattle.judge.specs.Judged.{Drawing, JudgedIs, SeenIs, fault_of, Firsts, due_of}
-use Rattle.judge.proofs.Laws.{Met, draws-length, met-stop, earlier-or}
+use Rattle.judge.proofs.Laws.{Met, draws-length, met-stop}
 
 -- ---- the tail
 
@@ -46,13 +42,13 @@ module _ (c : Class) (t : List ℕ) (a : Bool) (e : a ≡ has_tail c) where
   unfolding wrong_tail is_tail
   tail-outside k h f = rw (sym e ∙ h, f) (sym (not-not (eqb (atoms_of_tail t) 0)))
 
-  pub tail-elsewhere : a ≡ false → not (eqb (length t) 0) ≡ wrong_tail c t
+  pub tail-elsewhere : (k : Bool) → a ≡ false → k ≡ eqb (length t) 0 → not k ≡ wrong_tail c t
   unfolding wrong_tail
-  tail-elsewhere h = rw (sym e ∙ h)
+  tail-elsewhere k h f = rw (sym e ∙ h, f)
 
 -- ---- the number of tokens
 
-pub count-few : (c : Class) (n m : ℕ) → m ≡ fewest c → n < m → true ≡ wrong_count c n
+pub count-few : (c : Class) (n m : ℕ) → m ≡ fewest c → n < m → ltb n m ≡ wrong_count c n
 unfolding wrong_count
 count-few c n m e h = rw (← e, lt-ltb n m h)
 
@@ -119,14 +115,17 @@ module _ (c : Class) (t : List ℕ) (b : Bool) (e : b ≡ wrong_tail c t) (f : F
       let d : Drawing c ds (chains_kept n ns l) = record { few = few; counted = omega (arith, length-take n (items_of ns l), items-length ns l, draws-length h.3); drawn = h.3 } in
       rw (← h.0, ← h.1, ← h.2, ← e, in-order f.kind b f.place f.draw (Drawable c ds)) (fault-judged ds d (earlier_of f.kind (cond b (Due 23 0) (earlier_of f.place f.draw))) g w)
 
-  module _ (ts : List (List ℕ)) (m : Met c f (take n (items_of ns l)) (token.tokens_of (take n ts))) where
+  module _ (ts : List (List ℕ)) (i : ℕ) (all : i ≡ n) (m : Met c f (take i (items_of ns l)) (token.tokens_of (take i ts))) where
+    judged : JudgedIs (or_drawable g c a) n ns l t (judge_read c t (token.tokens_of (take n ts)))
+    judged = met-judged (token.tokens_of (take n ts)) (rw all at m)
+
     pub tokens-faulty : (x : code.Fault) → g ≡ Some x → JudgedIs (Err x) n ns l t (judge_read c t (token.tokens_of (take n ts)))
     unfolding or_drawable
-    tokens-faulty x h = rw h at (met-judged (token.tokens_of (take n ts)) m)
+    tokens-faulty x h = rw h at judged
 
     pub tokens-drawable : g ≡ None → JudgedIs (Ok (record { class = c; tail_atoms = a })) n ns l t (judge_read c t (token.tokens_of (take n ts)))
     unfolding or_drawable
-    tokens-drawable h = rw h at (met-judged (token.tokens_of (take n ts)) m)
+    tokens-drawable h = rw h at judged
 
 -- a token that is refused, behind others that are not
 pub token-refused : (ts : List (List ℕ)) (c : Class) (t : List ℕ) (x : Result Looked Refusal) (f : Firsts) (ns ms : List Shape) (l k : List Lists) (p : Lists) (i n : ℕ) (m : Refusal) → n ≤ length ns → n ≤ length l → n ≤ length ts → i < n

@@ -4,21 +4,23 @@ use Prim.Native.Nat.{ℕ, suc, ◌+◌, ◌≤◌, ◌<◌}
 use native.Mathlib.Nat.{add-zero, add-suc, suc-add}
 use native.Mathlib.Numerals.{add-one}
 use native.Mathlib.Omega.{arith}
-use mathlib.Core.Path.{◌≡◌, refl, sym, ap, ◌∙◌}
-use mathlib.Core.Bool.{Bool, true, false, false≢true, ◌&&◌}
-use mathlib.Core.List.{List, [], ◌∷◌, ◌++◌}
-use lib.ListN.{length, take, drop, get_or, set, length-take, take-append-drop}
+use mathlib.Core.Path.{◌≡◌, refl, sym, ap, ◌∙◌, subst}
+use mathlib.Core.Bool.{Bool, true, false, cond, not, false≢true, ◌&&◌}
+use mathlib.Core.List.{List, [], ◌∷◌, ◌++◌, map}
+use lib.ListN.{length, take, drop, get_or, set, length-take, take-append-drop, get_or-map}
 use lib.Seq.{take-suc, take-take}
 use borrow.Author.Tests.{le-ltb}
 use Rattle.std.specs.Prelude.{Option, None, Some, Result, Ok, Err}
+use Rattle.std.proofs.Common.{Bor}
 use Rattle.std.specs.Bool.{then_some}
-use Rattle.std.specs.Option.{is_none, option_or, option_map}
+use Rattle.std.specs.Option.{is_none, is_some, option_or}
 use Rattle.chain_record.specs.declared.plain.ChainPrefix.{ChainPrefix}
 use Rattle.chain_record.specs.declared.plain.DbPos.{DbPos}
 use Rattle.chain_record.specs.declared.plain.Mod.{Mod}
 use Rattle.chain_record.specs.declared.plain.Ring.{Ring}
 use Rattle.chain_record.specs.plain.Chain.{Chain, Outcome, Read, Refused, max_bonds, max_groups, max_rings}
-use Rattle.chain_record.proofs.parsed.Laws.{stands_read, stands-refused}
+use Rattle.std.specs.Result.{IsErrAnd}
+use Rattle.chain_record.proofs.parsed.Laws.{err_kept, stands_read, stands-refused}
 use Rattle.chain_record.specs.declared.refusal.Refusal.{Refusal}
 use Rattle.chain_record.specs.declared.refusal.Refusal.TheVariants.{Unreadable, GroupOnCarbonyl, PinTooFar, TailTooShort, NoSite, UnknownClass, WrongCount, WrongKind, WrongTail, OverLimit, OffChain, Clash, ShortSlice}
 use Rattle.chain_record.specs.refusal.Refusal.{number_of, number_due}
@@ -40,10 +42,11 @@ use Rattle.drawn_chain.proofs.fitted.Drawing.{held-chain}
 use Rattle.drawn_chain.proofs.drawable.Parts.{items-length}
 use Rattle.chain_rules.specs.kind.Kind.{Kind}
 use Rattle.judge.specs.declared.Fault as code
+use Rattle.judge.specs.declared.Faults.{Faults}
 use Rattle.judge.specs.declared.Looked.{Looked}
 use Rattle.judge.specs.declared.Reasons.{Reasons}
 use Rattle.judge.specs.Verdict.{Fault, Nothing, Due, fault_at, earlier_of, first_of, kind_refusal}
-use Rattle.judge.specs.Judged.{DrawsAll, none, more, fault_of, Firsts, KindIs, SeenIs, no_faults, nothing_due, with_reasons}
+use Rattle.judge.specs.Judged.{DrawsAll, none, more, fault_of, fault_from, Firsts, firsts_of, due_of, KindIs, SeenIs, no_faults, nothing_due, with_reasons}
 use Rattle.judge.proofs.Items.{items-next}
 
 -- ---- one token
@@ -63,30 +66,30 @@ with-room : (b g r : ℕ) (t : List ℕ) → max_bonds ≤ b → max_groups ≤ 
 unfolding token_in
 with-room b g r t h k l = rw (le-ltb b max_bonds h, le-ltb g max_groups k, le-ltb r max_rings l)
 
-module _ (r : Role) (t : List ℕ) (x : Result ReadChain Refusal) (bs : List DbPos) (gs : List Mod) (rs : List Ring) (b g k : ℕ) (hb : max_bonds ≤ b) (hg : max_groups ≤ g) (hr : max_rings ≤ k)
-    (w : Tells x bs gs rs (token_in b g k t)) where
-  told : Tells x bs gs rs (token_of t)
-  told = rw (with-room b g k t hb hg hr) at w
+pub told : (t : List ℕ) (x : Result ReadChain Refusal) (bs : List DbPos) (gs : List Mod) (rs : List Ring) (b g k : ℕ) → max_bonds ≤ b → max_groups ≤ g → max_rings ≤ k → Tells x bs gs rs (token_in b g k t) → Tells x bs gs rs (token_of t)
+told t x bs gs rs b g k hb hg hr w = rw (with-room b g k t hb hg hr) at w
 
+module _ (r : Role) (t : List ℕ) (x : Result ReadChain Refusal) (bs : List DbPos) (gs : List Mod) (rs : List Ring) (w : Tells x bs gs rs (token_of t)) where
   -- a token that is refused
-  pub looked-refused : (l : Lists) (z : Refusal) → x ≡ Err z → SeenIs r (Err z) l (token_of t)
-  looked-refused l z e = let v : Tells (Err z) bs gs rs (token_of t) = rw e at told in rw (stands-refused (number_of z) (token_of t) v.stands) refl
+  pub looked-refused : (l : Lists) (z : Refusal) (y : Result Looked Refusal) → x ≡ Err z → IsErrAnd y (λ (k : Refusal). k ≡ z) → SeenIs r y l (token_of t)
+  looked-refused l z y e f = let v : Tells (Err z) bs gs rs (token_of t) = rw e at w in rw (err_kept y z f, stands-refused (number_of z) (token_of t) v.stands) refl
 
-  -- what is drawn of the pieces of a token is drawn of the chain that the token says
+  -- what is drawn of the pieces of a token is drawn of the chain that its record holds
+  drawn-held : (q : ReadChain) (l : Lists) (s : Shape) → Fits r (pieces q.prefix q.carbon q.unlocated q.counts.bonds bs q.counts.groups gs q.counts.rings rs) (drawn_of s l) → Draws r (chain_of (chain_as q bs gs rs)) (drawn_of s l)
+  unfolding chain_of
+  drawn-held q l s f = f.draws (chain_of (chain_as q bs gs rs))
+
+  -- and of the chain that the token says
   pub looked : (q : ReadChain) (l : Lists) (s : Shape) (i n m : Option Refusal) → x ≡ Ok q
       → Fits r (pieces q.prefix q.carbon q.unlocated q.counts.bonds bs q.counts.groups gs q.counts.rings rs) (drawn_of s l)
       → KindIs r q.prefix q.carbon (number_due i) → Says (drawn_of s l) (number_due n) place_refusal → Says (drawn_of s l) (number_due m) draw_refusal
       → SeenIs r (Ok (record { reasons = record { kind = i; place = n; draw = m }; shape = s })) l (token_of t)
   looked q l s i n m e f o a z =
-      let v : Tells (Ok q) bs gs rs (token_of t) = rw e at told in
+      let v : Tells (Ok q) bs gs rs (token_of t) = rw e at w in
       let d = stands_read (chain_as q bs gs rs) (token_of t) v.stands in
       let h : chain_of (chain_as q bs gs rs) ≡ d.0 = held-chain d.2 (token-sound t d.0 d.1).within in
-      let u : Draws r d.0 (drawn_of s l) = rw h at drawn in
+      let u : Draws r d.0 (drawn_of s l) = rw h at (drawn-held q l s f) in
       rw d.1 (record { kind = o.is d.0 (sym d.2.prefix) (sym d.2.carbon); place = a.is r d.0 u; draw = z.is r d.0 u; drawn = u })
-    where
-      drawn : Draws r (chain_of (chain_as q bs gs rs)) (drawn_of s l)
-      unfolding chain_of
-      drawn = f.draws (chain_of (chain_as q bs gs rs))
 
 -- ---- a fault, or the next one
 
@@ -107,7 +110,7 @@ due-numbered OffChain p = refl
 due-numbered Clash p = refl
 due-numbered ShortSlice p = refl
 
-pub due-at : (r : Option Refusal) (p : ℕ) → fault_of (option_map (λ (x : Refusal). record { refusal = x; place = p }) r) ≡ fault_at (number_due r) p
+due-at : (r : Option Refusal) (p : ℕ) → fault_of (fault_from r p) ≡ fault_at (number_due r) p
 unfolding fault_at
 due-at None p = refl
 due-at (Some r) p = due-numbered r p
@@ -124,7 +127,42 @@ earlier-apart : (f g h : Fault) → earlier_of (earlier_of f g) h ≡ earlier_of
 earlier-apart Nothing g h = refl
 earlier-apart (Due n p) g h = refl
 
+-- ---- the first fault of each sort
+
+-- one chain more
+earlier-at : (f : Option code.Fault) (r : Option Refusal) (p : ℕ) → fault_of (option_or f (fault_from r p)) ≡ earlier_of (fault_of f) (fault_at (number_due r) p)
+earlier-at f r p = earlier-or f (fault_from r p) ∙ ap (earlier_of (fault_of f)) (due-at r p)
+
+pub joined : (f : Faults) (n : Reasons) (p : ℕ) (u v w a b d : Option code.Fault) → u ≡ fault_from n.kind p → a ≡ option_or f.kind u → v ≡ fault_from n.place p → b ≡ option_or f.place v → w ≡ fault_from n.draw p → d ≡ option_or f.draw w
+    → firsts_of (record { kind = a; place = b; draw = d }) ≡ with_reasons (firsts_of f) n p
+unfolding with_reasons
+joined f n p u v w a b d e h i j k l =
+    rw (h, e, j, i, l, k, earlier-at f.kind n.kind p, earlier-at f.place n.place p, earlier-at f.draw n.draw p)
+
+module _ (f : Faults) (tail : Bool) where
+  pub due-tail : (g : Option code.Fault) → tail ≡ true → g ≡ option_or f.kind (Some (record { refusal = WrongTail; place = 0 })) → fault_of g ≡ due_of (firsts_of f) tail
+  unfolding due_of
+  due-tail g h e = rw (e, h) (earlier-or f.kind (Some (record { refusal = WrongTail; place = 0 })))
+
+  pub due-other : (g h : Option code.Fault) → tail ≡ false → g ≡ option_or f.place f.draw → h ≡ option_or f.kind g → fault_of h ≡ due_of (firsts_of f) tail
+  unfolding due_of
+  due-other g h t e k = rw (k, e, t) (earlier-or f.kind (option_or f.place f.draw) ∙ ap (earlier_of (fault_of f.kind)) (earlier-or f.place f.draw))
+
 -- ---- a chain that is refused for nothing
+
+pub none-due : (n : Reasons) (a b : Option Refusal) (t : Bool) → a ≡ option_or n.kind n.place → b ≡ option_or a n.draw → is_some b ≡ not t → t ≡ nothing_due n
+unfolding nothing_due
+none-due n a b t e f h = go t n.kind n.place n.draw (rw (f, e) at h)
+  where
+    go : (t : Bool) (x y z : Option Refusal) → is_some (option_or (option_or x y) z) ≡ not t → t ≡ (is_none x && is_none y && is_none z)
+    go true None None None h = refl
+    go true None None (Some r) h = absurd (false≢true (sym h))
+    go true None (Some r) z h = absurd (false≢true (sym h))
+    go true (Some r) y z h = absurd (false≢true (sym h))
+    go false None None None h = absurd (false≢true h)
+    go false None None (Some r) h = refl
+    go false None (Some r) z h = refl
+    go false (Some r) y z h = refl
 
 -- reasons of which none is due change no fault
 faults-stay : (f : Firsts) (n : Reasons) (p : ℕ) → nothing_due n ≡ true → f ≡ with_reasons f n p
@@ -207,12 +245,24 @@ unfolding tokens_from
 tokens-stay n p [] = refl
 tokens-stay n p (t ∷ ts) = tokens-stay n p ts
 
-module _ (ts : List (List ℕ)) where
-  -- before the first
-  pub met-first : (c : Class) (f : Firsts) (ns : List Shape) (l : List Lists) → f ≡ no_faults → Met c f (take 0 (items_of ns l)) (tokens_of (take 0 ts))
-  unfolding tokens_of tokens_from
-  met-first c f ns l e = rw e (met-none c)
+-- before the first
+pub met-first : (c : Class) (f : Firsts) → f ≡ no_faults → Met c f [] (tokens_of [])
+unfolding tokens_of tokens_from
+met-first c f e = rw e (met-none c)
 
+-- the bytes of tokens that are lent
+abbrev pub texts : List (Bor (List ℕ)) → List (List ℕ)
+texts ts = map (λ t. t.now) ts
+
+-- a token in its place
+pub in-place : (c : Class) (role : Role) (i : ℕ) (x : Result Looked Refusal) (p : Lists) (ts : List (Bor (List ℕ))) (d : Bor (List ℕ)) → d.now ≡ [] → role ≡ role_of c (i + 1) → SeenIs role x p (token_of (get_or ts i d).now)
+    → SeenIs (role_of c (i + 1)) x p (token_of (get_or (texts ts) i []))
+in-place c role i x p ts d z r w =
+    let now : Bor (List ℕ) → List ℕ = λ t. t.now in
+    let e : get_or (texts ts) i [] ≡ (get_or ts i d).now = subst (λ (y : List ℕ). get_or (map now ts) i y ≡ now (get_or ts i d)) z (get_or-map now ts i d) in
+    rw (e, ← r) w
+
+module _ (ts : List (List ℕ)) where
   module _ (c : Class) (x : Result Looked Refusal) (f : Firsts) (ns : List Shape) (l : List Lists) (p : Lists) (i n : ℕ) (z : n ≤ length ns) (b : n ≤ length l) (k : n ≤ length ts) (h : i < n)
       (w : SeenIs (role_of c (i + 1)) x p (token_of (get_or ts i [])))
       (m : Met c f (take i (items_of ns l)) (tokens_of (take i ts))) where

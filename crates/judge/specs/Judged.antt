@@ -38,6 +38,11 @@ abbrev pub fault_of : Option code.Fault → Fault
 fault_of None = Nothing
 fault_of (Some f) = Due (number_of f.refusal) f.place
 
+-- the code's fault of a refusal that may be due
+abbrev pub fault_from : Option Refusal → ℕ → Option code.Fault
+fault_from None p = None
+fault_from (Some r) p = Some (record { refusal = r; place = p })
+
 -- 01's number and the values of each case, as a verdict on a request with n tokens and the tail t has them: the class, and the chains whose
 -- shapes are xs and whose lists are l, with the atoms of the tail; or the refusal's number and place
 abbrev pub JudgedIs : Result code_drawable.Drawable code.Fault → ℕ → List Shape → List Lists → List ℕ → Verdict → Type 0

@@ -6,16 +6,18 @@
 ghost use Rattle.std.specs.Prelude.{◌≡◌, ◌≤◌, min, take, map, length};
 ghost use Rattle.chain_record.specs.refusal.Refusal.{number_due};
 ghost use Rattle.token_reader.specs.token.Token.{token_of};
+ghost use Rattle.token_reader.specs.token.Lent.{Tells};
 ghost use Rattle.token_reader.specs.token.Request.{tokens_of};
 ghost use Rattle.tail_grammar.specs.tail.Grammar.{atoms_of_tail};
-ghost use Rattle.judge.specs.Verdict.{tokens, fault_at, wrong_tail, wrong_count, judge_read, verdict};
-ghost use Rattle.judge.specs.Judged.{fault_of, firsts_of, no_faults, with_reasons, due_of, nothing_due, KindIs, SeenIs, JudgedIs};
+ghost use Rattle.judge.specs.Verdict.{tokens, wrong_tail, wrong_count, judge_read, verdict};
+ghost use Rattle.judge.specs.Judged.{fault_of, fault_from, firsts_of, no_faults, with_reasons, due_of, nothing_due, KindIs, SeenIs, JudgedIs};
 
-use chain_record::{ChainPrefix, DbPos, GROUP_ROOM, MAX_BONDS, Mod, Refusal};
+use chain_record::{ChainPrefix, DbPos, GROUP_ROOM, MAX_BONDS, MAX_RINGS, Mod, Refusal, Ring};
 use chain_rules::Role;
 use drawn_chain::drawable::{NO_BOND, NO_GROUP};
 use drawn_chain::{Lists, MAX_CHAINS, Shape};
 use template_rules::Class;
+use token_reader::ReadChain;
 
 // What a request is refused for, and the token's place from 1, 0 for none.
 #[derive(Clone, Copy, PartialEq, Eq, Debug)]
@@ -57,7 +59,7 @@ struct Faults {
 
 // The fault at a place that a reason is, if there is one.
 fn fault_at(reason: Option<Refusal>, place: usize) -> Option<Fault>
-    ensures { fault_of result ≡ fault_at (number_due reason) place }
+    ensures { result ≡ fault_from reason place }
 {
     reason.map(|refusal| Fault { refusal, place })
 }
@@ -67,7 +69,7 @@ impl Reasons {
     fn nothing_due(self) -> bool
         ensures { result ≡ nothing_due self }
     {
-        self.kind.is_none() && self.place.is_none() && self.draw.is_none()
+        self.kind.or(self.place).or(self.draw).is_none()
     }
 }
 
@@ -103,7 +105,7 @@ impl Faults {
                 place: 0,
             }));
         }
-        self.kind.or(self.place).or(self.draw)
+        self.kind.or(self.place.or(self.draw))
     }
 }
 
@@ -126,6 +128,18 @@ fn wrong_tail(class: Class, tail: &[u8], atoms: u16) -> bool
     }
 }
 
+// The chain that a token says, its lists in arrays with room for all of them.
+fn read(
+    token: &[u8],
+    bonds: &mut [DbPos; MAX_BONDS],
+    groups: &mut [Mod; GROUP_ROOM],
+    rings: &mut [Ring; MAX_RINGS],
+) -> Result<ReadChain, Refusal>
+    ensures { Tells result bonds.new groups.new rings.new (token_of token.now) }
+{
+    token_reader::parse_token(token, bonds, groups, rings)
+}
+
 // A token where it stands as a role says. Its chain is drawn before its kind is known to fit: most do. Its rings are read into their room of
 // its lists, its other lists into lent arrays, from which they are laid into them as they are drawn: what those held before is not asked,
 // so that they are filled once for all tokens.
@@ -138,7 +152,7 @@ fn see(
 ) -> Result<Looked, Refusal>
     ensures { SeenIs role result part.new (token_of token.now) }
 {
-    let said = token_reader::parse_token(token, bonds, groups, &mut part.rings)?;
+    let said = read(token, bonds, groups, &mut part.rings)?;
     let prefix = said.prefix;
     let counts = said.counts;
     let shape = drawn_chain::drawn_as(
@@ -180,14 +194,17 @@ fn judge_tokens<'a>(
     for i in 0..count {
         let place = i + 1;
         let role = class_rules::role_of(class, place);
-        let seen = see(role, tokens[i], &mut bonds, &mut groups, &mut lists[i]);
-        // No later token is asked: what it says comes after this one's refusal.
-        let looked = seen.map_err(|refusal| Fault { refusal, place })?;
+        let looked = match see(role, tokens[i], &mut bonds, &mut groups, &mut lists[i]) {
+            Ok(looked) => looked,
+            // No later token is asked: what it says comes after this one's refusal.
+            Err(refusal) => return Err(Fault { refusal, place }),
+        };
         request_chains::keep_shape(shapes, i, looked.shape);
-        // Where nothing is due the faults stay as they are, and are not copied.
-        if !looked.reasons.nothing_due() {
-            faults = faults.join(looked.reasons, place);
+        // It leaves the faults as they are, and they are not copied.
+        if looked.reasons.nothing_due() {
+            continue;
         }
+        faults = faults.join(looked.reasons, place);
     }
     let tail_atoms = tail_grammar::tail_atoms(tail);
     if let Some(fault) = faults.due(wrong_tail(class, tail, tail_atoms)) {
