@@ -26,12 +26,13 @@ use Rattle.template_rules.proofs.Tail.{TailReads}
 use Rattle.template_rules.proofs.Theorem.{Accepted}
 use Rattle.drawn_chain.specs.declared.drawable.Shape.{Shape}
 use Rattle.request_chains.specs.chain_shapes.Shapes.{chains_kept}
-use Rattle.std.specs.Prelude.{Option, None, Some}
+use Rattle.std.specs.Prelude.{Option, None, Some, Ok, Err}
+use Rattle.chain_record.specs.refusal.Refusal.{number_of}
+use Rattle.drawn_chain.specs.declared.rooms.Lists.{Lists}
 use Rattle.class_rules.specs.class.Class.{class_of}
-use Rattle.judge.specs.declared.Fault.{Fault}
-use Rattle.judge.specs.declared.Fault.TheVariants.{Nothing, Due as Fault-as-Due}
-use Rattle.judge.specs.declared.Judged.TheVariants.{Drawable as Judged-as-Drawable, Refused as Judged-as-Refused}
-use Rattle.judge.specs.Verdict.{Verdict, Refused, Drawable, tokens, fault_at, earlier_of, first_of, kind_refusal, wrong_tail, or_else, judge_drawn, judge_chains, judge_read, wrong_count, judge_tokens, judge_class, verdict, is_refusal}
+use Rattle.judge.specs.declared.Fault as code
+use Rattle.judge.specs.declared.Drawable as code_drawable
+use Rattle.judge.specs.Verdict.{Verdict, Refused, Drawable, Fault, Nothing, Due as Fault-as-Due, tokens, fault_at, earlier_of, first_of, kind_refusal, wrong_tail, or_else, judge_drawn, judge_chains, judge_read, wrong_count, judge_tokens, judge_class, verdict, is_refusal}
 use Rattle.judge.specs.Judged.{Drawing, JudgedIs}
 use Rattle.judge.proofs.Tokens.{tokens-sound, tokens-length, tokens-refused}
 
@@ -268,16 +269,16 @@ module _ (class t : List ℕ) (count : ℕ) (sn1 sn2 sn3 sn4 : List ℕ) where
 -- ---- what the answer of the code says of the verdict
 
 -- the n chains that the shapes ns and the lists l hold are those of the verdict, and the atoms of the tail t are counted
-pub record Drawn (c : Class) (a n : ℕ) (ns : List Shape) (l t : List ℕ) (v : Verdict) : Type 0 where
+pub record Drawn (c : Class) (a n : ℕ) (ns : List Shape) (l : List Lists) (t : List ℕ) (v : Verdict) : Type 0 where
   pub chains : List Chain
   pub is : v ≡ Drawable c chains
   pub drawing : Drawing c chains (chains_kept n ns l)
   pub atoms : a ≡ atoms_of_tail t
 
-pub answer-drawable : (c : Class) (a n : ℕ) (ns : List Shape) (l t : List ℕ) (v : Verdict) → JudgedIs (Judged-as-Drawable c a) n ns l t v → Drawn c a n ns l t v
-answer-drawable c a n ns l t (Refused m p) h = absurd h
-answer-drawable c a n ns l t (Drawable d ds) h = record { chains = ds; is = ap (λ (x : Class). Drawable x ds) (sym h.0); drawing = rw h.0 h.1; atoms = h.2 }
+pub answer-drawable : (d : code_drawable.Drawable) (n : ℕ) (ns : List Shape) (l : List Lists) (t : List ℕ) (v : Verdict) → JudgedIs (Ok d) n ns l t v → Drawn d.class d.tail_atoms n ns l t v
+answer-drawable d n ns l t (Refused m p) h = absurd h
+answer-drawable d n ns l t (Drawable c ds) h = record { chains = ds; is = ap (λ (x : Class). Drawable x ds) (sym h.0); drawing = rw h.0 h.1; atoms = h.2 }
 
-pub answer-refused : (m p n : ℕ) (ns : List Shape) (l t : List ℕ) (v : Verdict) → JudgedIs (Judged-as-Refused m p) n ns l t v → v ≡ Refused m p
-answer-refused m p n ns l t (Refused k q) h = rw (h.0, h.1)
-answer-refused m p n ns l t (Drawable c ds) h = absurd h
+pub answer-refused : (f : code.Fault) (n : ℕ) (ns : List Shape) (l : List Lists) (t : List ℕ) (v : Verdict) → JudgedIs (Err f) n ns l t v → v ≡ Refused (number_of f.refusal) f.place
+answer-refused f n ns l t (Refused k q) h = rw (h.0, h.1)
+answer-refused f n ns l t (Drawable c ds) h = absurd h

@@ -11,13 +11,16 @@ use Rattle.template_rules.specs.declared.Class.{Class}
 use Rattle.template_rules.specs.Template.{fewest, most, role_of, has_tail}
 use Rattle.std.specs.Prelude.{Option, None, Some}
 use Rattle.class_rules.specs.class.Class.{class_of}
-use Rattle.judge.specs.declared.Fault.{Fault}
-use Rattle.judge.specs.declared.Fault.TheVariants.{Nothing, Due}
 
 -- a refusal by its number and the token's place from 1, 0 for none; or the class and the chains of the tokens
 pub data Verdict : Type 0 where
   Refused : ℕ → ℕ → Verdict
   Drawable : Class → List Chain → Verdict
+
+-- a fault of a request: none, or a refusal's number and the token's place from 1, 0 for none
+pub data Fault : Type 0 where
+  Nothing : Fault
+  Due : ℕ → ℕ → Fault
 
 -- the first `count` of the four
 abbrev pub tokens : ℕ → List ℕ → List ℕ → List ℕ → List ℕ → List (List ℕ)

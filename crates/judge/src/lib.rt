@@ -1,165 +1,119 @@
 // Whether a request is refused, before its slices are looked at: class, number of tokens, tokens, kinds, tail, and what cannot be drawn, in
 // the order of document 01. Every request has an answer. Which, is said by specs/Verdict.antt. The shapes of its chains (`request_chains::chain_shapes`) and
-// their lists are laid into lent arrays, a part for each token.
+// their lists are laid into lent arrays, in the place of each token.
 #![tactic(auto)]
 
-ghost use Rattle.std.specs.Prelude.{◌≡◌, ◌+◌, ◌*◌, ◌<◌, ◌≤◌, min, [], ◌∷◌, length, get_or};
+ghost use Rattle.std.specs.Prelude.{◌≡◌, ◌≤◌, min, take, map, length};
+ghost use Rattle.chain_record.specs.refusal.Refusal.{number_due};
 ghost use Rattle.token_reader.specs.token.Token.{token_of};
+ghost use Rattle.token_reader.specs.token.Lent.{Tells};
 ghost use Rattle.token_reader.specs.token.Request.{tokens_of};
 ghost use Rattle.tail_grammar.specs.tail.Grammar.{atoms_of_tail};
-ghost use Rattle.template_rules.specs.Template.{role_of};
-ghost use Rattle.judge.specs.Verdict.{tokens, fault_at, earlier_of, wrong_tail, wrong_count, judge_read, verdict};
-ghost use Rattle.judge.specs.Judged.{JudgedIs, KindIs, SeenIs, no_faults, nothing_due, with_reasons, due_of, or_drawable};
+ghost use Rattle.judge.specs.Verdict.{tokens, wrong_tail, wrong_count, judge_read, verdict};
+ghost use Rattle.judge.specs.Judged.{fault_of, fault_from, firsts_of, no_faults, with_reasons, due_of, nothing_due, KindIs, SeenIs, JudgedIs};
 
-use chain_record::{ChainPrefix, GROUP_ROOM, MAX_BONDS};
+use chain_record::{ChainPrefix, DbPos, GROUP_ROOM, MAX_BONDS, MAX_RINGS, Mod, Refusal, Ring};
 use chain_rules::Role;
-use drawn_chain::{CHAIN_ROOM, MAX_CHAINS, Shape};
+use drawn_chain::drawable::{NO_BOND, NO_GROUP};
+use drawn_chain::{Lists, MAX_CHAINS, Shape};
 use template_rules::Class;
+use token_reader::ReadChain;
 
-// A class code that is none of the eight.
-pub const UNKNOWN_CLASS: u16 = 20;
-// Another number of tokens than the class takes.
-pub const WRONG_COUNT: u16 = 21;
-// A chain of the wrong kind for its place.
-pub const WRONG_KIND: u16 = 22;
-// A tail outside the grammar, or where the class has none.
-pub const WRONG_TAIL: u16 = 23;
-
-// A fault of a request: none, or a refusal's number and the token's place from 1, 0 for none.
-#[derive(Clone, Copy)]
-pub enum Fault {
-    Nothing,
-    Due { number: u16, place: usize },
+// What a request is refused for, and the token's place from 1, 0 for none.
+#[derive(Clone, Copy, PartialEq, Eq, Debug)]
+pub struct Fault {
+    pub refusal: Refusal,
+    pub place: usize,
 }
 
-// A request that was judged: its class and the atoms of its tail, or why it is refused. Its chains stand in arrays that were lent: they would
-// be copied at every call.
+// A request that is drawn: its class and the atoms of its tail. Its chains stand in arrays that were lent: they would be copied at every call.
 #[derive(Clone, Copy)]
-pub enum Judged {
-    Drawable { class: Class, tail_atoms: u16 },
-    Refused { number: u16, place: usize },
+pub struct Drawable {
+    pub class: Class,
+    pub tail_atoms: u16,
 }
 
-// What a chain that was read is refused for: 22; 32 or 33; 12 to 15. Each is 0 where nothing is due.
+// What a chain that was read is refused for: 22; 32 or 33; 12 to 15.
 #[derive(Clone, Copy)]
 struct Reasons {
-    kind: u16,
-    place: u16,
-    draw: u16,
+    kind: Option<Refusal>,
+    place: Option<Refusal>,
+    draw: Option<Refusal>,
 }
 
-// A token that was looked at: what its chain is refused for, and the chain as it is drawn, but for its lists; or 31 or 11.
+// A token that was read: what its chain is refused for, and the chain as it is drawn, but for its lists.
 #[derive(Clone, Copy)]
-enum Seen {
-    Read { reasons: Reasons, shape: Shape },
-    Refused(u16),
+struct Looked {
+    reasons: Reasons,
+    shape: Shape,
 }
 
 // The first fault of each sort among the chains looked at so far. The sorts have an order of their own: a fault of a later chain comes
 // before one of an earlier chain where its sort does.
 #[derive(Clone, Copy)]
 struct Faults {
-    kind: Fault,
-    place: Fault,
-    draw: Fault,
+    kind: Option<Fault>,
+    place: Option<Fault>,
+    draw: Option<Fault>,
 }
 
-// The fault at a place that a number is, where it is not 0.
-fn fault_at(number: u16, place: usize) -> Fault
-    ensures { result ≡ fault_at number place }
+// The fault at a place that a reason is, if there is one.
+fn fault_at(reason: Option<Refusal>, place: usize) -> Option<Fault>
+    ensures { result ≡ fault_from reason place }
 {
-    if number == 0 {
-        return Fault::Nothing;
-    }
-    Fault::Due { number, place }
+    reason.map(|refusal| Fault { refusal, place })
 }
 
-// A fault, or the next one where there is none.
-fn earlier(fault: Fault, next: Fault) -> Fault
-    ensures { result ≡ earlier_of fault next }
-{
-    match fault {
-        Fault::Nothing => next,
-        Fault::Due { number, place } => Fault::Due { number, place },
+impl Reasons {
+    // Whether a chain is refused for nothing, as most are.
+    fn nothing_due(self) -> bool
+        ensures { result ≡ nothing_due self }
+    {
+        self.kind.or(self.place).or(self.draw).is_none()
     }
-}
-
-// Whether a chain is refused for nothing, as most are.
-fn nothing_due(reasons: Reasons) -> bool
-    ensures { result ≡ nothing_due reasons }
-{
-    if reasons.kind != 0 {
-        return false;
-    }
-    if reasons.place != 0 {
-        return false;
-    }
-    reasons.draw == 0
 }
 
 impl Faults {
     fn new() -> Faults
-        ensures { result ≡ no_faults }
+        ensures { firsts_of result ≡ no_faults }
     {
         Faults {
-            kind: Fault::Nothing,
-            place: Fault::Nothing,
-            draw: Fault::Nothing,
+            kind: None,
+            place: None,
+            draw: None,
         }
     }
 
     // One chain more, with its token's place.
     fn join(self, reasons: Reasons, place: usize) -> Faults
-        ensures { result ≡ with_reasons self reasons place }
+        ensures { firsts_of result ≡ with_reasons (firsts_of self) reasons place }
     {
-        let kind = self.kind;
-        let spot = self.place;
-        let draw = self.draw;
         Faults {
-            kind: earlier(kind, fault_at(reasons.kind, place)),
-            place: earlier(spot, fault_at(reasons.place, place)),
-            draw: earlier(draw, fault_at(reasons.draw, place)),
+            kind: self.kind.or(fault_at(reasons.kind, place)),
+            place: self.place.or(fault_at(reasons.place, place)),
+            draw: self.draw.or(fault_at(reasons.draw, place)),
         }
     }
 
     // The fault that is due: that of a kind, of the tail if it is outside the grammar, of a place, of a drawing.
-    fn due(self, outside: bool) -> Fault
-        ensures { result ≡ due_of self outside }
+    fn due(self, outside: bool) -> Option<Fault>
+        ensures { fault_of result ≡ due_of (firsts_of self) outside }
     {
-        let kind = self.kind;
-        let place = self.place;
-        let draw = self.draw;
         if outside {
-            return earlier(
-                kind,
-                Fault::Due {
-                    number: WRONG_TAIL,
-                    place: 0,
-                },
-            );
+            return self.kind.or(Some(Fault {
+                refusal: Refusal::WrongTail,
+                place: 0,
+            }));
         }
-        earlier(kind, earlier(place, draw))
+        self.kind.or(self.place.or(self.draw))
     }
 }
 
-// The fault that is due, or the request as it is drawn where there is none.
-fn or_drawable(fault: Fault, class: Class, tail_atoms: u16) -> Judged
-    ensures { result ≡ or_drawable fault class tail_atoms }
+// 22 for a chain of the wrong kind for its place.
+fn kind_refusal(role: Role, prefix: ChainPrefix, carbon: u16) -> Option<Refusal>
+    ensures { KindIs role prefix carbon (number_due result) }
 {
-    match fault {
-        Fault::Due { number, place } => Judged::Refused { number, place },
-        Fault::Nothing => Judged::Drawable { class, tail_atoms },
-    }
-}
-
-// 22 for a chain of the wrong kind for its place, else 0.
-fn kind_refusal(role: Role, prefix: ChainPrefix, carbon: u16) -> u16
-    ensures { KindIs role prefix carbon result }
-{
-    if chain_rules::wrong_kind(role, prefix, carbon) {
-        return WRONG_KIND;
-    }
-    0
+    chain_rules::wrong_kind(role, prefix, carbon).then_some(Refusal::WrongKind)
 }
 
 // Whether a tail is outside the grammar, where it counts no atoms, or stands where the class has none.
@@ -168,87 +122,57 @@ fn wrong_tail(class: Class, tail: &[u8], atoms: u16) -> bool
     ensures { result ≡ wrong_tail class tail.now }
 {
     if class_rules::has_tail(class) {
-        return atoms == 0;
+        atoms == 0
+    } else {
+        !tail.is_empty()
     }
-    tail.len() != 0
 }
 
-// Token i, counted from 0.
-fn token_at<'a>(i: usize, sn1: &'a [u8], sn2: &'a [u8], sn3: &'a [u8], sn4: &'a [u8]) -> &'a [u8]
-    requires { i < 4 }
-    ensures { result.now ≡ get_or (sn1.now ∷ sn2.now ∷ sn3.now ∷ sn4.now ∷ []) i [] }
+// The chain that a token says, its lists in arrays with room for all of them.
+fn read(
+    token: &[u8],
+    bonds: &mut [DbPos; MAX_BONDS],
+    groups: &mut [Mod; GROUP_ROOM],
+    rings: &mut [Ring; MAX_RINGS],
+) -> Result<ReadChain, Refusal>
+    ensures { Tells result bonds.new groups.new rings.new (token_of token.now) }
 {
-    if i == 0 {
-        return sn1;
-    }
-    if i == 1 {
-        return sn2;
-    }
-    if i == 2 {
-        return sn3;
-    }
-    sn4
+    token_reader::parse_token(token, bonds, groups, rings)
 }
 
 // A token where it stands as a role says. Its chain is drawn before its kind is known to fit: most do. Its rings are read into their room of
-// the part, its other lists into lent arrays, from which they are laid into the part as they are drawn: what those held before is not asked,
+// its lists, its other lists into lent arrays, from which they are laid into them as they are drawn: what those held before is not asked,
 // so that they are filled once for all tokens.
 fn see(
     role: Role,
     token: &[u8],
-    bonds: &mut [u64; MAX_BONDS],
-    groups: &mut [u64; GROUP_ROOM],
-    part: &mut [u64],
-) -> Seen
-    requires { length part.old ≡ 77 }
+    bonds: &mut [DbPos; MAX_BONDS],
+    groups: &mut [Mod; GROUP_ROOM],
+    part: &mut Lists,
+) -> Result<Looked, Refusal>
     ensures { SeenIs role result part.new (token_of token.now) }
 {
-    let read = token_reader::parse_token(token, bonds, groups, &mut part[69..77]);
-    match read {
-        Err(refusal) => Seen::Refused(u16::from(refusal)),
-        Ok(said) => {
-            let prefix = said.prefix;
-            let counts = said.counts;
-            let shape = drawn_chain::drawn_as(
-                role,
-                prefix,
-                said.carbon,
-                said.unlocated,
-                bonds,
-                counts.bonds,
-                groups,
-                counts.groups,
-                counts.rings,
-                part,
-            );
-            let reasons = Reasons {
-                kind: kind_refusal(role, prefix, said.carbon),
-                place: chain_refusals::place_refusal(shape, part),
-                draw: chain_refusals::draw_refusal(shape, part),
-            };
-            Seen::Read { reasons, shape }
-        }
-    }
-}
-
-// Token i, counted from 0, in its place.
-fn look<'a>(
-    class: Class,
-    i: usize,
-    sn1: &'a [u8],
-    sn2: &'a [u8],
-    sn3: &'a [u8],
-    sn4: &'a [u8],
-    bonds: &mut [u64; MAX_BONDS],
-    groups: &mut [u64; GROUP_ROOM],
-    part: &mut [u64],
-) -> Seen
-    requires i_bound { i < 4 }
-    requires part_len { length part.old ≡ 77 }
-    ensures { SeenIs (role_of class (i + 1)) result part.new (token_of (get_or (sn1.now ∷ sn2.now ∷ sn3.now ∷ sn4.now ∷ []) i [])) }
-{
-    let role = class_rules::role_of(class, i + 1);
-    see(role, token_at(i, sn1, sn2, sn3, sn4), bonds, groups, part)
+    let said = read(token, bonds, groups, &mut part.rings)?;
+    let prefix = said.prefix;
+    let counts = said.counts;
+    let shape = drawn_chain::drawn_as(
+        role,
+        prefix,
+        said.carbon,
+        said.unlocated,
+        bonds,
+        counts.bonds,
+        groups,
+        counts.groups,
+        counts.rings,
+        part,
+    );
+    let reasons = Reasons {
+        kind: kind_refusal(role, prefix, said.carbon),
+        place: chain_refusals::place_refusal(shape, part),
+        draw: chain_refusals::draw_refusal(shape, part),
+    };
+    Ok(Looked { reasons, shape })
 }
 
 // The tokens of a class, of which there are as many as it takes.
@@ -256,69 +180,48 @@ fn judge_tokens<'a>(
     class: Class,
     tail: &[u8],
     count: usize,
-    sn1: &'a [u8],
-    sn2: &'a [u8],
-    sn3: &'a [u8],
-    sn4: &'a [u8],
+    tokens: &[&'a [u8]; MAX_CHAINS],
     shapes: &mut [Shape; MAX_CHAINS],
-    lists: &mut [u64],
-) -> Judged
+    lists: &mut [Lists],
+) -> Result<Drawable, Fault>
     requires count_bound { count ≤ 4 }
-    requires count_in_bounds { 77 * count ≤ length lists.old }
-    ensures { JudgedIs result count shapes.new lists.new tail.now (judge_read class tail.now (tokens_of (tokens count sn1.now sn2.now sn3.now sn4.now))) }
+    requires count_in_bounds { count ≤ length lists.old }
+    ensures { JudgedIs result count shapes.new lists.new tail.now (judge_read class tail.now (tokens_of (take count (map (λ t. t.now) tokens.now)))) }
 {
-    let mut bonds = [0u64; MAX_BONDS];
-    let mut groups = [0u64; GROUP_ROOM];
+    let mut bonds = [NO_BOND; MAX_BONDS];
+    let mut groups = [NO_GROUP; GROUP_ROOM];
     let mut faults = Faults::new();
-    let mut i = 0;
-    while i < count {
-        let from = CHAIN_ROOM * i;
-        let to = from + CHAIN_ROOM;
-        let seen = look(
-            class,
-            i,
-            sn1,
-            sn2,
-            sn3,
-            sn4,
-            &mut bonds,
-            &mut groups,
-            &mut lists[from..to],
-        );
+    for i in 0..count {
         let place = i + 1;
-        match seen {
+        let role = class_rules::role_of(class, place);
+        let looked = match see(role, tokens[i], &mut bonds, &mut groups, &mut lists[i]) {
+            Ok(looked) => looked,
             // No later token is asked: what it says comes after this one's refusal.
-            Seen::Refused(number) => {
-                return Judged::Refused { number, place };
-            }
-            Seen::Read { reasons, shape } => {
-                request_chains::keep_shape(shapes, i, shape);
-                i = place;
-                // It leaves the faults as they are, and they are not copied.
-                if nothing_due(reasons) {
-                    continue;
-                }
-                faults = faults.join(reasons, place);
-                continue;
-            }
+            Err(refusal) => return Err(Fault { refusal, place }),
+        };
+        request_chains::keep_shape(shapes, i, looked.shape);
+        // It leaves the faults as they are, and they are not copied.
+        if looked.reasons.nothing_due() {
+            continue;
         }
+        faults = faults.join(looked.reasons, place);
     }
-    let atoms = tail_grammar::tail_atoms(tail);
-    or_drawable(faults.due(wrong_tail(class, tail, atoms)), class, atoms)
+    let tail_atoms = tail_grammar::tail_atoms(tail);
+    if let Some(fault) = faults.due(wrong_tail(class, tail, tail_atoms)) {
+        return Err(fault);
+    }
+    Ok(Drawable { class, tail_atoms })
 }
 
 // Whether a class takes another number of tokens.
 fn wrong_count(class: Class, count: usize) -> bool
     ensures { result ≡ wrong_count class count }
 {
-    if count < class_rules::fewest(class) {
-        return true;
-    }
-    class_rules::most(class) < count
+    count < class_rules::fewest(class) || class_rules::most(class) < count
 }
 
 // Whether a request is refused, and for what; or its class, the atoms of its tail, which is read once, and its chains, which are kept in the
-// lent arrays: its shape for each, and its lists in a part of 77; there is room for the tokens, of which there are four at most.
+// lent arrays: for each its shape and, in the same place, its lists; there is room for the tokens, of which there are four at most.
 pub fn judge<'a>(
     class: &[u8],
     tail: &[u8],
@@ -328,22 +231,23 @@ pub fn judge<'a>(
     sn3: &'a [u8],
     sn4: &'a [u8],
     shapes: &mut [Shape; MAX_CHAINS],
-    lists: &mut [u64],
-) -> Judged
-    requires { 77 * min count 4 ≤ length lists.old }
+    lists: &mut [Lists],
+) -> Result<Drawable, Fault>
+    requires { min count 4 ≤ length lists.old }
     ensures { JudgedIs result count shapes.new lists.new tail.now (verdict class.now tail.now count (tokens count sn1.now sn2.now sn3.now sn4.now)) }
 {
     let Some(known) = class_rules::class_of(class) else {
-        return Judged::Refused {
-            number: UNKNOWN_CLASS,
+        return Err(Fault {
+            refusal: Refusal::UnknownClass,
             place: 0,
-        };
+        });
     };
     if wrong_count(known, count) {
-        return Judged::Refused {
-            number: WRONG_COUNT,
+        return Err(Fault {
+            refusal: Refusal::WrongCount,
             place: 0,
-        };
+        });
     }
-    judge_tokens(known, tail, count, sn1, sn2, sn3, sn4, shapes, lists)
+    let tokens = [sn1, sn2, sn3, sn4];
+    judge_tokens(known, tail, count, &tokens, shapes, lists)
 }

@@ -1,8 +1,5 @@
-use Rattle.judge.proofs.Laws.{kind-wrong, kind_fits}
+use Rattle.judge.proofs.Laws.{kind-told}
 use Rattle.judge.proofs.kind_refusal.Goals as goal
 
-pub returns-then-wrong_kind : goal.returns-then-wrong_kind
-returns-then-wrong_kind c = search kind-wrong
-
 pub returns : goal.returns
-returns c = search kind_fits
+returns c = rw c.then_some.ensures (kind-told _ _ _ _ c.wrong_kind.ensures)

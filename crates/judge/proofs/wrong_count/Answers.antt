@@ -4,5 +4,5 @@ use Rattle.judge.proofs.wrong_count.Goals as goal
 pub returns-then-count-fewest : goal.returns-then-count-fewest
 returns-then-count-fewest c = search count-few
 
-pub returns : goal.returns
-returns c = search count-enough
+pub returns-else-count-fewest : goal.returns-else-count-fewest
+returns-else-count-fewest c = search count-enough

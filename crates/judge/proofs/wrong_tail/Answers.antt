@@ -4,5 +4,5 @@ use Rattle.judge.proofs.wrong_tail.Goals as goal
 pub returns-then-has_tail : goal.returns-then-has_tail
 returns-then-has_tail c = search tail-outside
 
-pub returns : goal.returns
-returns c = search tail-elsewhere
+pub returns-else-has_tail : goal.returns-else-has_tail
+returns-else-has_tail c = search tail-elsewhere

@@ -1,4 +1,4 @@
-use Rattle.judge.proofs.Judging.{due-tail, due-other}
+use Rattle.judge.proofs.Laws.{due-tail, due-other}
 use Rattle.judge.proofs.Faults.due.Goals as goal
 
 pub returns-then-outside : goal.returns-then-outside
