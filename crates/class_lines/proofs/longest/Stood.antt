@@ -18,6 +18,8 @@ use Rattle.chain_rules.specs.declared.chain.Role.{Role}
 use Rattle.chain_rules.specs.declared.chain.Role.TheVariants.{Slot}
 use Rattle.chain_rules.specs.chain.Features.{groups_on, floating}
 use Rattle.drawn_chain.specs.declared.drawable.Shape.{Shape}
+use Rattle.drawn_chain.specs.declared.rooms.Lists.{Lists}
+use Rattle.drawn_chain.specs.declared.rooms.TheConstants.{NO_LISTS}
 use Rattle.drawn_chain.specs.drawable.Drawn.{Drawn, drawn_of, groups_in, rings_in, groups_part, floats_part, rings_part}
 use Rattle.drawn_chain.specs.drawable.Chains.{drawn_in, items_of}
 use Rattle.request_chains.specs.chain_shapes.Shapes.{no_shape, chains_kept}
@@ -52,7 +54,7 @@ rings-held : (n m : ℕ) (xs : List ℕ) → length xs ≤ m → length (rings_i
 unfolding rings_in
 rings-held n m xs h = omega (arith, length-map (take n xs) ring_in, length-take n xs)
 
-module _ (r : Role) (d : Chain) (x : Shape) (l : List ℕ) (h : Carries r d (drawn_of x l)) where
+module _ (r : Role) (d : Chain) (x : Shape) (l : Lists) (h : Carries r d (drawn_of x l)) where
   groups-few : length (groups_on r d) ≤ 18
   unfolding groups_part
   groups-few = omega (arith, ap length h.draws.groups, groups-held x.group_count 18 (groups_part l) (omega (arith, length-take 18 (drop 33 l))))
@@ -86,14 +88,14 @@ module _ (r : Role) (d : Chain) (x : Shape) (l : List ℕ) (h : Carries r d (dra
 -- what stands at a place of some chains is one of the numbers, with some part
 abbrev Picked : List Shape → ℕ → ℕ → Option Drawn → Type 0
 Picked xs n i none = Unit {0}
-Picked xs n i (some y) = (i < n) × ((l : List ℕ) × (y ≡ drawn_of (get_or xs i no_shape) l))
+Picked xs n i (some y) = (i < n) × ((l : Lists) × (y ≡ drawn_of (get_or xs i no_shape) l))
 
-picked : (xs : List Shape) (n i : ℕ) (l : List ℕ) → Picked xs n i (drawn_at (suc i) (take n (items_of xs l)))
+picked : (xs : List Shape) (n i : ℕ) (l : List Lists) → Picked xs n i (drawn_at (suc i) (take n (items_of xs l)))
 unfolding drawn_at items_of
 picked xs zero i l = tt
 picked [] (suc n) i l = tt
-picked (x ∷ xs) (suc n) zero l = (omega arith, (take 77 l, refl))
-picked (x ∷ xs) (suc n) (suc i) l = go (drawn_at (suc i) (take n (items_of xs (drop 77 l)))) (picked xs n i (drop 77 l))
+picked (x ∷ xs) (suc n) zero l = (omega arith, (get_or l 0 NO_LISTS, refl))
+picked (x ∷ xs) (suc n) (suc i) l = go (drawn_at (suc i) (take n (items_of xs (drop 1 l)))) (picked xs n i (drop 1 l))
   where
     go : (o : Option Drawn) → Picked xs n i o → Picked (x ∷ xs) (suc n) (suc i) o
     go none h = tt
@@ -106,7 +108,7 @@ record Numbered (ns : List Shape) (count i : ℕ) (r : Role) (d : Chain) : Type 
   covered : chain_most r d ≤ shape_most (get_or ns i no_shape)
   carbon : d.carbon ≡ (get_or ns i no_shape).carbon
 
-module _ (ρ : ℕ → Role) (ds : List Chain) (count : ℕ) (ns : List Shape) (l : List ℕ) (h : Stood ρ ds (chains_kept count ns l)) where
+module _ (ρ : ℕ → Role) (ds : List Chain) (count : ℕ) (ns : List Shape) (l : List Lists) (h : Stood ρ ds (chains_kept count ns l)) where
   told : (i : ℕ) (d : Chain) → nonempty (suc i) ds ≡ some d → Numbered ns count i (ρ (suc i)) d
   unfolding drawn_in
   told i d e = go (drawn_at (suc i) (take count (items_of ns l))) refl (picked ns count i l)
@@ -119,7 +121,7 @@ module _ (ρ : ℕ → Role) (ds : List Chain) (count : ℕ) (ns : List Shape) (
 
       go : (o : Option Drawn) → drawn_at (suc i) (take count (items_of ns l)) ≡ o → Picked ns count i o → Numbered ns count i r d
       go none q p =
-          let z : Carries r d (drawn_of no_shape []) = carried (drawn_of no_shape []) (rw q refl) in
+          let z : Carries r d (drawn_of no_shape NO_LISTS) = carried (drawn_of no_shape NO_LISTS) (rw q refl) in
           absurd (omega (arith, z.some, z.draws.carbon))
       go (some y) q p =
           let x = get_or ns i no_shape in
@@ -146,7 +148,7 @@ module _ (ρ : ℕ → Role) (ds : List Chain) (count : ℕ) (ns : List Shape) (
 shape-covered : (count i r : ℕ) (ns : List Shape) → r ≤ 30000000 → (i < count → shape_most (get_or ns i no_shape) ≤ r) → ChainCovered count ns i r
 shape-covered count i r ns f g = record { few = f; covers = λ ρ ds l h. go ρ ds l h (nonempty (suc i) ds) refl }
   where
-    go : (ρ : ℕ → Role) (ds : List Chain) (l : List ℕ) → Stood ρ ds (chains_kept count ns l) → (o : Option Chain) → nonempty (suc i) ds ≡ o → chain_most_of (ρ (suc i)) o ≤ r
+    go : (ρ : ℕ → Role) (ds : List Chain) (l : List Lists) → Stood ρ ds (chains_kept count ns l) → (o : Option Chain) → nonempty (suc i) ds ≡ o → chain_most_of (ρ (suc i)) o ≤ r
     go ρ ds l h none q = omega arith
     go ρ ds l h (some d) q = let z = told ρ ds count ns l h i d q in omega (arith, z.covered, g z.counted)
 
@@ -164,7 +166,7 @@ pub line-covered : (t : List ℕ) (k count : ℕ) (ns : List Shape) (a b c d : �
 unfolding line_most most_at
 line-covered t k count ns a b c d p q r s = record { covers = go }
   where
-    go : (x : Class) (swap : Bool) (ds : List Chain) (l : List ℕ) → (has_tail x ≡ true → TailOf t k) → StoodIn x ds (chains_kept count ns l) → Each fragment.Told (placed x t ds)
+    go : (x : Class) (swap : Bool) (ds : List Chain) (l : List Lists) → (has_tail x ≡ true → TailOf t k) → StoodIn x ds (chains_kept count ns l) → Each fragment.Told (placed x t ds)
         → length (line_of x swap t ds) ≤ 120 + length t + k + (a + b + c + d)
     go x swap ds l h g m =
         omega (
@@ -239,7 +241,7 @@ slight-from m t ds h n v (chain sn r ∷ es) =
     all_append (λ p. p.chain.carbon ≤ m) (place sn r (site_of r n) n v (nonempty sn ds)) _ (slight-place m sn r (site_of r n) n v (nonempty sn ds) (h sn))
     (slight-from m t ds h (atoms_after r n (nonempty sn ds)) (variables_after v (nonempty sn ds)) es)
 
-pub slight-placed : (m : ℕ) (c : Class) (t : List ℕ) (ds : List Chain) (count : ℕ) (ns : List Shape) (l : List ℕ) → StoodIn c ds (chains_kept count ns l) → Slight m count ns
+pub slight-placed : (m : ℕ) (c : Class) (t : List ℕ) (ds : List Chain) (count : ℕ) (ns : List Shape) (l : List Lists) → StoodIn c ds (chains_kept count ns l) → Slight m count ns
     → All (λ p. p.chain.carbon ≤ m) (placed c t ds)
 unfolding placed
 slight-placed m c t ds count ns l h g = slight-from m t ds (all-slight (role_of c) ds count ns l h m g) 0 0 (elements c)

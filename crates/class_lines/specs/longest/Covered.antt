@@ -3,6 +3,7 @@ use Rattle.std.specs.Prelude.{ℕ, suc, ◌≤◌, ◌<◌, min, ◌≡◌, Bool
 use Rattle.chain_record.specs.plain.Chain.{Chain}
 use Rattle.chain_rules.specs.declared.chain.Role.{Role}
 use Rattle.drawn_chain.specs.declared.drawable.Shape.{Shape}
+use Rattle.drawn_chain.specs.declared.rooms.Lists.{Lists}
 use Rattle.request_chains.specs.chain_shapes.Shapes.{no_shape, chains_kept}
 use Rattle.template_rules.specs.declared.Class.{Class}
 use Rattle.template_rules.specs.Template.{has_tail}
@@ -27,11 +28,11 @@ pub record Bounded (m n r : ℕ) : Type 0 where
 -- r is no less than what the chain at a place adds to the line of any chains that have these shapes; its sn is one more than its place
 pub record ChainCovered (count : ℕ) (xs : List Shape) (i r : ℕ) : Type 0 where
   pub few : r ≤ 30000000
-  pub covers : (ρ : ℕ → Role) (ds : List Chain) (l : List ℕ) → Stood ρ ds (chains_kept count xs l) → chain_most_of (ρ (suc i)) (nonempty (suc i) ds) ≤ r
+  pub covers : (ρ : ℕ → Role) (ds : List Chain) (l : List Lists) → Stood ρ ds (chains_kept count xs l) → chain_most_of (ρ (suc i)) (nonempty (suc i) ds) ≤ r
 
 -- r is no less than the length of the line of any such chains, with a tail t of k atoms
 pub record Covered (t : List ℕ) (k count : ℕ) (xs : List Shape) (r : ℕ) : Type 0 where
-  pub covers : (c : Class) (swap : Bool) (ds : List Chain) (l : List ℕ) → (has_tail c ≡ true → TailOf t k) → StoodIn c ds (chains_kept count xs l)
+  pub covers : (c : Class) (swap : Bool) (ds : List Chain) (l : List Lists) → (has_tail c ≡ true → TailOf t k) → StoodIn c ds (chains_kept count xs l)
       → Each Told (placed c t ds) → length (line_of c swap t ds) ≤ r
 
 -- a chain has at most m carbons, and at most m double bonds without a position
