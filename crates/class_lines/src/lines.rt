@@ -36,9 +36,7 @@ pub fn build_line(
     requires { Writable class tail.now tail_atoms (chains_lent chains) (rooms out.old index.old rows.old notes.old) }
     ensures { LineBuilt class swap tail.now tail_atoms (chains_lent chains.entry) (rooms out.old index.old rows.old notes.old) (rooms out.new index.new rows.new notes.new) result }
 {
-    let b = class_templates::class_smiles(
-        out, index, rows, notes, class, tail, tail_atoms, chains,
-    );
+    let b = class_templates::class_smiles(out, index, rows, notes, class, tail, tail_atoms, chains);
     let order = chain_lists::by_sn(notes, b.count);
     let sites = chain_lists::sites_by_sn(notes, order);
     let c = b.finish(out, swap, sites, index, rows, notes);

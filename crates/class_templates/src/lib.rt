@@ -160,15 +160,9 @@ pub fn class_smiles(
         Class::Gl1 => glycerolipid_smiles(out, index, rows, notes, chains),
         Class::Gl2 => glycerolipid_smiles(out, index, rows, notes, chains),
         Class::Gl3 => glycerolipid_smiles(out, index, rows, notes, chains),
-        Class::Gp => gpl_smiles(
-            out, index, rows, notes, tail, tail_atoms, chains,
-        ),
+        Class::Gp => gpl_smiles(out, index, rows, notes, tail, tail_atoms, chains),
         Class::Cl => cl_smiles(out, index, rows, notes, chains),
-        Class::Sb => sphingoid_smiles(
-            out, index, rows, notes, tail, tail_atoms, chains,
-        ),
-        Class::Sa => acyl_sphingoid_smiles(
-            out, index, rows, notes, tail, tail_atoms, chains,
-        ),
+        Class::Sb => sphingoid_smiles(out, index, rows, notes, tail, tail_atoms, chains),
+        Class::Sa => acyl_sphingoid_smiles(out, index, rows, notes, tail, tail_atoms, chains),
     }
 }
