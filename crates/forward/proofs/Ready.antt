@@ -64,10 +64,10 @@ stood c ds x k a = record { stands = go }
 -- ---- its groups have room
 
 roomed : (c : Class) (ds : List Chain) → AcceptsFrom (role_of c) 1 ds → AllRoomed (role_of c) ds
+unfolding floating unlocated
 roomed c ds a = record { each = λ sn d e. go (role_of c sn) d (fine-at [] ds (role_of c) a sn d e).sound }
   where
     go : (r : Role) (d : Chain) → Sound d → Roomed r d
-    unfolding floating unlocated
     go r d s = record { groups = (groups-table r d s).1; floats = omega (arith, length-only (λ g. eqb g.pos 0) d.groups, s.within.groups) }
 
 -- ---- the tail
