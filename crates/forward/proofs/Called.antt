@@ -10,6 +10,7 @@ use borrow.Author.Tests.{not-false}
 use Rattle.chain_record.specs.plain.Chain.{Chain}
 use Rattle.tail_grammar.specs.tail.Grammar.{is_tail}
 use Rattle.drawn_chain.specs.declared.drawable.Shape.{Shape}
+use Rattle.drawn_chain.specs.declared.rooms.Lists.{Lists}
 use Rattle.request_chains.specs.chain_shapes.Shapes.{chains_kept}
 use Rattle.template_rules.specs.declared.Class.{Class}
 use Rattle.template_rules.specs.Template.{has_tail}
@@ -88,7 +89,7 @@ module _ (class t : List ℕ) (count : ℕ) (sn1 sn2 sn3 sn4 : List ℕ) where
       let g : false ≡ true = rw z at h in
       false≢true g
 
-  pub called-refused : {swap : Bool} {xs is : List ℕ} {a : Answer} (j : Judged) (m p : ℕ) (ns : List Shape) (l : List ℕ) → JudgedIs j count ns l t v → j ≡ Judged-as-Refused m p → a ≡ refusal m p → Called v swap t xs is xs is a
+  pub called-refused : {swap : Bool} {xs is : List ℕ} {a : Answer} (j : Judged) (m p : ℕ) (ns : List Shape) (l : List Lists) → JudgedIs j count ns l t v → j ≡ Judged-as-Refused m p → a ≡ refusal m p → Called v swap t xs is xs is a
   called-refused {swap} {xs} {is} {a} j m p ns l h k e =
       let w : v ≡ Refused m p = answer-refused m p count ns l t v (rw k at h) in
       record {
@@ -97,14 +98,14 @@ module _ (class t : List ℕ) (count : ℕ) (sn1 sn2 sn3 sn4 : List ℕ) where
       }
 
   -- what was judged is ready to be drawn
-  module _ (j : Judged) (c : Class) (k : ℕ) (ns : List Shape) (l : List ℕ) (h : JudgedIs j count ns l t v) (n : j ≡ Judged-as-Drawable c k) where
+  module _ (j : Judged) (c : Class) (k : ℕ) (ns : List Shape) (l : List Lists) (h : JudgedIs j count ns l t v) (n : j ≡ Judged-as-Drawable c k) where
     pub judged-ready : Readied c t k (chains_kept count ns l)
     judged-ready =
         let d = answer-drawable c k count ns l t v (rw n at h) in
         let accepted = judged-accepted class t count sn1 sn2 sn3 sn4 c d.chains d.is in
         record { chains = d.chains; ready = ready c t d.chains k (chains_kept count ns l) accepted (right-tail c d.chains d.is) d.drawing d.atoms }
 
-  pub called-drawn : {swap : Bool} {xs is ys js : List ℕ} {a : Answer} (j : Judged) (c : Class) (k : ℕ) (ns : List Shape) (l : List ℕ) → JudgedIs j count ns l t v → j ≡ Judged-as-Drawable c k
+  pub called-drawn : {swap : Bool} {xs is ys js : List ℕ} {a : Answer} (j : Judged) (c : Class) (k : ℕ) (ns : List Shape) (l : List Lists) → JudgedIs j count ns l t v → j ≡ Judged-as-Drawable c k
       → ChainsDrawn c swap t k (chains_kept count ns l) xs is ys js a → Called v swap t xs is ys js a
   unfolding judged-ready
   called-drawn {swap} {xs} {is} {ys} {js} {a} j c k ns l h n g =
