@@ -32,12 +32,24 @@ fn separator(i: usize) -> u8 {
     if i == 0 { b' ' } else { b',' }
 }
 
-// A list with no element.
-fn put_none(out: &mut [u8], at: usize, count: usize) -> usize {
-    if count == 0 {
+// A list, each of its elements put by `put`.
+fn put_list<T: Copy, F: Fn(&mut [u8], usize, T) -> usize>(
+    out: &mut [u8],
+    at: usize,
+    items: &[T],
+    put: F,
+) -> usize
+    requires { F.IsAlwaysCallable put }
+{
+    if items.is_empty() {
         return writer::put_text(out, at, b" -");
     }
-    at
+    let mut p = at;
+    for (i, item) in items.iter().enumerate() {
+        p = writer::put_byte(out, p, separator(i));
+        p = put(out, p, *item);
+    }
+    p
 }
 
 fn put_bond(out: &mut [u8], at: usize, bond: DbPos) -> usize {
@@ -48,15 +60,6 @@ fn put_bond(out: &mut [u8], at: usize, bond: DbPos) -> usize {
         Geometry::Cis => writer::put_byte(out, p, b'Z'),
         Geometry::Trans => writer::put_byte(out, p, b'E'),
     }
-}
-
-fn put_bonds(out: &mut [u8], at: usize, chain: ParsedChain) -> usize {
-    let mut p = put_none(out, at, chain.bond_count);
-    for (i, bond) in chain.bonds.iter().take(chain.bond_count).enumerate() {
-        p = writer::put_byte(out, p, separator(i));
-        p = put_bond(out, p, *bond);
-    }
-    p
 }
 
 fn put_branch(out: &mut [u8], at: usize, row: u8) -> usize {
@@ -72,15 +75,6 @@ fn put_group(out: &mut [u8], at: usize, group: Mod) -> usize {
     put_branch(out, q, group.row)
 }
 
-fn put_groups(out: &mut [u8], at: usize, chain: ParsedChain) -> usize {
-    let mut p = put_none(out, at, chain.group_count);
-    for (i, group) in chain.groups.iter().take(chain.group_count).enumerate() {
-        p = writer::put_byte(out, p, separator(i));
-        p = put_group(out, p, *group);
-    }
-    p
-}
-
 fn put_ring(out: &mut [u8], at: usize, ring: Ring) -> usize {
     let p = writer::put_number(out, at, ring.start as u32);
     let q = writer::put_byte(out, p, b'-');
@@ -90,15 +84,6 @@ fn put_ring(out: &mut [u8], at: usize, ring: Ring) -> usize {
         Bridge::Epoxide => writer::put_byte(out, e, b'O'),
         Bridge::Carbocycle => e,
     }
-}
-
-fn put_rings(out: &mut [u8], at: usize, chain: ParsedChain) -> usize {
-    let mut p = put_none(out, at, chain.ring_count);
-    for (i, ring) in chain.rings.iter().take(chain.ring_count).enumerate() {
-        p = writer::put_byte(out, p, separator(i));
-        p = put_ring(out, p, *ring);
-    }
-    p
 }
 
 // The prefix, c and n.
@@ -113,9 +98,12 @@ fn put_head(out: &mut [u8], at: usize, chain: ParsedChain) -> usize {
 
 fn put_record(out: &mut [u8], at: usize, chain: ParsedChain) -> usize {
     let p = put_head(out, at, chain);
-    let q = put_bonds(out, p, chain);
-    let r = put_groups(out, q, chain);
-    put_rings(out, r, chain)
+    let bonds = chain.bond_count.min(MAX_BONDS);
+    let groups = chain.group_count.min(GROUP_ROOM);
+    let rings = chain.ring_count.min(MAX_RINGS);
+    let q = put_list(out, p, &chain.bonds[..bonds], put_bond);
+    let r = put_list(out, q, &chain.groups[..groups], put_group);
+    put_list(out, r, &chain.rings[..rings], put_ring)
 }
 
 // What stands in an array where nothing was read.
