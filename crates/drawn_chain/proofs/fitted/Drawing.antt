@@ -5,10 +5,10 @@ use native.Mathlib.Numerals.{add-one}
 use native.Mathlib.Omega.{arith}
 use mathlib.Core.Path.{◌≡◌, refl, sym, ap, ◌∙◌}
 use mathlib.Core.Bool.{Bool, true, false, cond, not}
-use mathlib.Core.List.{List, [], ◌∷◌, ◌++◌, map, append_assoc, append-nil}
+use mathlib.Core.List.{List, [], ◌∷◌, ◌++◌, append_assoc, append-nil}
 use lib.Dec.{eqb}
 use lib.ListN.{length, take, drop, set, get_or, length-append, length-take, length-set}
-use lib.Seq.{take-suc, take-suc-set, take-set-le, take_all, take-append-le, take-append-add, take-take, get_or-take}
+use lib.Seq.{take-suc, take-suc-set, take-set-le, take_all, take-append-add, take-take}
 use borrow.Author.Tests.{eq-eqb, ne_eqb}
 use Rattle.chain_record.specs.declared.plain.ChainPrefix.{ChainPrefix}
 use Rattle.chain_record.specs.declared.plain.ChainPrefix.TheVariants as prefix
