@@ -37,7 +37,12 @@ fn put_none(out: &mut [u8], at: usize, count: usize) -> usize {
     if count == 0 {
         return writer::put_all(out, at, b" -");
     }
-    at
+    let mut p = at;
+    for (i, item) in items.iter().enumerate() {
+        p = writer::put_byte(out, p, separator(i));
+        p = put(out, p, *item);
+    }
+    p
 }
 
 fn put_bond(out: &mut [u8], at: usize, bond: DbPos) -> usize {
@@ -113,9 +118,12 @@ fn put_head(out: &mut [u8], at: usize, chain: ParsedChain) -> usize {
 
 fn put_record(out: &mut [u8], at: usize, chain: ParsedChain) -> usize {
     let p = put_head(out, at, chain);
-    let q = put_bonds(out, p, chain);
-    let r = put_groups(out, q, chain);
-    put_rings(out, r, chain)
+    let bonds = chain.bond_count.min(MAX_BONDS);
+    let groups = chain.group_count.min(GROUP_ROOM);
+    let rings = chain.ring_count.min(MAX_RINGS);
+    let q = put_list(out, p, &chain.bonds[..bonds], put_bond);
+    let r = put_list(out, q, &chain.groups[..groups], put_group);
+    put_list(out, r, &chain.rings[..rings], put_ring)
 }
 
 // What stands in an array where nothing was read.
