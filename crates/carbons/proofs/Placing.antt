@@ -15,7 +15,7 @@ use Rattle.chain_record.specs.declared.plain.DbPos.{DbPos}
 use Rattle.chain_rules.specs.chain.Lists.{any_of}
 use Rattle.chain_rules.specs.chain.Bonds.{open_mark, opens_down, close_mark, close_byte, mark_bond, mark_from}
 use Rattle.drawn_chain.specs.drawable.Drawn.{no_bond}
-use Rattle.carbons.specs.ByCarbon.{double_at, rises_from, SetWhere, Noughts, DoublesPut}
+use Rattle.carbons.specs.ByCarbon.{double_at, rises_from, SetWhere, DoublesPut}
 use Rattle.drawn_chain.proofs.drawable.Turns.{left_here, left-none}
 use Rattle.carbons.proofs.BondLaws.{stored, length-mark, marks-before, marks-first, rises-past, rises-rest, rises-back}
 

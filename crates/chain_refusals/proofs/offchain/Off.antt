@@ -1,6 +1,6 @@
 -- Laws of the test for 32: one for each way out.
 -- Assumes nothing.
-use Prim.Native.Nat.{ℕ, ◌+◌, ◌<◌, ◌≤◌}
+use Prim.Native.Nat.{ℕ, ◌<◌, ◌≤◌}
 use native.Mathlib.Omega.{arith}
 use mathlib.Core.Path.{◌≡◌, refl, sym, ap, ◌∙◌}
 use mathlib.Core.Bool.{Bool, true, false, not, ◌&&◌, ◌||◌, or-true, or-false, and-false}
@@ -16,7 +16,7 @@ use Rattle.chain_rules.specs.declared.chain.Role.{Role}
 use Rattle.chain_rules.specs.chain.Lists.{any_of, only, is_empty}
 use Rattle.chain_rules.specs.chain.Features.{located, unlocated, base_oxygens, groups_on, floating}
 use Rattle.chain_rules.specs.chain.Refusals.{double_off, group_off, ring_off, off_chain}
-use Rattle.drawn_chain.specs.drawable.Drawn.{Drawn, bonds_drawn, groups_drawn, floats_drawn, rings_drawn, Length, Draws, Says}
+use Rattle.drawn_chain.specs.drawable.Drawn.{Drawn, bonds_drawn, groups_drawn, floats_drawn, rings_drawn, Draws, Says}
 
 -- ---- one feature
 

@@ -1,16 +1,15 @@
 -- Laws of the tests for 12, 14 and 15, and of 12 to 15 in order: one for each way out.
 -- Assumes nothing.
 use Prim.Native.Nat.{ℕ, ◌+◌, ◌*◌}
-use native.Mathlib.Omega.{arith}
 use mathlib.Core.Path.{◌≡◌, sym, ◌∙◌}
-use mathlib.Core.Bool.{Bool, true, false, cond, not, and-false}
+use mathlib.Core.Bool.{Bool, true, false, cond}
 use mathlib.Core.List.{List}
 use lib.Dec.{eqb, ltb, leb}
 use Rattle.chain_record.specs.declared.plain.Mod.{Mod}
 use lib.ListN.{length}
-use borrow.Author.Tests.{eq-eqb, ne_eqb, not-true, not-false}
+use borrow.Author.Tests.{eq-eqb, ne_eqb}
 use Rattle.chain_rules.specs.chain.Lists.{any_of, is_empty}
-use Rattle.chain_rules.specs.chain.Features.{is_acyl, remaining, drawn_count, site_skip}
+use Rattle.chain_rules.specs.chain.Features.{remaining, drawn_count, site_skip}
 use Rattle.chain_rules.specs.chain.Refusals.{group_on_carbonyl, pin_too_far, tail_too_short, no_site, draw_refusal}
 use Rattle.drawn_chain.specs.drawable.Drawn.{Drawn, groups_drawn, floats_drawn, group_at, Says}
 use Rattle.drawn_chain.proofs.drawable.Lists.{empty-length}
