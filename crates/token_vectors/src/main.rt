@@ -32,14 +32,21 @@ fn separator(i: usize) -> u8 {
     if i == 0 { b' ' } else { b',' }
 }
 
-// A list with no element.
-fn put_none(out: &mut [u8], at: usize, count: usize) -> usize {
-    if count == 0 {
+// A list, each of its elements put by `put`.
+fn put_list<T: Copy, F: Fn(&mut [u8], usize, T) -> usize>(
+    out: &mut [u8],
+    at: usize,
+    items: &[T],
+    put: F,
+) -> usize
+    requires { F.IsAlwaysCallable put }
+{
+    if items.is_empty() {
         return writer::put_all(out, at, b" -");
     }
     let mut p = at;
     for (i, item) in items.iter().enumerate() {
-        p = writer::put_byte(out, p, separator(i));
+        p = writer::put(out, p, separator(i));
         p = put(out, p, *item);
     }
     p
@@ -55,15 +62,6 @@ fn put_bond(out: &mut [u8], at: usize, bond: DbPos) -> usize {
     }
 }
 
-fn put_bonds(out: &mut [u8], at: usize, chain: ParsedChain) -> usize {
-    let mut p = put_none(out, at, chain.bond_count);
-    for (i, bond) in chain.bonds.iter().take(chain.bond_count).enumerate() {
-        p = writer::put(out, p, separator(i));
-        p = put_bond(out, p, *bond);
-    }
-    p
-}
-
 fn put_branch(out: &mut [u8], at: usize, row: u8) -> usize {
     let r = group_table::row_at(row);
     let n = r.branch_len as usize;
@@ -77,15 +75,6 @@ fn put_group(out: &mut [u8], at: usize, group: Mod) -> usize {
     put_branch(out, q, group.row)
 }
 
-fn put_groups(out: &mut [u8], at: usize, chain: ParsedChain) -> usize {
-    let mut p = put_none(out, at, chain.group_count);
-    for (i, group) in chain.groups.iter().take(chain.group_count).enumerate() {
-        p = writer::put(out, p, separator(i));
-        p = put_group(out, p, *group);
-    }
-    p
-}
-
 fn put_ring(out: &mut [u8], at: usize, ring: Ring) -> usize {
     let p = writer::put_number(out, at, ring.start as u32);
     let q = writer::put(out, p, b'-');
@@ -95,15 +84,6 @@ fn put_ring(out: &mut [u8], at: usize, ring: Ring) -> usize {
         Bridge::Epoxide => writer::put(out, e, b'O'),
         Bridge::Carbocycle => e,
     }
-}
-
-fn put_rings(out: &mut [u8], at: usize, chain: ParsedChain) -> usize {
-    let mut p = put_none(out, at, chain.ring_count);
-    for (i, ring) in chain.rings.iter().take(chain.ring_count).enumerate() {
-        p = writer::put(out, p, separator(i));
-        p = put_ring(out, p, *ring);
-    }
-    p
 }
 
 // The prefix, c and n.
