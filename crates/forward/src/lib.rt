@@ -9,7 +9,6 @@ ghost use Rattle.forward.specs.Call.{Called};
 
 pub use answers::Answer;
 use drawn_chain::{CHAIN_ROOM, LIST_ROOM, MAX_CHAINS};
-use judge::Judged;
 
 // Room for the lists of two chains.
 const PAIR_ROOM: usize = 154;
@@ -32,13 +31,19 @@ fn draw_in<'a>(
     ensures { Called (verdict class.now tail.now count (tokens count sn1.now sn2.now sn3.now sn4.now)) swap tail.now line.old index.old line.new index.new result }
 {
     let mut shapes = [request_chains::no_shape(); MAX_CHAINS];
-    let judged = judge::judge(class, tail, count, sn1, sn2, sn3, sn4, &mut shapes, lists);
-    match judged {
-        Judged::Refused { number, place } => answers::refused(number, place),
-        Judged::Drawable {
-            class: kind,
-            tail_atoms: atoms,
-        } => drawing::draw_chains(line, index, kind, swap, tail, atoms, count, &shapes, lists),
+    match judge::judge(class, tail, count, sn1, sn2, sn3, sn4, &mut shapes, lists) {
+        Err(fault) => answers::refused(fault.refusal, fault.place),
+        Ok(drawable) => drawing::draw_chains(
+            line,
+            index,
+            drawable.class,
+            swap,
+            tail,
+            drawable.tail_atoms,
+            count,
+            &shapes,
+            lists,
+        ),
     }
 }
 
