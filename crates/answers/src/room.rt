@@ -2,11 +2,12 @@
 // longest line with such chains takes; where they do not, the line is measured. Whether a slice is too short is said by
 // specs/answer/Answer.antt.
 ghost use Rattle.std.specs.Prelude.{length};
-ghost use Rattle.request_chains.specs.chain_shapes.Shapes.{chains_kept};
+ghost use Rattle.request_chains.specs.chain_shapes.Shapes.{chains_lent};
 ghost use Rattle.answers.specs.room.Ready.{Readied, ShortIs, AmpleIf};
 
 use class_lines::Line;
-use drawn_chain::{MAX_CHAINS, Shape};
+use drawn_chain::MAX_CHAINS;
+use request_chains::Chains;
 use template_rules::Class;
 
 // Room for the indices of four chains.
@@ -17,25 +18,18 @@ pub const ROW_ROOM: usize = 64;
 
 // Whether both slices are longer than any line and lists with such chains. In most requests no chain is long: then one look at each chain is
 // enough where the slice is as long as four such chains need, and no length is computed.
-fn is_ample(
-    line: &[u8],
-    index: &[u16],
-    tail: &[u8],
-    tail_atoms: u16,
-    count: usize,
-    shapes: &[Shape; MAX_CHAINS],
-) -> bool
-    ensures { AmpleIf result tail.now tail_atoms count shapes.now (length line.now) (length index.now) }
+fn is_ample(line: &[u8], index: &[u16], tail: &[u8], tail_atoms: u16, chains: Chains) -> bool
+    ensures { AmpleIf result tail.now tail_atoms chains.entry.count chains.entry.shapes.now (length line.now) (length index.now) }
 {
     if index.len() < INDEX_ROOM {
         return false;
     }
     if class_lines::slight_most(tail, tail_atoms) <= line.len() {
-        if class_lines::are_slight(count, shapes) {
+        if class_lines::are_slight(chains) {
             return true;
         }
     }
-    class_lines::line_most(tail, tail_atoms, count, shapes) <= line.len()
+    class_lines::line_most(tail, tail_atoms, chains) <= line.len()
 }
 
 // Whether a slice is too short, by building the line without room for its text.
@@ -46,12 +40,10 @@ fn is_measured_short(
     swap: bool,
     tail: &[u8],
     tail_atoms: u16,
-    count: usize,
-    shapes: &[Shape; MAX_CHAINS],
-    lists: &[u64],
+    chains: Chains,
 ) -> bool
-    requires { Readied class tail.now tail_atoms (chains_kept count shapes.now lists.now) }
-    ensures { ShortIs class swap tail.now tail_atoms (chains_kept count shapes.now lists.now) (length line.now) (length index.now) result }
+    requires { Readied class tail.now tail_atoms (chains_lent chains) }
+    ensures { ShortIs class swap tail.now tail_atoms (chains_lent chains.entry) (length line.now) (length index.now) result }
 {
     let mut text = [0u8; 1];
     let mut numbers = [0u16; INDEX_ROOM];
@@ -66,9 +58,7 @@ fn is_measured_short(
         swap,
         tail,
         tail_atoms,
-        count,
-        shapes,
-        lists,
+        chains,
     );
     if line.len() < built.at {
         return true;
@@ -84,17 +74,13 @@ pub fn is_short(
     swap: bool,
     tail: &[u8],
     tail_atoms: u16,
-    count: usize,
-    shapes: &[Shape; MAX_CHAINS],
-    lists: &[u64],
+    chains: Chains,
 ) -> bool
-    requires { Readied class tail.now tail_atoms (chains_kept count shapes.now lists.now) }
-    ensures { ShortIs class swap tail.now tail_atoms (chains_kept count shapes.now lists.now) (length line.now) (length index.now) result }
+    requires { Readied class tail.now tail_atoms (chains_lent chains) }
+    ensures { ShortIs class swap tail.now tail_atoms (chains_lent chains.entry) (length line.now) (length index.now) result }
 {
-    if is_ample(line, index, tail, tail_atoms, count, shapes) {
+    if is_ample(line, index, tail, tail_atoms, chains) {
         return false;
     }
-    is_measured_short(
-        line, index, class, swap, tail, tail_atoms, count, shapes, lists,
-    )
+    is_measured_short(line, index, class, swap, tail, tail_atoms, chains)
 }

@@ -16,7 +16,7 @@ ghost use Rattle.sheet_frame.specs.declared.beginning.Stage.TheVariants.{Rows};
 ghost use Rattle.batch.specs.Batch.{held_after, before, staged, Holds, LinesAnswered, among, passed_in, is_rows, is_header, held_last, Finished};
 
 use chain_lists::Lists;
-use drawn_chain::LIST_ROOM;
+use drawn_chain::{Lists as ChainLists, MAX_CHAINS, NO_LISTS};
 use forward::Answer;
 pub use sheet_frame::{Answered, Batch, Lined, Stage, put_titles};
 use sheet_frame::{Counts, answer_header, count_in, put_count_lines, put_head, put_unreadable};
@@ -105,7 +105,7 @@ fn answer_apart<'a>(
     out: &mut [u8],
     at: usize,
     pairs: &[u16],
-    lists: &mut [u64; LIST_ROOM],
+    lists: &mut [ChainLists; MAX_CHAINS],
 ) -> Answered
     requires { Pairs pairs.now }
     ensures { Drawn (verdict class.now tail.now count (tokens count sn1.now sn2.now sn3.now sn4.now)) swap tail.now index.old out.old at index.new out.new result }
@@ -134,7 +134,7 @@ fn answer_cut(
     out: &mut [u8],
     at: usize,
     pairs: &[u16],
-    lists: &mut [u64; LIST_ROOM],
+    lists: &mut [ChainLists; MAX_CHAINS],
 ) -> Answered
     requires { Cut row.now starts.now cells × Pairs pairs.now }
     ensures { RowAnswered (request_of plan row.now) index.old out.old at index.new out.new result }
@@ -215,7 +215,7 @@ pub fn answer_row(plan: Plan, row: &[u8], index: &mut [u16], out: &mut [u8], at:
     let mut starts = [0usize; sheet_input::STARTS];
     let cells = sheet_input::cut(row, &mut starts);
     let none = [0u16; 1];
-    let mut lists = [0u64; LIST_ROOM];
+    let mut lists = [NO_LISTS; MAX_CHAINS];
     answer_cut(
         plan,
         row,
@@ -292,7 +292,7 @@ fn answer_rows(
     requires { Pairs pairs.now }
     ensures { LinesAnswered (among plan times.old) text.now index.old out.old at limit index.new out.new (passed_in plan times.new result) }
 {
-    let mut lists = [0u64; LIST_ROOM];
+    let mut lists = [NO_LISTS; MAX_CHAINS];
     let mut t = text;
     let mut p = at;
     while p <= limit {

@@ -11,6 +11,7 @@ use Rattle.chain_record.specs.plain.Chain.{Chain}
 use Rattle.drawn_chain.specs.declared.drawable.Shape.{Shape}
 use Rattle.placement.specs.declared.chain_notes.Placed.{Placed}
 use Rattle.drawn_chain.specs.drawable.Chains.{Chains}
+use Rattle.drawn_chain.specs.declared.rooms.Lists as drawn
 use Rattle.request_chains.specs.chain_shapes.Shapes.{chains_kept}
 use Rattle.template_rules.specs.declared.Class.{Class}
 use Rattle.template_rules.specs.Drawn.{placed}
@@ -94,6 +95,6 @@ pub long-room : {c : Class} {t : List ℕ} {k : ℕ} {x : Chains} → IndexRoom 
 long-room = record { room = λ ds w. omega (arith, w.index, w.tokens) }
 
 -- room for four chains of which none is long
-pub slight-room : {c : Class} {t : List ℕ} {k count : ℕ} {ns : List Shape} (l : List ℕ) → Slight 30 count ns → IndexRoom c t k (chains_kept count ns l) 128
+pub slight-room : {c : Class} {t : List ℕ} {k count : ℕ} {ns : List Shape} (l : List drawn.Lists) → Slight 30 count ns → IndexRoom c t k (chains_kept count ns l) 128
 slight-room {c} {t} {k} {count} {ns} l h =
-    record { room = λ ds w. omega (arith, w.lists 30 (all-each (λ p. p.chain.carbon ≤ 30) (placed c t ds) (slight-placed 30 c t ds count ns l w.own.stood h)), w.tokens) }
+    record { room = λ ds w. omega (arith, w.lists 30 (all-each (λ p. p.chain.carbon ≤ 30) (placed c t ds) (slight-placed 30 c t ds count ns l w.own.stood w.roomed h)), w.tokens) }

@@ -3,7 +3,7 @@
 #![tactic(auto)]
 
 ghost use Rattle.std.specs.Prelude.{◌≡◌, false, length};
-ghost use Rattle.request_chains.specs.chain_shapes.Shapes.{chains_kept};
+ghost use Rattle.request_chains.specs.chain_shapes.Shapes.{chains_lent};
 ghost use Rattle.class_lines.specs.longest.Covered.{Slight};
 ghost use Rattle.answers.specs.room.Ready.{Readied, ShortIs};
 ghost use Rattle.drawing.specs.Draw.{ChainsDrawn, IndexRoom};
@@ -11,7 +11,8 @@ ghost use Rattle.drawing.specs.Draw.{ChainsDrawn, IndexRoom};
 use answers::{Answer, INDEX_ROOM, ROW_ROOM, refused};
 use chain_record::Refusal;
 use class_lines::Line;
-use drawn_chain::{MAX_CHAINS, Shape};
+use drawn_chain::MAX_CHAINS;
+use request_chains::Chains;
 use template_rules::Class;
 
 // Room for the indices of four chains that are not long, with some to spare: near the end of the slice a chain is written the slow way.
@@ -29,19 +30,17 @@ fn draw_one(
     swap: bool,
     tail: &[u8],
     tail_atoms: u16,
-    count: usize,
-    shapes: &[Shape; MAX_CHAINS],
-    lists: &[u64],
+    chains: Chains,
 ) -> Answer
-    requires readied { Readied class tail.now tail_atoms (chains_kept count shapes.now lists.now) }
-    requires count_value { count ≡ 1 }
-    requires short_is { ShortIs class swap tail.now tail_atoms (chains_kept count shapes.now lists.now) (length line.old) (length index.old) false }
-    ensures { ChainsDrawn class swap tail.now tail_atoms (chains_kept count shapes.now lists.now) line.old index.old line.new index.new result }
+    requires readied { Readied class tail.now tail_atoms (chains_lent chains) }
+    requires count_value { chains.count ≡ 1 }
+    requires short_is { ShortIs class swap tail.now tail_atoms (chains_lent chains) (length line.old) (length index.old) false }
+    ensures { ChainsDrawn class swap tail.now tail_atoms (chains_lent chains.entry) line.old index.old line.new index.new result }
 {
     let mut rows = [0u8; ROW_MOST];
     let mut notes = [placement::nowhere(); MAX_CHAINS];
     let built = class_lines::build_line(
-        line, index, &mut rows, &mut notes, class, swap, tail, tail_atoms, count, shapes, lists,
+        line, index, &mut rows, &mut notes, class, swap, tail, tail_atoms, chains,
     );
     let order = built.order;
     let sites = built.sites;
@@ -61,23 +60,21 @@ fn draw_some(
     line: &mut [u8],
     index: &mut [u16],
     numbers: &mut [u16],
-    count: usize,
-    shapes: &[Shape; MAX_CHAINS],
     class: Class,
     swap: bool,
     tail: &[u8],
     tail_atoms: u16,
-    lists: &[u64],
+    chains: Chains,
 ) -> Answer
-    requires readied { Readied class tail.now tail_atoms (chains_kept count shapes.now lists.now) }
-    requires index_room { IndexRoom class tail.now tail_atoms (chains_kept count shapes.now lists.now) (length numbers.old) }
-    requires short_is { ShortIs class swap tail.now tail_atoms (chains_kept count shapes.now lists.now) (length line.old) (length index.old) false }
-    ensures { ChainsDrawn class swap tail.now tail_atoms (chains_kept count shapes.now lists.now) line.old index.old line.new index.new result }
+    requires readied { Readied class tail.now tail_atoms (chains_lent chains) }
+    requires index_room { IndexRoom class tail.now tail_atoms (chains_lent chains) (length numbers.old) }
+    requires short_is { ShortIs class swap tail.now tail_atoms (chains_lent chains) (length line.old) (length index.old) false }
+    ensures { ChainsDrawn class swap tail.now tail_atoms (chains_lent chains.entry) line.old index.old line.new index.new result }
 {
     let mut rows = [0u8; ROW_ROOM];
     let mut notes = [placement::nowhere(); MAX_CHAINS];
     let built = class_lines::build_line(
-        line, numbers, &mut rows, &mut notes, class, swap, tail, tail_atoms, count, shapes, lists,
+        line, numbers, &mut rows, &mut notes, class, swap, tail, tail_atoms, chains,
     );
     let order = built.order;
     let sites = built.sites;
@@ -100,27 +97,23 @@ fn draw_slight(
     swap: bool,
     tail: &[u8],
     tail_atoms: u16,
-    count: usize,
-    shapes: &[Shape; MAX_CHAINS],
-    lists: &[u64],
+    chains: Chains,
 ) -> Answer
-    requires readied { Readied class tail.now tail_atoms (chains_kept count shapes.now lists.now) }
-    requires slight { Slight 30 count shapes.now }
-    requires short_is { ShortIs class swap tail.now tail_atoms (chains_kept count shapes.now lists.now) (length line.old) (length index.old) false }
-    ensures { ChainsDrawn class swap tail.now tail_atoms (chains_kept count shapes.now lists.now) line.old index.old line.new index.new result }
+    requires readied { Readied class tail.now tail_atoms (chains_lent chains) }
+    requires slight { Slight 30 chains.count chains.shapes.now }
+    requires short_is { ShortIs class swap tail.now tail_atoms (chains_lent chains) (length line.old) (length index.old) false }
+    ensures { ChainsDrawn class swap tail.now tail_atoms (chains_lent chains.entry) line.old index.old line.new index.new result }
 {
     let mut numbers = [0u16; SLIGHT_ROOM];
     draw_some(
         line,
         index,
         &mut numbers,
-        count,
-        shapes,
         class,
         swap,
         tail,
         tail_atoms,
-        lists,
+        chains,
     )
 }
 
@@ -132,26 +125,22 @@ fn draw_long(
     swap: bool,
     tail: &[u8],
     tail_atoms: u16,
-    count: usize,
-    shapes: &[Shape; MAX_CHAINS],
-    lists: &[u64],
+    chains: Chains,
 ) -> Answer
-    requires readied { Readied class tail.now tail_atoms (chains_kept count shapes.now lists.now) }
-    requires short_is { ShortIs class swap tail.now tail_atoms (chains_kept count shapes.now lists.now) (length line.old) (length index.old) false }
-    ensures { ChainsDrawn class swap tail.now tail_atoms (chains_kept count shapes.now lists.now) line.old index.old line.new index.new result }
+    requires readied { Readied class tail.now tail_atoms (chains_lent chains) }
+    requires short_is { ShortIs class swap tail.now tail_atoms (chains_lent chains) (length line.old) (length index.old) false }
+    ensures { ChainsDrawn class swap tail.now tail_atoms (chains_lent chains.entry) line.old index.old line.new index.new result }
 {
     let mut numbers = [0u16; INDEX_ROOM];
     draw_some(
         line,
         index,
         &mut numbers,
-        count,
-        shapes,
         class,
         swap,
         tail,
         tail_atoms,
-        lists,
+        chains,
     )
 }
 
@@ -163,30 +152,20 @@ pub fn draw_chains(
     swap: bool,
     tail: &[u8],
     tail_atoms: u16,
-    count: usize,
-    shapes: &[Shape; MAX_CHAINS],
-    lists: &[u64],
+    chains: Chains,
 ) -> Answer
-    requires { Readied class tail.now tail_atoms (chains_kept count shapes.now lists.now) }
-    ensures { ChainsDrawn class swap tail.now tail_atoms (chains_kept count shapes.now lists.now) line.old index.old line.new index.new result }
+    requires { Readied class tail.now tail_atoms (chains_lent chains) }
+    ensures { ChainsDrawn class swap tail.now tail_atoms (chains_lent chains.entry) line.old index.old line.new index.new result }
 {
-    let short = answers::is_short(
-        line, index, class, swap, tail, tail_atoms, count, shapes, lists,
-    );
+    let short = answers::is_short(line, index, class, swap, tail, tail_atoms, chains);
     if short {
         return refused(Refusal::ShortSlice, 0);
     }
-    if count == 1 {
-        return draw_one(
-            line, index, class, swap, tail, tail_atoms, count, shapes, lists,
-        );
+    if chains.count == 1 {
+        return draw_one(line, index, class, swap, tail, tail_atoms, chains);
     }
-    if class_lines::are_slight(count, shapes) {
-        return draw_slight(
-            line, index, class, swap, tail, tail_atoms, count, shapes, lists,
-        );
+    if class_lines::are_slight(chains) {
+        return draw_slight(line, index, class, swap, tail, tail_atoms, chains);
     }
-    draw_long(
-        line, index, class, swap, tail, tail_atoms, count, shapes, lists,
-    )
+    draw_long(line, index, class, swap, tail, tail_atoms, chains)
 }

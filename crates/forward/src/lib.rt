@@ -3,15 +3,13 @@
 // what an accepted line promises by specs/Call.antt.
 #![tactic(auto)]
 
-ghost use Rattle.std.specs.Prelude.{◌*◌, ◌≤◌, min, length};
+ghost use Rattle.std.specs.Prelude.{◌≤◌, min, length};
 ghost use Rattle.judge.specs.Verdict.{verdict, tokens};
 ghost use Rattle.forward.specs.Call.{Called};
 
 pub use answers::Answer;
-use drawn_chain::{CHAIN_ROOM, LIST_ROOM, MAX_CHAINS};
-
-// Room for the lists of two chains.
-const PAIR_ROOM: usize = 154;
+use drawn_chain::{Lists, MAX_CHAINS, NO_LISTS};
+use request_chains::{Chains, NO_SHAPE};
 
 // A request whose chains have their lists in a lent array, with room for as many as there are tokens, or for four.
 fn draw_in<'a>(
@@ -25,25 +23,30 @@ fn draw_in<'a>(
     sn4: &'a [u8],
     line: &mut [u8],
     index: &mut [u16],
-    lists: &mut [u64],
+    lists: &mut [Lists],
 ) -> Answer
-    requires { 77 * min count 4 ≤ length lists.old }
+    requires { min count 4 ≤ length lists.old }
     ensures { Called (verdict class.now tail.now count (tokens count sn1.now sn2.now sn3.now sn4.now)) swap tail.now line.old index.old line.new index.new result }
 {
-    let mut shapes = [request_chains::no_shape(); MAX_CHAINS];
+    let mut shapes = [NO_SHAPE; MAX_CHAINS];
     match judge::judge(class, tail, count, sn1, sn2, sn3, sn4, &mut shapes, lists) {
         Err(fault) => answers::refused(fault.refusal, fault.place),
-        Ok(drawable) => drawing::draw_chains(
-            line,
-            index,
-            drawable.class,
-            swap,
-            tail,
-            drawable.tail_atoms,
-            count,
-            &shapes,
-            lists,
-        ),
+        Ok(drawable) => {
+            let chains = Chains {
+                count,
+                shapes: &shapes,
+                lists,
+            };
+            drawing::draw_chains(
+                line,
+                index,
+                drawable.class,
+                swap,
+                tail,
+                drawable.tail_atoms,
+                chains,
+            )
+        }
     }
 }
 
@@ -60,7 +63,7 @@ pub fn draw_lent<'a>(
     fourth: &'a [u8],
     line: &mut [u8],
     index: &mut [u16],
-    lists: &mut [u64; LIST_ROOM],
+    lists: &mut [Lists; MAX_CHAINS],
 ) -> Answer
     ensures { Called (verdict class.now tail.now count (tokens count first.now second.now third.now fourth.now)) swap tail.now line.old index.old line.new index.new result }
 {
@@ -86,18 +89,18 @@ pub fn draw<'a>(
     ensures { Called (verdict class.now tail.now count (tokens count sn1.now sn2.now sn3.now sn4.now)) swap tail.now line.old index.old line.new index.new result }
 {
     if count == 1 {
-        let mut one = [0u64; CHAIN_ROOM];
+        let mut one = [NO_LISTS; 1];
         return draw_in(
             class, swap, tail, count, sn1, sn2, sn3, sn4, line, index, &mut one,
         );
     }
     if count < 3 {
-        let mut few = [0u64; PAIR_ROOM];
+        let mut few = [NO_LISTS; 2];
         return draw_in(
             class, swap, tail, count, sn1, sn2, sn3, sn4, line, index, &mut few,
         );
     }
-    let mut lists = [0u64; LIST_ROOM];
+    let mut lists = [NO_LISTS; MAX_CHAINS];
     draw_lent(
         class, swap, tail, count, sn1, sn2, sn3, sn4, line, index, &mut lists,
     )

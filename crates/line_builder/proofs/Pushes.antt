@@ -19,6 +19,7 @@ use Rattle.chain_rules.specs.declared.chain.Role.TheVariants.{Slot, Acyl, Base}
 use Rattle.chain_rules.specs.chain.Features.{floating}
 use Rattle.chain_rules.specs.chain.Drawing.{variables, chain_drawn}
 use Rattle.drawn_chain.specs.declared.drawable.Shape.{Shape}
+use Rattle.drawn_chain.specs.declared.rooms.Lists.{Lists}
 use Rattle.drawn_chain.specs.drawable.Drawn.{Drawn, drawn_of}
 use Rattle.drawn_chain.specs.drawable.Chains.{Chains, part_of}
 use Rattle.drawn_chain.proofs.drawable.Held.{held_more, held-full}
@@ -109,7 +110,7 @@ module _ {x : Drawn} {sn s m : ℕ} {r : Role} {xs ys : Rooms} {b q : Builder} {
 
 -- ---- the chain of an sn of the request
 
-module _ (m : ℕ) (hs : List Shape) (ls : List ℕ) (x : Shape) (sn : ℕ) (r : Role) (s : ℕ) (at : ShapeAt m hs sn x) where
+module _ (m : ℕ) (hs : List Shape) (ls : List Lists) (x : Shape) (sn : ℕ) (r : Role) (s : ℕ) (at : ShapeAt m hs sn x) where
   -- none is pushed where it has no carbons
   pub chain-none : (xs is rs : List ℕ) (ns : List Placed) (b : Builder) → b.at < 2 ^ 64 → b.used < 2 ^ 64 → b.rows < 2 ^ 64 → x.carbon ≡ 0
       → ChainPushed (chains_kept m hs ls) sn r s (rooms xs is rs ns) b (rooms xs is rs ns) b
@@ -127,7 +128,7 @@ module _ (m : ℕ) (hs : List Shape) (ls : List ℕ) (x : Shape) (sn : ℕ) (r :
           }
       pushed (some d) k n v l ps a c f = absurd (omega (arith, e, a.some, a.draws.carbon))
 
-  pub chain-some : {p : List ℕ} {xs ys : Rooms} {b q : Builder} → p ≡ part_of sn ls → (x.carbon ≡ 0 → ⊥) → FragmentPushed (drawn_of x p) sn r s xs b ys q
+  pub chain-some : {p : Lists} {xs ys : Rooms} {b q : Builder} → p ≡ part_of sn ls → (x.carbon ≡ 0 → ⊥) → FragmentPushed (drawn_of x p) sn r s xs b ys q
       → ChainPushed (chains_kept m hs ls) sn r s xs b ys q
   chain-some {p} {xs} {ys} {b} {q} e h w = record { sizes = w.sizes; pushed = λ o k n v l ps es a. pushed o k n v l ps es (a (drawn_of x p) (chain-there m hs sn x ls at e)) }
     where
@@ -137,7 +138,7 @@ module _ (m : ℕ) (hs : List Shape) (ls : List ℕ) (x : Shape) (sn : ℕ) (r :
       pushed (some d) k n v l ps es a c f = w.pushed d k n v l ps es a c f
 
   -- where it has some, it is some chain
-  pub chain-carried : {p : List ℕ} → p ≡ part_of sn ls → (x.carbon ≡ 0 → ⊥) → StandsSome r (chains_kept m hs ls) sn → Carried r (drawn_of x p)
+  pub chain-carried : {p : Lists} → p ≡ part_of sn ls → (x.carbon ≡ 0 → ⊥) → StandsSome r (chains_kept m hs ls) sn → Carried r (drawn_of x p)
   chain-carried {p} e h w = go w.chain (w.stands (drawn_of x p) (chain-there m hs sn x ls at e))
     where
       go : (o : Option Chain) → Stands r o (drawn_of x p) → Carried r (drawn_of x p)

@@ -6,7 +6,7 @@
 
 ghost use Rattle.std.specs.Prelude.{◌≡◌};
 ghost use Rattle.drawn_chain.specs.drawable.Drawn.{drawn_of};
-ghost use Rattle.request_chains.specs.chain_shapes.Shapes.{chains_kept};
+ghost use Rattle.request_chains.specs.chain_shapes.Shapes.{chains_lent};
 ghost use Rattle.placement.specs.chain_strand.Strand.{Carried};
 ghost use Rattle.line_builder.specs.Build.{rooms, plus, in_labels, variables_for, Fresh, FixedPushed, FragmentPushed, placed_of, Settled, StandsSome, ChainPushed, SlotFits, SlotPushed, BareFits, BarePushed};
 ghost use Rattle.line_builder.specs.Line.{Few, Finished};
@@ -14,9 +14,9 @@ ghost use Rattle.line_builder.specs.Line.{Few, Finished};
 use chain_indices::Figures;
 use chain_lists::Sites;
 use chain_rules::Role;
-use drawn_chain::{MAX_CHAINS, Shape, chain_part};
+use drawn_chain::{Lists, MAX_CHAINS, NO_LISTS, Shape, chain_part};
 use placement::{Placed, Strand};
-use request_chains::shape_at;
+use request_chains::Chains;
 
 // The first ring label of a line is `%10`.
 pub const FIRST_LABEL: u32 = 10;
@@ -186,7 +186,7 @@ impl Builder {
         rows: &mut [u8],
         notes: &mut [Placed; MAX_CHAINS],
         x: Shape,
-        part: &[u64],
+        part: &Lists,
         sn: u8,
         role: Role,
         site: u32,
@@ -205,40 +205,49 @@ impl Builder {
         self
     }
 
-    // The chain of an sn of the request at its place; nothing where it has no carbons. It is read here, and not in each template, so that no
-    // shape is handed on from there and the code that reads it stands once.
-    fn push_chain(
-        mut self,
+    // Such a chain without lists of its own. They are made here, and not before it is known that there are none, since they are many.
+    fn push_unlisted(
+        self,
         out: &mut [u8],
         index: &mut [u16],
         rows: &mut [u8],
         notes: &mut [Placed; MAX_CHAINS],
-        count: usize,
-        shapes: &[Shape; MAX_CHAINS],
-        lists: &[u64],
+        x: Shape,
         sn: u8,
         role: Role,
         site: u32,
     ) -> Builder
-        requires { StandsSome role (chains_kept count shapes.now lists.now) sn }
-        ensures { ChainPushed (chains_kept count shapes.now lists.now) sn role site (rooms out.old index.old rows.old notes.old) self (rooms out.new index.new rows.new notes.new) result }
+        requires { Carried role (drawn_of x NO_LISTS) }
+        ensures { FragmentPushed (drawn_of x NO_LISTS) sn role site (rooms out.old index.old rows.old notes.old) self (rooms out.new index.new rows.new notes.new) result }
     {
-        let x = shape_at(count, shapes, sn);
+        let none = NO_LISTS;
+        self.push_fragment(out, index, rows, notes, x, &none, sn, role, site)
+    }
+
+    // The chain of an sn of the request at its place; nothing where it has no carbons. It is read here, and not in each template, so that no
+    // shape is handed on from there and the code that reads it stands once.
+    fn push_chain(
+        self,
+        out: &mut [u8],
+        index: &mut [u16],
+        rows: &mut [u8],
+        notes: &mut [Placed; MAX_CHAINS],
+        chains: Chains,
+        sn: u8,
+        role: Role,
+        site: u32,
+    ) -> Builder
+        requires { StandsSome role (chains_lent chains) sn }
+        ensures { ChainPushed (chains_lent chains.entry) sn role site (rooms out.old index.old rows.old notes.old) self (rooms out.new index.new rows.new notes.new) result }
+    {
+        let x = chains.shape_at(sn);
         if x.carbon == 0 {
             return self;
         }
-        self = self.push_fragment(
-            out,
-            index,
-            rows,
-            notes,
-            x,
-            chain_part(lists, sn),
-            sn,
-            role,
-            site,
-        );
-        self
+        match chain_part(chains.lists, sn) {
+            Some(part) => self.push_fragment(out, index, rows, notes, x, part, sn, role, site),
+            None => self.push_unlisted(out, index, rows, notes, x, sn, role, site),
+        }
     }
 
     // A slot: its O, which is the site, and its chain.
@@ -248,29 +257,16 @@ impl Builder {
         index: &mut [u16],
         rows: &mut [u8],
         notes: &mut [Placed; MAX_CHAINS],
-        count: usize,
-        shapes: &[Shape; MAX_CHAINS],
-        lists: &[u64],
+        chains: Chains,
         sn: u8,
     ) -> Builder
-        requires { SlotFits (chains_kept count shapes.now lists.now) sn notes.old self }
-        ensures { SlotPushed (chains_kept count shapes.now lists.now) sn (rooms out.old index.old rows.old notes.old) self (rooms out.new index.new rows.new notes.new) result }
+        requires { SlotFits (chains_lent chains) sn notes.old self }
+        ensures { SlotPushed (chains_lent chains.entry) sn (rooms out.old index.old rows.old notes.old) self (rooms out.new index.new rows.new notes.new) result }
     {
         let a = self.atoms;
         let site = a.0;
         let b = self.push_fixed(out, b"O", 1);
-        b.push_chain(
-            out,
-            index,
-            rows,
-            notes,
-            count,
-            shapes,
-            lists,
-            sn,
-            Role::Slot,
-            site,
-        )
+        b.push_chain(out, index, rows, notes, chains, sn, Role::Slot, site)
     }
 
     // A chain that stands without an O: its first atom is its site.
@@ -280,17 +276,15 @@ impl Builder {
         index: &mut [u16],
         rows: &mut [u8],
         notes: &mut [Placed; MAX_CHAINS],
-        count: usize,
-        shapes: &[Shape; MAX_CHAINS],
-        lists: &[u64],
+        chains: Chains,
         sn: u8,
         role: Role,
     ) -> Builder
-        requires { BareFits (chains_kept count shapes.now lists.now) sn role notes.old self }
-        ensures { BarePushed (chains_kept count shapes.now lists.now) sn role (rooms out.old index.old rows.old notes.old) self (rooms out.new index.new rows.new notes.new) result }
+        requires { BareFits (chains_lent chains) sn role notes.old self }
+        ensures { BarePushed (chains_lent chains.entry) sn role (rooms out.old index.old rows.old notes.old) self (rooms out.new index.new rows.new notes.new) result }
     {
         let a = self.atoms;
-        self.push_chain(out, index, rows, notes, count, shapes, lists, sn, role, a.0)
+        self.push_chain(out, index, rows, notes, chains, sn, role, a.0)
     }
 
     // What follows the text: the labels of the sites, marks and site lists, what may be exchanged, and the sums. The site lists are read from the

@@ -7,8 +7,5 @@ const PLACES: usize = 4;
 pub fn in_places(count: usize) -> usize
     ensures { result ≡ min count 4 }
 {
-    if count < PLACES {
-        return count;
-    }
-    PLACES
+    count.min(PLACES)
 }

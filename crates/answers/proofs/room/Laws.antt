@@ -12,6 +12,7 @@ use Rattle.writer.specs.emit.Text.{after}
 use Rattle.chain_rules.proofs.chain.Lists.{or_left, or_right}
 use Rattle.chain_record.specs.plain.Chain.{Chain}
 use Rattle.drawn_chain.specs.declared.drawable.Shape.{Shape}
+use Rattle.drawn_chain.specs.declared.rooms.Lists.{Lists}
 use Rattle.placement.specs.declared.chain_notes.Placed.{Placed}
 use Rattle.drawn_chain.specs.drawable.Chains.{Chains}
 use Rattle.request_chains.specs.chain_shapes.Shapes.{chains_kept}
@@ -87,7 +88,7 @@ pub ample : {t : List ℕ} {k count : ℕ} {ns : List Shape} {r n m : ℕ} → C
 ample {t} {n = n} {m} h e f =
     record {
       long = λ c swap l ds w.
-          long-enough c swap t ds n m (omega (arith, f, h.covers c swap ds l w.own.tail w.own.stood w.told)) (omega (arith, e, index-length c t ds, w.index, w.tokens));
+          long-enough c swap t ds n m (omega (arith, f, h.covers c swap ds l w.own.tail w.own.stood w.roomed w.told)) (omega (arith, e, index-length c t ds, w.index, w.tokens));
     }
 
 -- for any with chains of which none is long
@@ -95,5 +96,5 @@ pub slight-ample : {t : List ℕ} {k count : ℕ} {ns : List Shape} {b : Bool} {
     → Ample t k count ns n m
 slight-ample {count = count} {ns} h g q e f = ample (h.covers count ns (g q)) e f
 
-pub not_short : {c : Class} {swap : Bool} {t : List ℕ} {k count : ℕ} {ns : List Shape} {n m : ℕ} (l : List ℕ) → Ample t k count ns n m → ShortIs c swap t k (chains_kept count ns l) n m false
+pub not_short : {c : Class} {swap : Bool} {t : List ℕ} {k count : ℕ} {ns : List Shape} {n m : ℕ} (l : List Lists) → Ample t k count ns n m → ShortIs c swap t k (chains_kept count ns l) n m false
 not_short {c} {swap} l h = record { is = λ ds w. sym (h.long c swap l ds w) }

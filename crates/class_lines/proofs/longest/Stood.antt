@@ -3,14 +3,14 @@ use Prim.Native.Nat.{ℕ, zero, suc, ◌+◌, ◌*◌, ◌≤◌, ◌<◌, min}
 use native.Mathlib.Nat.{mul-le-mul_right}
 use native.Mathlib.Omega.{arith}
 use mathlib.Core.Path.{◌≡◌, refl, sym, ap}
-use mathlib.Core.Bool.{Bool, true, false, not}
+use mathlib.Core.Bool.{Bool, true, false}
 use mathlib.Core.Option.{Option, none, some}
 use mathlib.Core.List.{List, [], ◌∷◌}
-use lib.ListN.{length, take, drop, get_or, length-take, length-map}
-use borrow.Author.Tests.{not-false}
+use lib.ListN.{length, take, drop, get_or, length-take}
+use lib.Dec.{ltb}
+use borrow.Author.Tests.{ltb-true, ltb-false}
 use Rattle.std.proofs.lemmas.List.{get_or_past}
 use Rattle.chain_record.specs.plain.Chain.{Chain}
-use Rattle.chain_record.specs.codes.Codes.{group_in, ring_in}
 use Rattle.reading_rules.proofs.reading.Part.{none≢some}
 use Rattle.reading_rules.proofs.reading.PartingLaws.{All}
 use Rattle.chain_rules.proofs.chain.Lists.{all_append}
@@ -18,7 +18,9 @@ use Rattle.chain_rules.specs.declared.chain.Role.{Role}
 use Rattle.chain_rules.specs.declared.chain.Role.TheVariants.{Slot}
 use Rattle.chain_rules.specs.chain.Features.{groups_on, floating}
 use Rattle.drawn_chain.specs.declared.drawable.Shape.{Shape}
-use Rattle.drawn_chain.specs.drawable.Drawn.{Drawn, drawn_of, groups_in, rings_in, groups_part, floats_part, rings_part}
+use Rattle.drawn_chain.specs.declared.rooms.Lists.{Lists}
+use Rattle.drawn_chain.specs.declared.rooms.TheConstants.{NO_LISTS}
+use Rattle.drawn_chain.specs.drawable.Drawn.{Drawn, drawn_of}
 use Rattle.drawn_chain.specs.drawable.Chains.{drawn_in, items_of}
 use Rattle.request_chains.specs.chain_shapes.Shapes.{no_shape, chains_kept}
 use Rattle.template_rules.specs.declared.Class.{Class}
@@ -32,7 +34,7 @@ use Rattle.placement.specs.chain_notes.Fragment.{Carries, Stood}
 use Rattle.class_templates.specs.Templates.{TailOf}
 use Rattle.class_templates.specs.Classes.{StoodIn}
 use Rattle.class_lines.specs.longest.Longest.{text_most, drawn_most, sites_most, numbers_most, chain_most, chain_most_of, most_at, line_most}
-use Rattle.class_lines.specs.longest.Covered.{shape_most, ChainCovered, Covered, SlightShape, SlightAt, Slight, SlightCovered}
+use Rattle.class_lines.specs.longest.Covered.{Roomed, AllRoomed, shape_most, ChainCovered, Covered, SlightShape, SlightAt, Slight, SlightCovered}
 use Rattle.class_lines.proofs.longest.Chains.{Modest}
 use Rattle.class_lines.proofs.longest.Line.{line-most}
 
@@ -44,33 +46,16 @@ numbers_more c u g f q g' f' q' a b e = omega (arith, mul-le-mul_right (14 + 6 *
 
 -- ---- a chain by its numbers
 
-groups-held : (n m : ℕ) (xs : List ℕ) → length xs ≤ m → length (groups_in n xs) ≤ min n m
-unfolding groups_in
-groups-held n m xs h = omega (arith, length-map (take n xs) group_in, length-take n xs)
-
-rings-held : (n m : ℕ) (xs : List ℕ) → length xs ≤ m → length (rings_in n xs) ≤ min n m
-unfolding rings_in
-rings-held n m xs h = omega (arith, length-map (take n xs) ring_in, length-take n xs)
-
-module _ (r : Role) (d : Chain) (x : Shape) (l : List ℕ) (h : Carries r d (drawn_of x l)) where
-  groups-few : length (groups_on r d) ≤ 18
-  unfolding groups_part
-  groups-few = omega (arith, ap length h.draws.groups, groups-held x.group_count 18 (groups_part l) (omega (arith, length-take 18 (drop 33 l))))
-
+module _ (r : Role) (d : Chain) (x : Shape) (l : Lists) (h : Carries r d (drawn_of x l)) (g : Roomed r d) where
   floats-few : length (floating d) ≤ min x.float_count 18
-  unfolding floats_part
-  floats-few = omega (arith, ap length h.draws.floats, groups-held x.float_count 18 (floats_part l) (omega (arith, length-take 18 (drop 51 l))))
-
-  rings-few : length d.rings ≤ 8
-  unfolding rings_part
-  rings-few = omega (arith, ap length h.draws.rings, rings-held x.ring_count 8 (rings_part l) (omega (arith, length-take 8 (drop 69 l))))
+  floats-few = omega (arith, ap length h.draws.floats, g.floats, length-take x.float_count l.floats)
 
   modest : Modest r d
   modest =
       record {
         drawn = h.drawn;
-        groups = groups-few;
-        floats = omega (arith, floats-few);
+        groups = g.groups;
+        floats = g.floats;
         unlocated = h.bonds;
         carbon = omega (arith, h.readable.carbons);
       }
@@ -79,21 +64,21 @@ module _ (r : Role) (d : Chain) (x : Shape) (l : List ℕ) (h : Carries r d (dra
   unfolding chain_most shape_most
   chain-covered =
       rw (h.draws.carbon, h.draws.unlocated)
-      (numbers_more d.carbon d.unlocated (length (groups_on r d)) (length (floating d)) (length d.rings) 18 (min x.float_count 18) 8 groups-few floats-few rings-few)
+      (numbers_more d.carbon d.unlocated (length (groups_on r d)) (length (floating d)) (length d.rings) 18 (min x.float_count 18) 8 g.groups floats-few h.rings)
 
 -- ---- the chain of an sn
 
 -- what stands at a place of some chains is one of the numbers, with some part
 abbrev Picked : List Shape → ℕ → ℕ → Option Drawn → Type 0
 Picked xs n i none = Unit {0}
-Picked xs n i (some y) = (i < n) × ((l : List ℕ) × (y ≡ drawn_of (get_or xs i no_shape) l))
+Picked xs n i (some y) = (i < n) × ((l : Lists) × (y ≡ drawn_of (get_or xs i no_shape) l))
 
-picked : (xs : List Shape) (n i : ℕ) (l : List ℕ) → Picked xs n i (drawn_at (suc i) (take n (items_of xs l)))
+picked : (xs : List Shape) (n i : ℕ) (l : List Lists) → Picked xs n i (drawn_at (suc i) (take n (items_of xs l)))
 unfolding drawn_at items_of
 picked xs zero i l = tt
 picked [] (suc n) i l = tt
-picked (x ∷ xs) (suc n) zero l = (omega arith, (take 77 l, refl))
-picked (x ∷ xs) (suc n) (suc i) l = go (drawn_at (suc i) (take n (items_of xs (drop 77 l)))) (picked xs n i (drop 77 l))
+picked (x ∷ xs) (suc n) zero l = (omega arith, (get_or l 0 NO_LISTS, refl))
+picked (x ∷ xs) (suc n) (suc i) l = go (drawn_at (suc i) (take n (items_of xs (drop 1 l)))) (picked xs n i (drop 1 l))
   where
     go : (o : Option Drawn) → Picked xs n i o → Picked (x ∷ xs) (suc n) (suc i) o
     go none h = tt
@@ -106,7 +91,7 @@ record Numbered (ns : List Shape) (count i : ℕ) (r : Role) (d : Chain) : Type 
   covered : chain_most r d ≤ shape_most (get_or ns i no_shape)
   carbon : d.carbon ≡ (get_or ns i no_shape).carbon
 
-module _ (ρ : ℕ → Role) (ds : List Chain) (count : ℕ) (ns : List Shape) (l : List ℕ) (h : Stood ρ ds (chains_kept count ns l)) where
+module _ (ρ : ℕ → Role) (ds : List Chain) (count : ℕ) (ns : List Shape) (l : List Lists) (h : Stood ρ ds (chains_kept count ns l)) (room : AllRoomed ρ ds) where
   told : (i : ℕ) (d : Chain) → nonempty (suc i) ds ≡ some d → Numbered ns count i (ρ (suc i)) d
   unfolding drawn_in
   told i d e = go (drawn_at (suc i) (take count (items_of ns l))) refl (picked ns count i l)
@@ -119,12 +104,12 @@ module _ (ρ : ℕ → Role) (ds : List Chain) (count : ℕ) (ns : List Shape) (
 
       go : (o : Option Drawn) → drawn_at (suc i) (take count (items_of ns l)) ≡ o → Picked ns count i o → Numbered ns count i r d
       go none q p =
-          let z : Carries r d (drawn_of no_shape []) = carried (drawn_of no_shape []) (rw q refl) in
+          let z : Carries r d (drawn_of no_shape NO_LISTS) = carried (drawn_of no_shape NO_LISTS) (rw q refl) in
           absurd (omega (arith, z.some, z.draws.carbon))
       go (some y) q p =
           let x = get_or ns i no_shape in
           let z : Carries r d (drawn_of x p.1.0) = carried (drawn_of x p.1.0) (rw q (sym p.1.1)) in
-          record { counted = p.0; modest = modest r d x p.1.0 z; covered = chain-covered r d x p.1.0 z; carbon = sym z.draws.carbon }
+          record { counted = p.0; modest = modest r d x p.1.0 z (room.each (suc i) d e); covered = chain-covered r d x p.1.0 z (room.each (suc i) d e); carbon = sym z.draws.carbon }
 
   -- an sn is never 0
   no-chain : (ds : List Chain) (d : Chain) → nonempty zero ds ≡ some d → ⊥
@@ -144,11 +129,11 @@ module _ (ρ : ℕ → Role) (ds : List Chain) (count : ℕ) (ns : List Shape) (
 
 -- a number no less than what the shape at a place adds, if it counts
 shape-covered : (count i r : ℕ) (ns : List Shape) → r ≤ 30000000 → (i < count → shape_most (get_or ns i no_shape) ≤ r) → ChainCovered count ns i r
-shape-covered count i r ns f g = record { few = f; covers = λ ρ ds l h. go ρ ds l h (nonempty (suc i) ds) refl }
+shape-covered count i r ns f g = record { few = f; covers = λ ρ ds l h w. go ρ ds l h w (nonempty (suc i) ds) refl }
   where
-    go : (ρ : ℕ → Role) (ds : List Chain) (l : List ℕ) → Stood ρ ds (chains_kept count ns l) → (o : Option Chain) → nonempty (suc i) ds ≡ o → chain_most_of (ρ (suc i)) o ≤ r
-    go ρ ds l h none q = omega arith
-    go ρ ds l h (some d) q = let z = told ρ ds count ns l h i d q in omega (arith, z.covered, g z.counted)
+    go : (ρ : ℕ → Role) (ds : List Chain) (l : List Lists) → Stood ρ ds (chains_kept count ns l) → AllRoomed ρ ds → (o : Option Chain) → nonempty (suc i) ds ≡ o → chain_most_of (ρ (suc i)) o ≤ r
+    go ρ ds l h w none q = omega arith
+    go ρ ds l h w (some d) q = let z = told ρ ds count ns l h w i d q in omega (arith, z.covered, g z.counted)
 
 -- past the chains that count
 pub past-covered : (count i : ℕ) (ns : List Shape) → count ≤ i → ChainCovered count ns i 0
@@ -164,16 +149,16 @@ pub line-covered : (t : List ℕ) (k count : ℕ) (ns : List Shape) (a b c d : �
 unfolding line_most most_at
 line-covered t k count ns a b c d p q r s = record { covers = go }
   where
-    go : (x : Class) (swap : Bool) (ds : List Chain) (l : List ℕ) → (has_tail x ≡ true → TailOf t k) → StoodIn x ds (chains_kept count ns l) → Each fragment.Told (placed x t ds)
+    go : (x : Class) (swap : Bool) (ds : List Chain) (l : List Lists) → (has_tail x ≡ true → TailOf t k) → StoodIn x ds (chains_kept count ns l) → AllRoomed (role_of x) ds → Each fragment.Told (placed x t ds)
         → length (line_of x swap t ds) ≤ 120 + length t + k + (a + b + c + d)
-    go x swap ds l h g m =
+    go x swap ds l h g w m =
         omega (
           arith,
-          line-most x swap t k ds h m (all-modest (role_of x) ds count ns l g),
-          p.covers (role_of x) ds l g,
-          q.covers (role_of x) ds l g,
-          r.covers (role_of x) ds l g,
-          s.covers (role_of x) ds l g,
+          line-most x swap t k ds h m (all-modest (role_of x) ds count ns l g w),
+          p.covers (role_of x) ds l g w,
+          q.covers (role_of x) ds l g w,
+          r.covers (role_of x) ds l g w,
+          s.covers (role_of x) ds l g w,
         )
 
 -- ---- chains of which none is long
@@ -186,17 +171,13 @@ past-slight m count i ns g = λ h. absurd (omega arith)
 pub there-slight : (m count i : ℕ) (ns : List Shape) (x : Shape) → x ≡ get_or ns i no_shape → x.carbon ≤ m → x.unlocated ≤ m → SlightAt m count ns i
 there-slight m count i ns x e a b = λ h. rw (← e) (record { carbons = a; bonds = b })
 
--- all four places
-pub slight : {m count : ℕ} {ns : List Shape} {a b c d : Bool} → length ns ≡ 4 → (a ≡ true → SlightAt m count ns 0) → not a ≡ false → (b ≡ true → SlightAt m count ns 1) → not b ≡ false
-    → (c ≡ true → SlightAt m count ns 2) → not c ≡ false → (d ≡ true → SlightAt m count ns 3) → not d ≡ false → Slight m count ns
-slight {m} {count} {ns} {a} {b} {c} {d} size p q r s t u v w = record { all = go }
+-- all of them: past the last place stands an empty chain
+pub slight : {m count : ℕ} {ns : List Shape} (n : ℕ) → length ns ≤ n → ((i : ℕ) → i < n → SlightAt m count ns i) → Slight m count ns
+slight {m} {count} {ns} n size f = record { all = λ i. go i (ltb i n) refl }
   where
-    go : (i : ℕ) → SlightAt m count ns i
-    go zero = p (not-false a q)
-    go (suc zero) = r (not-false b s)
-    go (suc (suc zero)) = t (not-false c u)
-    go (suc (suc (suc zero))) = v (not-false d w)
-    go (suc (suc (suc (suc i)))) = λ h. rw (get_or_past ns (suc (suc (suc (suc i)))) no_shape (omega (arith, size))) (record { carbons = omega arith; bonds = omega arith })
+    go : (i : ℕ) (b : Bool) → ltb i n ≡ b → SlightAt m count ns i
+    go i true e = f i (ltb-true i n e)
+    go i false e = λ h. rw (get_or_past ns i no_shape (omega (arith, size, ltb-false i n e))) (record { carbons = omega arith; bonds = omega arith })
 
 -- what one adds to a line
 slight-numbers : (c u f : ℕ) → c ≤ 30 → u ≤ 30 → f ≤ 18 → numbers_most c u 18 f 8 ≤ 12672
@@ -239,7 +220,7 @@ slight-from m t ds h n v (chain sn r ∷ es) =
     all_append (λ p. p.chain.carbon ≤ m) (place sn r (site_of r n) n v (nonempty sn ds)) _ (slight-place m sn r (site_of r n) n v (nonempty sn ds) (h sn))
     (slight-from m t ds h (atoms_after r n (nonempty sn ds)) (variables_after v (nonempty sn ds)) es)
 
-pub slight-placed : (m : ℕ) (c : Class) (t : List ℕ) (ds : List Chain) (count : ℕ) (ns : List Shape) (l : List ℕ) → StoodIn c ds (chains_kept count ns l) → Slight m count ns
+pub slight-placed : (m : ℕ) (c : Class) (t : List ℕ) (ds : List Chain) (count : ℕ) (ns : List Shape) (l : List Lists) → StoodIn c ds (chains_kept count ns l) → AllRoomed (role_of c) ds → Slight m count ns
     → All (λ p. p.chain.carbon ≤ m) (placed c t ds)
 unfolding placed
-slight-placed m c t ds count ns l h g = slight-from m t ds (all-slight (role_of c) ds count ns l h m g) 0 0 (elements c)
+slight-placed m c t ds count ns l h w g = slight-from m t ds (all-slight (role_of c) ds count ns l h w m g) 0 0 (elements c)

@@ -6,7 +6,7 @@ pub returns-then-short : goal.returns-then-short
 returns-then-short c = short-drawn c.is_short-short.ensures c.if-short.true c.refused.ensures
 
 pub draw_one-requires : goal.draw_one-requires
-draw_one-requires c = record { readied = search rules; count_value = c.if-count-eq1.true; short_is = long-slices c.is_short-short.ensures c.if-short.false }
+draw_one-requires c = record { readied = search rules; count_value = c.if-chains-eq1.true; short_is = long-slices c.is_short-short.ensures c.if-short.false }
 
 pub draw_slight-requires : goal.draw_slight-requires
 draw_slight-requires c = record { readied = search rules; slight = c.are_slight.ensures c.if-are_slight.true; short_is = long-slices c.is_short-short.ensures c.if-short.false }
