@@ -1,13 +1,15 @@
 // The answer to a request. What it is, and what both slices hold afterwards, are said by specs/answer/Answer.antt.
 ghost use Rattle.std.specs.Prelude.{◌≡◌, []};
+ghost use Rattle.chain_record.specs.refusal.Refusal.{number_of};
 ghost use Rattle.answers.specs.answer.Answer.{lists_of, sites_of, refusal};
 
 use chain_lists::{Listed, Lists, Sites};
+use chain_record::Refusal;
 use drawn_chain::MAX_CHAINS;
 use line_parts::{MAX_SITES, Site};
 
 // The answer. Accepted: number 0, the line's length, the listed chains and the sites, each by rising sn. Refused: the number and the token's
-// place, and zero everywhere else.
+// place, and zero everywhere else. The number stays one: the C header, the README and the theorem of crates/forward/specs/Call.antt speak of it.
 #[derive(Clone, Copy)]
 pub struct Answer {
     pub number: u16,
@@ -34,17 +36,15 @@ fn no_sites() -> Sites
     Sites { count: 0, items }
 }
 
-// A refusal.
-pub fn refused(number: u16, token: usize) -> Answer
-    ensures { result ≡ refusal number token }
+// A refusal, by its number.
+pub fn refused(reason: Refusal, token: usize) -> Answer
+    ensures { result ≡ refusal (number_of reason) token }
 {
-    let lists = no_lists();
-    let sites = no_sites();
     Answer {
-        number,
+        number: u16::from(reason),
         token,
         length: 0,
-        lists,
-        sites,
+        lists: no_lists(),
+        sites: no_sites(),
     }
 }

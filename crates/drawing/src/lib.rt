@@ -9,13 +9,11 @@ ghost use Rattle.answers.specs.room.Ready.{Readied, ShortIs};
 ghost use Rattle.drawing.specs.Draw.{ChainsDrawn, IndexRoom};
 
 use answers::{Answer, INDEX_ROOM, ROW_ROOM, refused};
+use chain_record::Refusal;
 use class_lines::Line;
 use drawn_chain::MAX_CHAINS;
 use request_chains::Chains;
 use template_rules::Class;
-
-// A slice is shorter than needed.
-pub const SHORT_SLICE: u16 = 41;
 
 // Room for the indices of four chains that are not long, with some to spare: near the end of the slice a chain is written the slow way.
 const SLIGHT_ROOM: usize = 128;
@@ -161,7 +159,7 @@ pub fn draw_chains(
 {
     let short = answers::is_short(line, index, class, swap, tail, tail_atoms, chains);
     if short {
-        return refused(SHORT_SLICE, 0);
+        return refused(Refusal::ShortSlice, 0);
     }
     if chains.count == 1 {
         return draw_one(line, index, class, swap, tail, tail_atoms, chains);

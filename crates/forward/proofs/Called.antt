@@ -7,6 +7,8 @@ use mathlib.Core.Bool.{Bool, true, false, cond, false≢true}
 use mathlib.Core.List.{List, [], ◌∷◌, ◌++◌, map}
 use lib.ListN.{length, take, drop, length-map}
 use borrow.Author.Tests.{not-false}
+use Rattle.std.specs.Prelude.{Result, Ok, Err}
+use Rattle.chain_record.specs.refusal.Refusal.{number_of as refusal_number}
 use Rattle.chain_record.specs.plain.Chain.{Chain}
 use Rattle.tail_grammar.specs.tail.Grammar.{is_tail}
 use Rattle.drawn_chain.specs.declared.drawable.Shape.{Shape}
@@ -23,8 +25,8 @@ use Rattle.chain_lists.specs.listing.Sites.{no_site}
 use Rattle.chain_lists.specs.listing.Lists.{no_list, list_of}
 use Rattle.chain_lists.proofs.listing.PlacedLaws.{places-few}
 use Rattle.template_rules.proofs.Theorem.{promise}
-use Rattle.judge.specs.declared.Judged.{Judged}
-use Rattle.judge.specs.declared.Judged.TheVariants.{Drawable as Judged-as-Drawable, Refused as Judged-as-Refused}
+use Rattle.judge.specs.declared.Drawable as code_drawable
+use Rattle.judge.specs.declared.Fault as code
 use Rattle.judge.specs.Judged.{JudgedIs}
 use Rattle.judge.specs.Verdict.{Verdict, Refused, Drawable, wrong_tail, verdict, tokens, is_refusal}
 use Rattle.judge.proofs.Accepted.{judged-accepted, judged-fits, refused-number, answer-drawable, answer-refused}
@@ -89,29 +91,30 @@ module _ (class t : List ℕ) (count : ℕ) (sn1 sn2 sn3 sn4 : List ℕ) where
       let g : false ≡ true = rw z at h in
       false≢true g
 
-  pub called-refused : {swap : Bool} {xs is : List ℕ} {a : Answer} (j : Judged) (m p : ℕ) (ns : List Shape) (l : List Lists) → JudgedIs j count ns l t v → j ≡ Judged-as-Refused m p → a ≡ refusal m p → Called v swap t xs is xs is a
-  called-refused {swap} {xs} {is} {a} j m p ns l h k e =
-      let w : v ≡ Refused m p = answer-refused m p count ns l t v (rw k at h) in
+  pub called-refused : {swap : Bool} {xs is : List ℕ} {a : Answer} (j : Result code_drawable.Drawable code.Fault) (f : code.Fault) (ns : List Shape) (l : List Lists) → JudgedIs j count ns l t v → j ≡ Err f
+      → a ≡ refusal (refusal_number f.refusal) f.place → Called v swap t xs is xs is a
+  called-refused {swap} {xs} {is} {a} j f ns l h k e =
+      let w : v ≡ Refused (refusal_number f.refusal) f.place = answer-refused f count ns l t v (rw k at h) in
       record {
         answers = rw w (record { answer = e; line = refl; index = refl });
-        kept = λ z. absurd (some_number m p w (sym (ap (λ (x : Answer). x.number) e) ∙ z));
+        kept = λ z. absurd (some_number (refusal_number f.refusal) f.place w (sym (ap (λ (x : Answer). x.number) e) ∙ z));
       }
 
   -- what was judged is ready to be drawn
-  module _ (j : Judged) (c : Class) (k : ℕ) (ns : List Shape) (l : List Lists) (h : JudgedIs j count ns l t v) (n : j ≡ Judged-as-Drawable c k) where
-    pub judged-ready : Readied c t k (chains_kept count ns l)
+  module _ (j : Result code_drawable.Drawable code.Fault) (r : code_drawable.Drawable) (ns : List Shape) (l : List Lists) (h : JudgedIs j count ns l t v) (n : j ≡ Ok r) where
+    pub judged-ready : Readied r.class t r.tail_atoms (chains_kept count ns l)
     judged-ready =
-        let d = answer-drawable c k count ns l t v (rw n at h) in
-        let accepted = judged-accepted class t count sn1 sn2 sn3 sn4 c d.chains d.is in
-        record { chains = d.chains; ready = ready c t d.chains k (chains_kept count ns l) accepted (right-tail c d.chains d.is) d.drawing d.atoms }
+        let d = answer-drawable r count ns l t v (rw n at h) in
+        let accepted = judged-accepted class t count sn1 sn2 sn3 sn4 r.class d.chains d.is in
+        record { chains = d.chains; ready = ready r.class t d.chains r.tail_atoms (chains_kept count ns l) accepted (right-tail r.class d.chains d.is) d.drawing d.atoms }
 
-  pub called-drawn : {swap : Bool} {xs is ys js : List ℕ} {a : Answer} (j : Judged) (c : Class) (k : ℕ) (ns : List Shape) (l : List Lists) → JudgedIs j count ns l t v → j ≡ Judged-as-Drawable c k
-      → ChainsDrawn c swap t k (chains_kept count ns l) xs is ys js a → Called v swap t xs is ys js a
+  pub called-drawn : {swap : Bool} {xs is ys js : List ℕ} {a : Answer} (j : Result code_drawable.Drawable code.Fault) (r : code_drawable.Drawable) (ns : List Shape) (l : List Lists) → JudgedIs j count ns l t v → j ≡ Ok r
+      → ChainsDrawn r.class swap t r.tail_atoms (chains_kept count ns l) xs is ys js a → Called v swap t xs is ys js a
   unfolding judged-ready
-  called-drawn {swap} {xs} {is} {ys} {js} {a} j c k ns l h n g =
-      let d = answer-drawable c k count ns l t v (rw n at h) in
-      let w : Answers (Drawable c d.chains) swap t xs is ys js a = g.drawn d.chains (judged-ready j c k ns l h n).ready in
+  called-drawn {swap} {xs} {is} {ys} {js} {a} j r ns l h n g =
+      let d = answer-drawable r count ns l t v (rw n at h) in
+      let w : Answers (Drawable r.class d.chains) swap t xs is ys js a = g.drawn d.chains (judged-ready j r ns l h n).ready in
       record {
         answers = rw d.is w;
-        kept = kept_by c d.chains swap xs is ys js a d.is w;
+        kept = kept_by r.class d.chains swap xs is ys js a d.is w;
       }

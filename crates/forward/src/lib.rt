@@ -9,7 +9,6 @@ ghost use Rattle.forward.specs.Call.{Called};
 
 pub use answers::Answer;
 use drawn_chain::{Lists, MAX_CHAINS, NO_LISTS};
-use judge::Judged;
 use request_chains::{Chains, NO_SHAPE};
 
 // A request whose chains have their lists in a lent array, with room for as many as there are tokens, or for four.
@@ -30,19 +29,23 @@ fn draw_in<'a>(
     ensures { Called (verdict class.now tail.now count (tokens count sn1.now sn2.now sn3.now sn4.now)) swap tail.now line.old index.old line.new index.new result }
 {
     let mut shapes = [NO_SHAPE; MAX_CHAINS];
-    let judged = judge::judge(class, tail, count, sn1, sn2, sn3, sn4, &mut shapes, lists);
-    match judged {
-        Judged::Refused { number, place } => answers::refused(number, place),
-        Judged::Drawable {
-            class: kind,
-            tail_atoms: atoms,
-        } => {
+    match judge::judge(class, tail, count, sn1, sn2, sn3, sn4, &mut shapes, lists) {
+        Err(fault) => answers::refused(fault.refusal, fault.place),
+        Ok(drawable) => {
             let chains = Chains {
                 count,
                 shapes: &shapes,
                 lists,
             };
-            drawing::draw_chains(line, index, kind, swap, tail, atoms, chains)
+            drawing::draw_chains(
+                line,
+                index,
+                drawable.class,
+                swap,
+                tail,
+                drawable.tail_atoms,
+                chains,
+            )
         }
     }
 }

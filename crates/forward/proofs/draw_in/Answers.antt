@@ -4,17 +4,17 @@ use Rattle.forward.proofs.draw_in.Goals as goal
 pub draw_chains-requires : goal.draw_chains-requires
 draw_chains-requires c =
     let a = c.args in
-    judged-ready a.class.now a.tail.now a.count a.sn1.now a.sn2.now a.sn3.now a.sn4.now c.judge-judged.result _ _ _ _ c.judge-judged.ensures
-    c.in-Drawable.is
+    judged-ready a.class.now a.tail.now a.count a.sn1.now a.sn2.now a.sn3.now a.sn4.now c.judge.result _ _ _ c.judge.ensures
+    c.in-Ok.is
 
-pub returns-in-Refused : goal.returns-in-Refused
-returns-in-Refused c =
+pub returns-in-Err : goal.returns-in-Err
+returns-in-Err c =
     let a = c.args in
-    called-refused a.class.now a.tail.now a.count a.sn1.now a.sn2.now a.sn3.now a.sn4.now c.judge-judged.result _ _ _ _ c.judge-judged.ensures
-    c.in-Refused.is c.refused.ensures
+    called-refused a.class.now a.tail.now a.count a.sn1.now a.sn2.now a.sn3.now a.sn4.now c.judge.result _ _ _ c.judge.ensures
+    c.in-Err.is c.refused.ensures
 
-pub returns-in-Drawable : goal.returns-in-Drawable
-returns-in-Drawable c =
+pub returns-in-Ok : goal.returns-in-Ok
+returns-in-Ok c =
     let a = c.args in
-    called-drawn a.class.now a.tail.now a.count a.sn1.now a.sn2.now a.sn3.now a.sn4.now c.judge-judged.result _ _ _ _ c.judge-judged.ensures
-    c.in-Drawable.is c.draw_chains.ensures
+    called-drawn a.class.now a.tail.now a.count a.sn1.now a.sn2.now a.sn3.now a.sn4.now c.judge.result _ _ _ c.judge.ensures
+    c.in-Ok.is c.draw_chains.ensures
