@@ -9,7 +9,7 @@ ghost use Rattle.chain_record.specs.parsed.Parsed.{Adds, Grows, first, bonds_as,
 use super::plain::{ChainPrefix, DbPos, GROUP_ROOM, MAX_BONDS, MAX_GROUPS, MAX_RINGS, Mod, Ring};
 use super::refusal::Refusal;
 
-// What a token says of a chain. Of each array, so much is used as its count says.
+// What a token says of a chain. Each list stands in an array with its count beside it: the memory is fixed, and there is no heap.
 #[derive(Clone, Copy)]
 pub struct ParsedChain {
     pub prefix: ChainPrefix,
