@@ -2,7 +2,7 @@
 // adds to such arrays while they are lent to it, and counts beside them. A list or a segment is read whole before its counts are
 // judged, so a push never refuses: an array keeps what its limit allows, its count stops one past the limit, and `check_counts` answers 31 there.
 // What a record holds is said by specs/parsed/Parsed.antt.
-ghost use Rattle.std.specs.Prelude.{◌≡◌, ◌≤◌, length};
+ghost use Rattle.std.specs.Prelude.{◌≡◌, ◌≤◌};
 ghost use Rattle.chain_record.specs.plain.Chain.{with_bond, with_group, with_ring, max_bonds};
 ghost use Rattle.chain_record.specs.parsed.Parsed.{Adds, Grows, first, bonds_as, groups_as, rings_as, checked};
 
