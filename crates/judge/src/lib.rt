@@ -57,7 +57,7 @@ struct Faults {
     draw: Option<Fault>,
 }
 
-// The fault at a place that a reason is, if there is one.
+// The fault of a refusal at a place, if one is due.
 fn fault_at(reason: Option<Refusal>, place: usize) -> Option<Fault>
     ensures { result ≡ fault_from reason place }
 {
@@ -200,7 +200,7 @@ fn judge_tokens<'a>(
             Err(refusal) => return Err(Fault { refusal, place }),
         };
         request_chains::keep_shape(shapes, i, looked.shape);
-        // It leaves the faults as they are, and they are not copied.
+        // A chain that is refused for nothing leaves the faults as they are, which are then not copied.
         if looked.reasons.nothing_due() {
             continue;
         }
