@@ -36,15 +36,22 @@ fn no_sites() -> Sites
     Sites { count: 0, items }
 }
 
-// A refusal, by its number.
-pub fn refused(reason: Refusal, token: usize) -> Answer
-    ensures { result ≡ refusal (number_of reason) token }
+// A refusal, by its number: defined for every number.
+pub fn refused(number: u16, token: usize) -> Answer
+    ensures { result ≡ refusal number token }
 {
     Answer {
-        number: u16::from(reason),
+        number,
         token,
         length: 0,
         lists: no_lists(),
         sites: no_sites(),
     }
+}
+
+// A refusal, by its name.
+pub fn refused_for(reason: Refusal, token: usize) -> Answer
+    ensures { result ≡ refusal (number_of reason) token }
+{
+    refused(u16::from(reason), token)
 }

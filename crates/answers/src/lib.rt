@@ -5,5 +5,5 @@
 pub mod answer;
 pub mod room;
 
-pub use answer::{Answer, refused};
+pub use answer::{Answer, refused, refused_for};
 pub use room::{INDEX_ROOM, ROW_ROOM, is_short};

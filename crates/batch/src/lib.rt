@@ -15,7 +15,7 @@ ghost use Rattle.sheet_output.specs.digit_pairs.Pairs.{Pairs};
 ghost use Rattle.batch.specs.Batch.{held_after, before, Holds, LinesAnswered, among, passed_in, held_last, Finished};
 
 use chain_lists::Lists;
-use drawn_chain::{Lists as ChainLists, MAX_CHAINS, NO_LISTS};
+use drawn_chain::{Lists as ChainLists, MAX_CHAINS, empty_lists};
 use forward::Answer;
 pub use sheet_frame::{Answered, Batch, Lined, Stage, put_titles};
 use sheet_frame::{Counts, answer_header, count_in, put_count_lines, put_head, put_unreadable};
@@ -187,7 +187,7 @@ pub fn answer_row(plan: Plan, row: &[u8], index: &mut [u16], out: &mut [u8], at:
     let mut starts = [0usize; sheet_input::STARTS];
     let cells = sheet_input::cut(row, &mut starts);
     let none = [0u16; 1];
-    let mut lists = [NO_LISTS; MAX_CHAINS];
+    let mut lists = [empty_lists(); MAX_CHAINS];
     answer_cut(
         plan,
         row,
@@ -267,7 +267,7 @@ fn answer_rows(
     requires { Pairs pairs.now }
     ensures { LinesAnswered (among plan times.old) text.now index.old out.old at limit index.new out.new (passed_in plan times.new result) }
 {
-    let mut lists = [NO_LISTS; MAX_CHAINS];
+    let mut lists = [empty_lists(); MAX_CHAINS];
     let mut t = text;
     let mut p = at;
     while p <= limit {

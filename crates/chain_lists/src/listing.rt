@@ -1,6 +1,7 @@
 // The listed chains of a line, by rising sn and not by the order of the text. They are made in one pass over the places of the chains, which
 // `rising` has put in order. Of a chain only what is noted of it is looked at.
-ghost use Rattle.std.specs.Prelude.{◌≡◌, [], ◌∷◌, ◌<◌};
+ghost use Rattle.std.specs.Prelude.{◌≡◌, [], ◌∷◌, ◌<◌, slice_index_or};
+ghost use Rattle.placement.specs.chain_notes.Notes.{nowhere};
 ghost use Rattle.chain_lists.specs.rising.Order.{places_in};
 ghost use Rattle.chain_lists.specs.listing.Lists.{list_in, lists_at, ListsHeld};
 
@@ -25,10 +26,11 @@ pub struct Lists {
     pub items: [Listed; MAX_CHAINS],
 }
 
-// What is listed of a chain.
-fn list_of(p: &Placed) -> Listed
-    ensures { result ≡ list_in p.now }
+// What is listed of the chain at a place.
+fn list_at(notes: &[Placed; MAX_CHAINS], k: usize) -> Listed
+    ensures { result ≡ list_in (slice_index_or notes.now k nowhere) }
 {
+    let p = placement::placed_at(notes, k);
     Listed {
         sn: p.sn as u16,
         count: p.count,
@@ -40,7 +42,7 @@ fn one_list(notes: &[Placed; MAX_CHAINS], k: usize) -> Lists
     ensures { ListsHeld (lists_at notes.now (k ∷ [])) result }
 {
     if k < MAX_CHAINS {
-        let items = [list_of(&notes[k]), NO_LIST, NO_LIST, NO_LIST];
+        let items = [list_at(notes, k), NO_LIST, NO_LIST, NO_LIST];
         return Lists { count: 1, items };
     }
     Lists {
@@ -55,8 +57,8 @@ fn two_lists(notes: &[Placed; MAX_CHAINS], a: usize, b: usize) -> Lists
     requires b_bound { b < 4 }
     ensures { ListsHeld (lists_at notes.now (a ∷ b ∷ [])) result }
 {
-    let first = list_of(&notes[a]);
-    let second = list_of(&notes[b]);
+    let first = list_at(notes, a);
+    let second = list_at(notes, b);
     Lists {
         count: 2,
         items: [first, second, NO_LIST, NO_LIST],
@@ -74,7 +76,7 @@ fn some_lists(notes: &[Placed; MAX_CHAINS], order: Rising) -> Lists
     for place in places {
         let k = *place as usize;
         if k < MAX_CHAINS {
-            lists[count] = list_of(&notes[k]);
+            lists[count] = list_at(notes, k);
             count += 1;
         }
     }

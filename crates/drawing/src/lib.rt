@@ -8,7 +8,7 @@ ghost use Rattle.class_lines.specs.longest.Covered.{Slight};
 ghost use Rattle.answers.specs.room.Ready.{Readied, ShortIs};
 ghost use Rattle.drawing.specs.Draw.{ChainsDrawn, IndexRoom};
 
-use answers::{Answer, INDEX_ROOM, ROW_ROOM, refused};
+use answers::{Answer, INDEX_ROOM, ROW_ROOM, refused_for};
 use chain_record::Refusal;
 use class_lines::Line;
 use drawn_chain::MAX_CHAINS;
@@ -159,7 +159,7 @@ pub fn draw_chains(
 {
     let short = answers::is_short(line, index, class, swap, tail, tail_atoms, chains);
     if short {
-        return refused(Refusal::ShortSlice, 0);
+        return refused_for(Refusal::ShortSlice, 0);
     }
     if chains.count == 1 {
         return draw_one(line, index, class, swap, tail, tail_atoms, chains);

@@ -10,4 +10,4 @@ mod rooms;
 pub use drawable::{BOND_ROOM, MAX_CHAINS, Shape, counted};
 pub use fitted::drawn_as;
 pub use reach::{drawn_count, literal_end, remaining};
-pub use rooms::{Lists, NO_LISTS, chain_part};
+pub use rooms::{Lists, NO_LISTS, chain_part, empty_lists, find_part};

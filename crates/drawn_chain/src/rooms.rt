@@ -23,9 +23,27 @@ pub const NO_LISTS: Lists = Lists {
     rings: [NO_RING; MAX_RINGS],
 };
 
+// The same by a call, for arrays of lists that are still to be filled: where the constant itself is written there, the compiler stores each of
+// its fields, and the bytes between them, one by one.
+pub fn empty_lists() -> Lists
+    ensures { result ≡ NO_LISTS }
+{
+    NO_LISTS
+}
+
 // The lists of the chain with an sn, if it has any.
-pub fn chain_part(lists: &[Lists], sn: u8) -> Option<&Lists>
+pub fn find_part(lists: &[Lists], sn: u8) -> Option<&Lists>
     ensures { MatchOption result (part_of sn lists.now ≡ NO_LISTS) (λ p. p.now ≡ part_of sn lists.now) }
 {
     lists.get(sn.saturating_sub(1) as usize)
+}
+
+// The same by value, where there are none those in which nothing stands.
+pub fn chain_part(lists: &[Lists], sn: u8) -> Lists
+    ensures { result ≡ part_of sn lists.now }
+{
+    match find_part(lists, sn) {
+        Some(part) => *part,
+        None => NO_LISTS,
+    }
 }

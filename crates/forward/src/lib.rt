@@ -8,7 +8,7 @@ ghost use Rattle.judge.specs.Verdict.{verdict, tokens};
 ghost use Rattle.forward.specs.Call.{Called};
 
 pub use answers::Answer;
-use drawn_chain::{Lists, MAX_CHAINS, NO_LISTS};
+use drawn_chain::{Lists, MAX_CHAINS, empty_lists};
 use request_chains::{Chains, NO_SHAPE};
 
 // A request whose chains have their lists in a lent array, with room for as many as there are tokens, or for four.
@@ -30,7 +30,7 @@ fn draw_in<'a>(
 {
     let mut shapes = [NO_SHAPE; MAX_CHAINS];
     match judge::judge(class, tail, count, sn1, sn2, sn3, sn4, &mut shapes, lists) {
-        Err(fault) => answers::refused(fault.refusal, fault.place),
+        Err(fault) => answers::refused_for(fault.refusal, fault.place),
         Ok(drawable) => {
             let chains = Chains {
                 count,
@@ -89,18 +89,18 @@ pub fn draw<'a>(
     ensures { Called (verdict class.now tail.now count (tokens count sn1.now sn2.now sn3.now sn4.now)) swap tail.now line.old index.old line.new index.new result }
 {
     if count == 1 {
-        let mut one = [NO_LISTS; 1];
+        let mut one = [empty_lists(); 1];
         return draw_in(
             class, swap, tail, count, sn1, sn2, sn3, sn4, line, index, &mut one,
         );
     }
     if count < 3 {
-        let mut few = [NO_LISTS; 2];
+        let mut few = [empty_lists(); 2];
         return draw_in(
             class, swap, tail, count, sn1, sn2, sn3, sn4, line, index, &mut few,
         );
     }
-    let mut lists = [NO_LISTS; MAX_CHAINS];
+    let mut lists = [empty_lists(); MAX_CHAINS];
     draw_lent(
         class, swap, tail, count, sn1, sn2, sn3, sn4, line, index, &mut lists,
     )

@@ -14,7 +14,7 @@ ghost use Rattle.line_builder.specs.Line.{Few, Finished};
 use chain_indices::Figures;
 use chain_lists::Sites;
 use chain_rules::Role;
-use drawn_chain::{Lists, MAX_CHAINS, NO_LISTS, Shape, chain_part};
+use drawn_chain::{Lists, MAX_CHAINS, NO_LISTS, Shape, find_part};
 use placement::{Placed, Strand};
 use request_chains::Chains;
 
@@ -244,7 +244,7 @@ impl Builder {
         if x.carbon == 0 {
             return self;
         }
-        match chain_part(chains.lists, sn) {
+        match find_part(chains.lists, sn) {
             Some(part) => self.push_fragment(out, index, rows, notes, x, part, sn, role, site),
             None => self.push_unlisted(out, index, rows, notes, x, sn, role, site),
         }

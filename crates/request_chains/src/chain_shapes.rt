@@ -34,16 +34,23 @@ pub fn shape_in(shapes: &[Shape; MAX_CHAINS], i: usize) -> Shape
     shapes.get(i).copied().unwrap_or(NO_SHAPE)
 }
 
+// The chain of an sn, whose lists stand in the part of that sn; an empty one where the request has no such token.
+pub fn shape_at(count: usize, shapes: &[Shape; MAX_CHAINS], sn: u8) -> Shape
+    ensures { ShapeAt count shapes.now sn result }
+{
+    let i = sn as usize;
+    if i == 0 || count < i {
+        return NO_SHAPE;
+    }
+    shape_in(shapes, i - 1)
+}
+
 impl<'a> Chains<'a> {
-    // The chain of an sn, whose lists stand in the part of that sn; an empty one where the request has no such token.
+    // The same of the chains of a request.
     pub fn shape_at(self, sn: u8) -> Shape
         ensures { ShapeAt self.entry.count self.entry.shapes.now sn result }
     {
-        let i = sn as usize;
-        if i == 0 || self.count < i {
-            return NO_SHAPE;
-        }
-        shape_in(self.shapes, i - 1)
+        shape_at(self.count, self.shapes, sn)
     }
 }
 

@@ -6,4 +6,4 @@ mod chain_count;
 pub mod chain_shapes;
 
 pub use chain_count::in_places;
-pub use chain_shapes::{Chains, NO_SHAPE, keep_shape, shape_in};
+pub use chain_shapes::{Chains, NO_SHAPE, keep_shape, shape_at, shape_in};

@@ -18,6 +18,18 @@ fn put_each<T: Copy>(out: &mut [T], at: usize, xs: &[T]) -> usize
     p
 }
 
+// Elements for which there is room. A loop, and not the library's copy of a slice, which asks for the C library's `memmove`: an archive for
+// C is to need no more than `memcpy` and `memset`.
+fn copy_whole<T: Copy>(out: &mut [T], at: usize, xs: &[T]) -> usize
+    requires { at + length xs.now ≤ length out.old }
+    ensures { Written out.old at xs.now out.new result }
+{
+    for (i, x) in xs.iter().enumerate() {
+        out[at + i] = *x;
+    }
+    at + xs.len()
+}
+
 // Elements one after the other: one look at the end where there is room for all of them.
 pub fn put_all<T: Copy>(out: &mut [T], at: usize, xs: &[T]) -> usize
     ensures { Written out.old at xs.now out.new result }
@@ -28,9 +40,7 @@ pub fn put_all<T: Copy>(out: &mut [T], at: usize, xs: &[T]) -> usize
     if out.len() - at < xs.len() {
         return put_each(out, at, xs);
     }
-    let end = at + xs.len();
-    out[at..end].copy_from_slice(xs);
-    end
+    copy_whole(out, at, xs)
 }
 
 // One element so many times, one by one, where some may fall past the end.

@@ -66,6 +66,14 @@ written-whole t i h k w = rw (take_all i t k) at w
 pub written-part : {A : Type 0} (xs ts : List A) (at : ℕ) → length xs < 2 ^ 64 → at + length ts ≤ length xs → Written xs at ts (put_mid at (length ts) xs ts) (at + length ts)
 written-part xs ts at g h = record { elements = rw (drop-drop (length ts) at xs, ← append_assoc) (sym (sets-eq ts xs at h)); next = omega arith }
 
+-- nothing of a list copied, where there is room for it, and an element more of it
+pub copy-none : {A : Type 0} (xs ts : List A) (at : ℕ) → at < 2 ^ 64 → Written xs at (take 0 ts) xs (at + 0)
+copy-none xs ts at h = rw add-zero (written-nil xs at h)
+
+pub copy-more : {A : Type 0} {xs ys : List A} {at : ℕ} (t : List A) (i : ℕ) (x : A) → length xs < 2 ^ 64 → at + length t ≤ length xs → i < length t → x ≡ get_or t i x
+    → Written xs at (take i t) ys (at + i) → Written xs at (take (i + 1) t) (set ys (at + i) x) (at + (i + 1))
+copy-more {ys = ys} {at} t i x g h k e w = written_one t i x g k e w (record { elements = refl; next = omega arith })
+
 -- ---- one element so many times
 
 same-last : {A : Type 0} (n : ℕ) (x : A) → replicate (n + 1) x ≡ replicate n x ++ (x ∷ [])

@@ -15,7 +15,7 @@ loop-place-preserved c =
     elim c.if-k-lt-MAX_CHAINS.branch [
       | then-k-lt-MAX_CHAINS w ↦
           rw (w.lists-is, w.count-is)
-          (omega (arith, v.0), search rules, lists-more _ _ _ _ _ _ _ c.told-notes c.loop-place-test.true w.if-k-lt-MAX_CHAINS.true (omega (arith, v.0, few)) w.list_of.ensures v.2)
+          (omega (arith, v.0), search rules, lists-more _ _ _ _ _ _ _ c.told-notes c.loop-place-test.true w.if-k-lt-MAX_CHAINS.true (omega (arith, v.0, few)) w.list_at.ensures v.2)
       | else-k-lt-MAX_CHAINS w ↦
           rw (w.lists-is, w.count-is) (omega (arith, v.0), v.1, lists-past _ _ _ _ _ c.told-notes c.loop-place-test.true w.if-k-lt-MAX_CHAINS.false v.2)
     ]
