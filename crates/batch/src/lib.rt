@@ -20,7 +20,7 @@ use forward::Answer;
 pub use sheet_frame::{Answered, Batch, Lined, Stage, put_titles};
 use sheet_frame::{Counts, answer_header, count_in, put_count_lines, put_head, put_unreadable};
 pub use sheet_input::keep;
-use sheet_input::{Column, Plan, cell_of, read_cut};
+use sheet_input::{Column, Plan, cell_under, read_cut};
 use sheet_output::{PAIRS, fill_pairs, put_rest, put_row_by};
 
 // The length of the line slice.
@@ -129,15 +129,15 @@ fn answer_cut(
     requires { Cut row.now starts.now cells × Pairs pairs.now }
     ensures { RowAnswered (request_of plan row.now) index.old out.old at index.new out.new result }
 {
-    let sn1 = cell_of(plan, row, cells, starts, Column::Sn1);
-    let sn2 = cell_of(plan, row, cells, starts, Column::Sn2);
-    let sn3 = cell_of(plan, row, cells, starts, Column::Sn3);
-    let sn4 = cell_of(plan, row, cells, starts, Column::Sn4);
+    let sn1 = cell_under(plan, row, cells, starts, Column::Sn1);
+    let sn2 = cell_under(plan, row, cells, starts, Column::Sn2);
+    let sn3 = cell_under(plan, row, cells, starts, Column::Sn3);
+    let sn4 = cell_under(plan, row, cells, starts, Column::Sn4);
     let Some(asked) = read_cut(plan, row, cells, starts, sn1, sn2, sn3, sn4) else {
         return put_unreadable(out, at);
     };
-    let class = cell_of(plan, row, cells, starts, Column::Class);
-    let tail = cell_of(plan, row, cells, starts, Column::Tail);
+    let class = cell_under(plan, row, cells, starts, Column::Class);
+    let tail = cell_under(plan, row, cells, starts, Column::Tail);
     if out.len().saturating_sub(at) < HEAD + LINE {
         return answer_apart(
             class,

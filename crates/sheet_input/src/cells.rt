@@ -1,11 +1,11 @@
 // The cells of a row, as lent bytes: a row is cut once, as `cutting` has it, and the cell of a column by the header's plan is then a part of
 // it. Every byte string is defined for. What it is, is said by specs/cells/Cells.antt.
-ghost use Rattle.std.specs.Prelude.{◌≡◌};
+ghost use Rattle.std.specs.Prelude.{◌≡◌, get_or};
 ghost use Rattle.sheet_input.specs.header.Header.{cells_of};
 ghost use Rattle.sheet_input.specs.cutting.Cut.{Cut};
 ghost use Rattle.sheet_input.specs.cells.Cells.{cell_at, cell_of};
 
-use super::header::{Column, Plan};
+use super::header::{COLUMNS, Column, Plan};
 
 // A cell by its place from 1, a part of the row, where its start is not kept; no bytes for the place 0 and past the last.
 fn cell_at(row: &[u8], place: usize) -> &[u8]
@@ -38,8 +38,26 @@ fn cell_in<'a>(row: &'a [u8], count: usize, starts: &[usize], place: usize) -> &
     &row[from..to]
 }
 
-// The cell of a column of a row that is cut, a part of the row.
+// The cell of a column of a row that is cut, by the column's number from 0, a part of the row; no bytes past the last column.
 pub fn cell_of<'a>(
+    plan: Plan,
+    row: &'a [u8],
+    count: usize,
+    starts: &[usize],
+    column: usize,
+) -> &'a [u8]
+    requires { Cut row.now starts.now count }
+    ensures { result.now ≡ cell_at (get_or plan.places column 0) (cells_of row.now) }
+{
+    if COLUMNS <= column {
+        return &row[0..0];
+    }
+    let place = plan.places[column];
+    cell_in(row, count, starts, place)
+}
+
+// The same by the column's name.
+pub fn cell_under<'a>(
     plan: Plan,
     row: &'a [u8],
     count: usize,

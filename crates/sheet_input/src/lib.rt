@@ -9,7 +9,7 @@ pub mod header;
 mod remnant;
 pub mod sheet;
 
-pub use cells::cell_of;
+pub use cells::{cell_of, cell_under};
 pub use cutting::{STARTS, cut, cut_line};
 pub use header::{COLUMNS, Column, Plan, plan_of};
 pub use remnant::keep;

@@ -5,7 +5,7 @@ ghost use Rattle.sheet_input.specs.cells.Cells.{sn_cells};
 ghost use Rattle.sheet_input.specs.cutting.Cut.{Cut};
 ghost use Rattle.sheet_input.specs.sheet.Sheet.{request_of, told};
 
-use super::cells::cell_of;
+use super::cells::cell_under;
 use super::cellwords::{Swap, swap_of, token_count};
 use super::header::{Column, Plan};
 
@@ -40,7 +40,7 @@ pub fn read_cut(
         return None;
     }
     let count = token_count(sn1, sn2, sn3, sn4);
-    let swap = swap_of(cell_of(plan, row, cells, starts, Column::Swap));
+    let swap = swap_of(cell_under(plan, row, cells, starts, Column::Swap));
     match swap {
         Swap::No => Some(Asked { swap: false, count }),
         Swap::Yes => Some(Asked { swap: true, count }),

@@ -2,7 +2,7 @@
 use Prim.Native.Nat.{ℕ, zero, suc, ◌+◌, ◌-◌, ◌≤◌, ◌<◌}
 use native.Mathlib.Numerals.{unary_clauses}
 use native.Mathlib.Omega.{arith}
-use mathlib.Core.Path.{◌≡◌, refl, sym, ap, ◌∙◌}
+use mathlib.Core.Path.{◌≡◌, refl, sym, ◌∙◌}
 use mathlib.Core.Bool.{cond}
 use mathlib.Core.List.{List, [], ◌∷◌}
 use lib.Dec.{eqb}
@@ -45,6 +45,11 @@ now-or None d e = e
 pub cell-split : (row : List ℕ) (place : ℕ) (o : Option (List ℕ)) → (place ≡ 0 → ⊥) → o ≡ slice_get (slice_split (λ x. eqb x 9) row) (place - 1)
     → unwrap_or o [] ≡ cell_at place (cells_of row)
 cell-split row place o z e = rw (e, split-parts 9 row) (unwrap_or-slice_get (cells_of row) (place - 1) [] ∙ cell-get row place z)
+
+-- a column past the last
+pub cell-left-out : (places row : List ℕ) (column : ℕ) → 7 ≤ column → length places ≡ 7 → take (0 - 0) row ≡ cell_at (get_or places column 0) (cells_of row)
+unfolding cell_at
+cell-left-out places row column g l = let w = get_or-eq_default places 0 {n = column} (omega arith) in rw w
 
 -- ---- a cell of a row that is cut
 
