@@ -2,8 +2,8 @@
 // adds to such arrays while they are lent to it, and counts beside them. A list or a segment is read whole before its counts are
 // judged, so a push never refuses: an array keeps what its limit allows, its count stops one past the limit, and `check_counts` answers 31 there.
 // What a record holds is said by specs/parsed/Parsed.antt.
-ghost use Rattle.std.specs.Prelude.{◌≡◌, ◌≤◌};
-ghost use Rattle.chain_record.specs.plain.Chain.{with_bond, with_group, with_ring, max_bonds};
+ghost use Rattle.std.specs.Prelude.{◌≡◌, ◌≤◌, length};
+ghost use Rattle.chain_record.specs.plain.Chain.{with_bond, with_group, with_ring, max_bonds, max_groups, max_rings};
 ghost use Rattle.chain_record.specs.parsed.Parsed.{Adds, Grows, first, bonds_as, groups_as, rings_as, checked};
 
 use super::plain::{ChainPrefix, DbPos, GROUP_ROOM, MAX_BONDS, MAX_GROUPS, MAX_RINGS, Mod, Ring};
@@ -48,23 +48,35 @@ fn push<T: Copy, const MOST: usize>(items: &mut [T; MOST], count: usize, item: T
 }
 
 // One double bond more; how many there are then.
-pub fn push_bond(bonds: &mut [DbPos; MAX_BONDS], count: usize, bond: DbPos) -> usize
+pub fn push_bond(bonds: &mut [DbPos], count: usize, bond: DbPos) -> usize
+    requires { max_bonds ≤ length bonds.old }
     ensures { Grows bonds_as (first count bonds.old) (first result bonds.new) (with_bond bond) }
 {
+    let Some(bonds) = bonds.first_chunk_mut::<MAX_BONDS>() else {
+        unreachable!()
+    };
     push(bonds, count, bond)
 }
 
 // One group more.
-pub fn push_group(groups: &mut [Mod; MAX_GROUPS], count: usize, group: Mod) -> usize
+pub fn push_group(groups: &mut [Mod], count: usize, group: Mod) -> usize
+    requires { max_groups ≤ length groups.old }
     ensures { Grows groups_as (first count groups.old) (first result groups.new) (with_group group) }
 {
+    let Some(groups) = groups.first_chunk_mut::<MAX_GROUPS>() else {
+        unreachable!()
+    };
     push(groups, count, group)
 }
 
 // One ring more.
-pub fn push_ring(rings: &mut [Ring; MAX_RINGS], count: usize, ring: Ring) -> usize
+pub fn push_ring(rings: &mut [Ring], count: usize, ring: Ring) -> usize
+    requires { max_rings ≤ length rings.old }
     ensures { Grows rings_as (first count rings.old) (first result rings.new) (with_ring ring) }
 {
+    let Some(rings) = rings.first_chunk_mut::<MAX_RINGS>() else {
+        unreachable!()
+    };
     push(rings, count, ring)
 }
 

@@ -1,10 +1,11 @@
 // The opening of a token: branch word, prefix and carbons, up to a chain that has nothing on it but the methyl of its branch word, which is
 // written to a lent array. Every byte string has an answer; carbons that are unreadable, or too few for the branch word, are refused by 11 and
 // too many by 31.
-ghost use Rattle.std.specs.Prelude.{◌≡◌, ◌≤◌};
+ghost use Rattle.std.specs.Prelude.{◌≡◌, ◌≤◌, length};
+ghost use Rattle.chain_record.specs.plain.Chain.{max_groups};
 ghost use Rattle.token_head.specs.opening.Opening.{Word, Prefixed, branch_length, branch_offset, prefix_length, sphingoid_of, Opened, Starts, branched, start_chain, carbons_of};
 
-use chain_record::{ChainPrefix, MAX_GROUPS, Mod, Refusal};
+use chain_record::{ChainPrefix, Mod, Refusal};
 use group_table::METHYL;
 
 // The branch word before the carbons.
@@ -174,9 +175,10 @@ fn branched_chain(
     prefix: ChainPrefix,
     offset: u16,
     written: u16,
-    groups: &mut [Mod; MAX_GROUPS],
+    groups: &mut [Mod],
 ) -> Result<Start, Refusal>
-    requires { offset ≤ 2 }
+    requires offset_bound { offset ≤ 2 }
+    requires max_groups_in_bounds { max_groups ≤ length groups.old }
     ensures { Starts result groups.new (branched prefix offset written) }
 {
     if written < offset + 3 {
@@ -202,8 +204,9 @@ fn start_chain(
     prefix: ChainPrefix,
     branch: Branch,
     written: u16,
-    groups: &mut [Mod; MAX_GROUPS],
+    groups: &mut [Mod],
 ) -> Result<Start, Refusal>
+    requires { max_groups ≤ length groups.old }
     ensures { Starts result groups.new (start_chain prefix branch written) }
 {
     let offset = branch_offset(branch);
@@ -225,8 +228,9 @@ pub fn parse_carbons(
     text: &[u8],
     prefix: ChainPrefix,
     branch: Branch,
-    groups: &mut [Mod; MAX_GROUPS],
+    groups: &mut [Mod],
 ) -> Result<Start, Refusal>
+    requires { max_groups ≤ length groups.old }
     ensures { Starts result groups.new (carbons_of prefix branch text.now) }
 {
     let Some(n) = scanner::read_number(text, 4294967295) else {

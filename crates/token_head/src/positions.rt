@@ -1,11 +1,12 @@
 // Lists of double bonds, `9Z,12E`: the `(..)` list after a chain's bond count, and the list of a ring. Every byte string has an answer; an
 // unreadable list is refused by 11, and how many bonds a chain may have is judged by their count afterwards. 01's sentences stand in
 // specs/positions/Positions.antt.
-ghost use Rattle.std.specs.Prelude.{◌≡◌};
+ghost use Rattle.std.specs.Prelude.{◌≡◌, ◌≤◌, length};
+ghost use Rattle.chain_record.specs.plain.Chain.{max_bonds};
 ghost use Rattle.chain_record.specs.parsed.Parsed.{Pushes, bonds_as};
 ghost use Rattle.token_head.specs.positions.Positions.{geometry_of, numbered, position_of, bond_list, ring_position, ring_bond_list};
 
-use chain_record::{DbPos, Geometry, MAX_BONDS, Refusal};
+use chain_record::{DbPos, Geometry, Refusal};
 
 // What the last letter of a position states.
 fn geometry_of(b: u8) -> Geometry
@@ -76,9 +77,10 @@ pub fn parse_ring_bonds(
     s: &[u8],
     start: u64,
     end: u64,
-    bonds: &mut [DbPos; MAX_BONDS],
+    bonds: &mut [DbPos],
     count: usize,
 ) -> Result<usize, Refusal>
+    requires { max_bonds ≤ length bonds.old }
     ensures { Pushes bonds_as count bonds.old result bonds.new (ring_bond_list start end s.now) }
 {
     if s.len() == 0 {
@@ -100,11 +102,8 @@ pub fn parse_ring_bonds(
 }
 
 // The double bonds of the `(..)` list: every number that can be read is below 4,294,967,296, so none is out of range.
-pub fn parse_position_list(
-    s: &[u8],
-    bonds: &mut [DbPos; MAX_BONDS],
-    count: usize,
-) -> Result<usize, Refusal>
+pub fn parse_position_list(s: &[u8], bonds: &mut [DbPos], count: usize) -> Result<usize, Refusal>
+    requires { max_bonds ≤ length bonds.old }
     ensures { Pushes bonds_as count bonds.old result bonds.new (bond_list s.now) }
 {
     parse_ring_bonds(s, 0, 4294967296, bonds, count)

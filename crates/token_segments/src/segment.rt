@@ -1,7 +1,8 @@
 // The segments of a token, `;[8-12cy5;11OH;9oxo];15OH`, read into lent arrays of double bonds, groups and rings. Every byte string has an
 // answer: the counts with what the segments add, 11 at the first piece that cannot be read, or 31 after the first segment that puts a count
 // over its limit. 01's sentences stand in specs/segment/Segment.antt.
-ghost use Rattle.std.specs.Prelude.{[]};
+ghost use Rattle.std.specs.Prelude.{◌≤◌, [], length};
+ghost use Rattle.chain_record.specs.plain.Chain.{max_bonds, max_groups, max_rings};
 ghost use Rattle.chain_record.specs.parsed.Parsed.{Grows, Pushes, Collects, first, gather, groups_as, unbonded_as, all_as, on};
 ghost use Rattle.token_segments.specs.segment.Segment.{copies, many_times, with_segment, listed_at, plain_list, listed_feature, listed_segment, comma_parts, modification, segment_at, segments};
 
@@ -214,8 +215,8 @@ fn parse_segment(
     chain_record::check_counts(more)
 }
 
-// All segments of a chain of so many carbons: what follows a token's bond count and its `(..)` list.
-pub fn parse_segments(
+// All segments, one after the other.
+fn read_segments(
     cursor: &[u8],
     carbon: u16,
     bonds: &mut [DbPos; MAX_BONDS],
@@ -237,4 +238,30 @@ pub fn parse_segments(
         }
         at = segment.next;
     }
+}
+
+// All segments of a chain of so many carbons: what follows a token's bond count and its `(..)` list.
+pub fn parse_segments(
+    cursor: &[u8],
+    carbon: u16,
+    bonds: &mut [DbPos],
+    groups: &mut [Mod],
+    rings: &mut [Ring],
+    counts: Counts,
+) -> Result<Counts, Refusal>
+    requires max_bonds_in_bounds { max_bonds ≤ length bonds.old }
+    requires max_groups_in_bounds { max_groups ≤ length groups.old }
+    requires max_rings_in_bounds { max_rings ≤ length rings.old }
+    ensures { Collects (on carbon all_as) (gather counts bonds.old groups.old rings.old) result bonds.new groups.new rings.new (segments cursor.now) }
+{
+    let Some(bond_room) = bonds.first_chunk_mut::<MAX_BONDS>() else {
+        unreachable!()
+    };
+    let Some(group_room) = groups.first_chunk_mut::<MAX_GROUPS>() else {
+        unreachable!()
+    };
+    let Some(ring_room) = rings.first_chunk_mut::<MAX_RINGS>() else {
+        unreachable!()
+    };
+    read_segments(cursor, carbon, bond_room, group_room, ring_room, counts)
 }

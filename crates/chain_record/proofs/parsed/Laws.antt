@@ -6,8 +6,8 @@ use native.Mathlib.Omega.{arith}
 use mathlib.Core.Path.{◌≡◌, refl, sym, ap, ◌∙◌}
 use mathlib.Core.Bool.{Bool, true, false, cond}
 use mathlib.Core.List.{List, [], ◌∷◌, ◌++◌}
-use lib.ListN.{length, take, set, length-append}
-use lib.Seq.{take-suc-set, take_all, take-append-le}
+use lib.ListN.{length, take, set, length-append, length-take}
+use lib.Seq.{take-suc-set, take_all, take-append-le, take-take}
 use lib.Dec.{ltb}
 use borrow.Author.Tests.{lt-ltb, le-ltb, ltb-true, ltb-false}
 use Rattle.chain_record.specs.declared.plain.ChainPrefix.{ChainPrefix}
@@ -21,7 +21,7 @@ use Rattle.std.specs.Prelude.{Result, Ok, Err}
 use Rattle.std.specs.Result.{IsErrAnd}
 use Rattle.chain_record.specs.declared.refusal.Refusal.{Refusal}
 use Rattle.chain_record.specs.declared.refusal.Refusal.TheVariants.{OverLimit}
-use Rattle.chain_record.specs.parsed.Parsed.{Keeps, Adds, Holds, Answer, Has, Refuses, answered, Stands, Takes, Gives, first, bonds_as, groups_as, rings_as, counts_as, gather, all_as, ungrouped_as, unbonded_as, carbon_as, on, Grows, Fills, counted, Judges, Collects, checked}
+use Rattle.chain_record.specs.parsed.Parsed.{Keeps, Adds, Holds, Answer, Has, Refuses, answered, Stands, Takes, Gives, first, bonds_as, groups_as, rings_as, counts_as, gather, all_as, ungrouped_as, unbonded_as, carbon_as, on, Grows, Fills, counted, collected, Judges, Collects, checked}
 
 -- ---- one element more in an array
 
@@ -56,6 +56,33 @@ module _ {A : Type 0} (limit : ℕ) (xs : List A) (n : ℕ) (v : A) where
   pub adds-full : limit ≤ n → Adds limit (first n xs) (first (limit + 1) xs) v
   adds-full h = record { keeps = λ l k. keeps-full l k h }
 
+-- ---- in arrays with more room than the limit
+
+-- what an array keeps, it keeps with more behind it
+keeps-longer : {A : Type 0} (limit : ℕ) (xs us : List A) (n : ℕ) (l : List A) → Keeps limit xs n l → Keeps limit (xs ++ us) n l
+keeps-longer limit xs us n l k =
+    let e : length (take (min n limit) xs) ≡ length (take limit l) = ap length k.kept in
+    let h : min n limit ≤ length xs = omega (arith, e, length-take (min n limit) xs, length-take limit l, k.counted) in
+    record { counted = k.counted; kept = take-append-le (min n limit) xs us h ∙ k.kept }
+
+-- and with no more than as many places as the limit
+keeps-first : {A : Type 0} (limit : ℕ) (xs : List A) (n : ℕ) (l : List A) → Keeps limit xs n l → Keeps limit (take limit xs) n l
+keeps-first limit xs n l k = record { counted = k.counted; kept = take-take (min n limit) limit xs (omega arith) ∙ k.kept }
+
+-- what is added in the first places xs of a room is added in the room
+adds-first : {A : Type 0} (limit : ℕ) (room xs ys us : List A) (n m : ℕ) (v : A) → xs ≡ take limit room → Adds limit (first n xs) (first m ys) v → Adds limit (first n room) (first m (ys ++ us)) v
+adds-first limit room xs ys us n m v e a =
+    record { keeps = λ l k. keeps-longer limit ys us m (l ++ (v ∷ [])) (a.keeps l (rw e (keeps-first limit room n l k))) }
+
+-- the same of the three arrays of a record
+pub holds-longer : (c : ParsedChain) (d : Chain) (bs : List DbPos) (gs : List Mod) (rs : List Ring) → Holds c d → Holds (record c { bonds = c.bonds ++ bs; groups = c.groups ++ gs; rings = c.rings ++ rs }) d
+holds-longer c d bs gs rs k =
+    record { prefix = k.prefix; written = k.written; carbon = k.carbon; branched = k.branched; unlocated = k.unlocated; oxygens = k.oxygens; bonds = keeps-longer max_bonds c.bonds bs c.bond_count d.bonds k.bonds; groups = keeps-longer max_groups c.groups gs c.group_count d.groups k.groups; rings = keeps-longer max_rings c.rings rs c.ring_count d.rings k.rings }
+
+holds-first : (c : ParsedChain) (d : Chain) → Holds c d → Holds (record c { bonds = take max_bonds c.bonds; groups = take max_groups c.groups; rings = take max_rings c.rings }) d
+holds-first c d k =
+    record { prefix = k.prefix; written = k.written; carbon = k.carbon; branched = k.branched; unlocated = k.unlocated; oxygens = k.oxygens; bonds = keeps-first max_bonds c.bonds c.bond_count d.bonds k.bonds; groups = keeps-first max_groups c.groups c.group_count d.groups k.groups; rings = keeps-first max_rings c.rings c.ring_count d.rings k.rings }
+
 module _ {A : Type 0} {limit : ℕ} {xs : List A} {n : ℕ} {l : List A} (k : Keeps limit xs n l) where
   -- a count over the limit is a list over the limit
   pub keeps-over : limit < n → limit < length l
@@ -75,20 +102,23 @@ module _ {A : Type 0} {limit : ℕ} {xs : List A} {n : ℕ} {l : List A} (k : Ke
 
 -- ---- one feature more on a chain
 
-pub bond-grows : (xs ys : List DbPos) (n m : ℕ) (v : DbPos) → Adds 32 (first n xs) (first m ys) v → Grows bonds_as (first n xs) (first m ys) (with_bond v)
+pub bond-grows : (room xs ys us : List DbPos) (n m : ℕ) (v : DbPos) → xs ≡ take 32 room → Adds 32 (first n xs) (first m ys) v → Grows bonds_as (first n room) (first m (ys ++ us)) (with_bond v)
 unfolding with_bond
-bond-grows xs ys n m v a =
-    record { takes = λ x. record { holds = λ d k. record { prefix = k.prefix; written = k.written; carbon = k.carbon; branched = k.branched; unlocated = k.unlocated; oxygens = k.oxygens; bonds = a.keeps d.bonds k.bonds; groups = k.groups; rings = k.rings } } }
+bond-grows room xs ys us n m v e a =
+    let w = adds-first 32 room xs ys us n m v e a in
+    record { takes = λ x. record { holds = λ d k. record { prefix = k.prefix; written = k.written; carbon = k.carbon; branched = k.branched; unlocated = k.unlocated; oxygens = k.oxygens; bonds = w.keeps d.bonds k.bonds; groups = k.groups; rings = k.rings } } }
 
-pub group-grows : (xs ys : List Mod) (n m : ℕ) (v : Mod) → Adds 16 (first n xs) (first m ys) v → Grows groups_as (first n xs) (first m ys) (with_group v)
+pub group-grows : (room xs ys us : List Mod) (n m : ℕ) (v : Mod) → xs ≡ take 16 room → Adds 16 (first n xs) (first m ys) v → Grows groups_as (first n room) (first m (ys ++ us)) (with_group v)
 unfolding with_group
-group-grows xs ys n m v a =
-    record { takes = λ x. record { holds = λ d k. record { prefix = k.prefix; written = k.written; carbon = k.carbon; branched = k.branched; unlocated = k.unlocated; oxygens = k.oxygens; bonds = k.bonds; groups = a.keeps d.groups k.groups; rings = k.rings } } }
+group-grows room xs ys us n m v e a =
+    let w = adds-first 16 room xs ys us n m v e a in
+    record { takes = λ x. record { holds = λ d k. record { prefix = k.prefix; written = k.written; carbon = k.carbon; branched = k.branched; unlocated = k.unlocated; oxygens = k.oxygens; bonds = k.bonds; groups = w.keeps d.groups k.groups; rings = k.rings } } }
 
-pub ring-grows : (xs ys : List Ring) (n m : ℕ) (v : Ring) → Adds 8 (first n xs) (first m ys) v → Grows rings_as (first n xs) (first m ys) (with_ring v)
+pub ring-grows : (room xs ys us : List Ring) (n m : ℕ) (v : Ring) → xs ≡ take 8 room → Adds 8 (first n xs) (first m ys) v → Grows rings_as (first n room) (first m (ys ++ us)) (with_ring v)
 unfolding with_ring
-ring-grows xs ys n m v a =
-    record { takes = λ x. record { holds = λ d k. record { prefix = k.prefix; written = k.written; carbon = k.carbon; branched = k.branched; unlocated = k.unlocated; oxygens = k.oxygens; bonds = k.bonds; groups = k.groups; rings = a.keeps d.rings k.rings } } }
+ring-grows room xs ys us n m v e a =
+    let w = adds-first 8 room xs ys us n m v e a in
+    record { takes = λ x. record { holds = λ d k. record { prefix = k.prefix; written = k.written; carbon = k.carbon; branched = k.branched; unlocated = k.unlocated; oxygens = k.oxygens; bonds = k.bonds; groups = k.groups; rings = w.keeps d.rings k.rings } } }
 
 -- nothing on it yet, whatever the arrays are
 pub holds-none : (p : ChainPrefix) (w c : ℕ) (b : Bool) (bs : List DbPos) (gs : List Mod) (rs : List Ring)
@@ -271,3 +301,15 @@ module _ (carbon : ℕ) (k : Counts) (bs : List DbPos) (gs : List Mod) (rs : Lis
       go : (r : Result Counts Refusal) → Judges k r f → Collects (on carbon all_as) (gather k bs gs rs) r bs gs rs f
       go (Ok j) w = record { gives = λ x. w.gives (all_as (carbon_as x carbon) (gather k bs gs rs)) }
       go (Err n) w = record { gives = λ x. w.gives (all_as (carbon_as x carbon) (gather k bs gs rs)) }
+
+  -- what is collected in the first places of each array is collected in the arrays
+  pub first-all : (xs ys us : List DbPos) (hs js vs : List Mod) (zs ks ws : List Ring) → xs ≡ take 32 bs → hs ≡ take 16 gs → zs ≡ take 8 rs
+      → Collects (on carbon all_as) (gather k xs hs zs) r ys js ks f → Collects (on carbon all_as) (gather k bs gs rs) r (ys ++ us) (js ++ vs) (ks ++ ws) f
+  first-all xs ys us hs js vs zs ks ws e g h w =
+      record { gives = λ x. record { stands = λ d u. go x r (f d) ((w.gives x).stands d (rw (e, g, h) (holds-first (on carbon all_as x (gather k bs gs rs)) d u))) } }
+    where
+      go : (x : ParsedChain) (r : Result Counts Refusal) (o : Outcome) → Stands (answered (on carbon all_as x) (collected r ys js ks)) o
+          → Stands (answered (on carbon all_as x) (collected r (ys ++ us) (js ++ vs) (ks ++ ws))) o
+      go x (Ok j) (Read d) u = holds-longer (on carbon all_as x (gather j ys js ks)) d us vs ws u
+      go x (Ok j) (Refused n) u = u
+      go x (Err n) o u = u

@@ -1,6 +1,6 @@
 -- Laws of the token reader: one for each way out of its functions.
 -- Assumes nothing.
-use Prim.Native.Nat.{ℕ, ◌+◌, ◌-◌, ◌≤◌, ◌<◌, min}
+use Prim.Native.Nat.{ℕ, ◌+◌, ◌-◌, ◌≤◌, ◌<◌}
 use native.Mathlib.Nat.{sub-zero}
 use native.Mathlib.Omega.{arith}
 use native.Mathlib.Decide.{ℕ_discrete}
@@ -10,7 +10,6 @@ use mathlib.Core.Path.{◌≡◌, refl, sym, ap, ◌∙◌}
 use mathlib.Core.Bool.{Bool, true, false, not, cond}
 use mathlib.Core.List.{List, [], ◌∷◌, ◌++◌}
 use lib.ListN.{length, take, drop, get_or, length-take}
-use lib.Seq.{take-append-le}
 use lib.Dec.{eqb, leb}
 use borrow.Author.Tests.{lt-ltb, le-ltb, eq-eqb, ne_eqb, not-true, not-false}
 use Rattle.scanner.specs.scan.Part.{trimmed, index_of, starts_with, same_bytes, Place}
@@ -29,7 +28,7 @@ use Rattle.chain_record.specs.declared.refusal.Refusal.{Refusal}
 use Rattle.chain_record.specs.declared.refusal.Refusal.TheVariants.{OverLimit, Unreadable}
 use Rattle.chain_record.specs.refusal.Refusal.{number_of}
 use Rattle.chain_record.specs.parsed.Parsed.{Keeps, answered, Stands, bonds_as, carbon_as, gather, all_as, on, Pushes, Collects, Judges, checked}
-use Rattle.chain_record.proofs.parsed.Laws.{err_kept, keeps-within, keeps-all, holds-none, checked-judges, checked-read, stands_read, stands-refused, fills-refused, fills_same, fills-stop, fills-then}
+use Rattle.chain_record.proofs.parsed.Laws.{err_kept, keeps-within, keeps-all, holds-none, holds-longer, checked-judges, checked-read, stands_read, stands-refused, fills-refused, fills_same, fills-stop, fills-then}
 use Rattle.token_reader.specs.seats.Seats.{positions, Seated}
 use Rattle.token_head.specs.positions.Positions.{bond_list}
 use Rattle.token_head.specs.declared.opening.Branch.{Branch}
@@ -42,7 +41,7 @@ use Rattle.std.specs.Prelude.{Option, Some, None}
 use Rattle.token_reader.specs.token.Token.{missing_of, bare_oxygens, finished, rest_of, counted_list, listed_of, after_count, bonds_of, named_chain, empty_text, trimmed_of, printable, all_printable, token_of}
 use Rattle.token_reader.specs.declared.token.Ending.{Ending}
 use Rattle.token_reader.specs.declared.token.ReadChain.{ReadChain}
-use Rattle.token_reader.specs.token.Lent.{token_as, bonds_in, Bare, ending_as, Finishes, listed_as, FewBonds, ListIs, tell, telling_as, told, Ends, empty_chain, ended_as, Tells, token_in}
+use Rattle.token_reader.specs.token.Lent.{chain_as, token_as, bonds_in, Bare, ending_as, Finishes, listed_as, FewBonds, ListIs, tell, telling_as, told, Ends, empty_chain, ended_as, Tells, token_in}
 
 -- ---- bytes
 
@@ -351,17 +350,9 @@ module _ (s : List ℕ) (bs : List DbPos) (gs : List Mod) (rs : List Ring) where
 
 -- ---- in arrays of any length
 
--- what an array keeps, it keeps with more behind it
-keeps-longer : {A : Type 0} (limit : ℕ) (xs us : List A) (n : ℕ) (l : List A) → Keeps limit xs n l → Keeps limit (xs ++ us) n l
-keeps-longer limit xs us n l k =
-    let e : length (take (min n limit) xs) ≡ length (take limit l) = ap length k.kept in
-    let h : min n limit ≤ length xs = omega (arith, e, length-take (min n limit) xs, length-take limit l, k.counted) in
-    record { counted = k.counted; kept = take-append-le (min n limit) xs us h ∙ k.kept }
-
 stands-longer : (r : Result ReadChain Refusal) (bs : List DbPos) (gs : List Mod) (rs : List Ring) (xs : List DbPos) (hs : List Mod) (zs : List Ring) (o : Outcome)
     → Stands (token_as r bs gs rs) o → Stands (token_as r (bs ++ xs) (gs ++ hs) (rs ++ zs)) o
-stands-longer (Ok r) bs gs rs xs hs zs (Read d) k =
-    record { prefix = k.prefix; written = k.written; carbon = k.carbon; branched = k.branched; unlocated = k.unlocated; oxygens = k.oxygens; bonds = keeps-longer max_bonds bs xs r.counts.bonds d.bonds k.bonds; groups = keeps-longer max_groups gs hs r.counts.groups d.groups k.groups; rings = keeps-longer max_rings rs zs r.counts.rings d.rings k.rings }
+stands-longer (Ok r) bs gs rs xs hs zs (Read d) k = holds-longer (chain_as r bs gs rs) d xs hs zs k
 stands-longer (Ok r) bs gs rs xs hs zs (Refused n) k = k
 stands-longer (Err n) bs gs rs xs hs zs (Read d) k = k
 stands-longer (Err n) bs gs rs xs hs zs (Refused m) k = k

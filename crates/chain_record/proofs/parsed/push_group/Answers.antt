@@ -2,4 +2,4 @@ use Rattle.chain_record.proofs.parsed.Laws.{group-grows}
 use Rattle.chain_record.proofs.parsed.push_group.Goals as goal
 
 pub returns : goal.returns
-returns c = search group-grows
+returns c = search (group-grows, c.in-Some.ensures)

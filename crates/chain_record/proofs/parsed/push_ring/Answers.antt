@@ -2,4 +2,4 @@ use Rattle.chain_record.proofs.parsed.Laws.{ring-grows}
 use Rattle.chain_record.proofs.parsed.push_ring.Goals as goal
 
 pub returns : goal.returns
-returns c = search ring-grows
+returns c = search (ring-grows, c.in-Some.ensures)
