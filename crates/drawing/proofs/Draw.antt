@@ -97,4 +97,4 @@ long-room = record { room = λ ds w. omega (arith, w.index, w.tokens) }
 -- room for four chains of which none is long
 pub slight-room : {c : Class} {t : List ℕ} {k count : ℕ} {ns : List Shape} (l : List drawn.Lists) → Slight 30 count ns → IndexRoom c t k (chains_kept count ns l) 128
 slight-room {c} {t} {k} {count} {ns} l h =
-    record { room = λ ds w. omega (arith, w.lists 30 (all-each (λ p. p.chain.carbon ≤ 30) (placed c t ds) (slight-placed 30 c t ds count ns l w.own.stood w.roomed h)), w.tokens) }
+    record { room = λ ds w. omega (arith, w.lists 30 (all-each (λ p. p.chain.carbon ≤ 30) (placed c t ds) (slight-placed 30 c t ds count ns l w.own.stood h)), w.tokens) }

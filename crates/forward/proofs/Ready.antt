@@ -6,16 +6,10 @@ use native.Mathlib.Omega.{arith}
 use mathlib.Core.Path.{◌≡◌, sym, ap, ◌∙◌}
 use mathlib.Core.Bool.{true}
 use mathlib.Core.List.{List, [], ◌∷◌}
-use lib.Dec.{eqb}
 use Rattle.chain_record.specs.plain.Chain.{Chain}
 use Rattle.tail_grammar.specs.tail.Grammar.{is_tail, atoms_of_tail}
 use Rattle.tail_grammar.proofs.tail.Atoms.{tail-part-atoms, tail-part-shows}
-use Rattle.chain_record.proofs.plain.Sound.{Sound}
-use Rattle.chain_rules.specs.declared.chain.Role.{Role}
-use Rattle.chain_rules.specs.chain.Features.{unlocated, floating}
 use Rattle.chain_rules.specs.chain.Drawing.{or_none}
-use Rattle.chain_rules.proofs.chain.Fits.{groups-table}
-use Rattle.drawn_chain.proofs.drawable.Lists.{length-only}
 use Rattle.drawn_chain.specs.drawable.Drawn.{Drawn}
 use Rattle.drawn_chain.specs.drawable.Chains.{Chains, drawn_in}
 use Rattle.template_rules.specs.declared.Class.{Class}
@@ -29,8 +23,7 @@ use Rattle.placement.specs.chain_notes.Fragment.{Stands}
 use Rattle.placement.proofs.chain_notes.Ready.{stands-carried, told}
 use Rattle.class_templates.specs.Templates.{TailOf}
 use Rattle.class_templates.specs.Classes.{StoodIn}
-use Rattle.class_templates.proofs.Fits.{fine-at, fits-class}
-use Rattle.class_lines.specs.longest.Covered.{Roomed, AllRoomed}
+use Rattle.class_templates.proofs.Fits.{fits-class}
 use Rattle.chain_rules.proofs.chain.Lists.{each_all}
 use Rattle.class_lines.proofs.lines.Room.{places-most, index-room, carbons-few, rows-room}
 use Rattle.judge.specs.Judged.{DrawsAll, none as no_chains, more, Drawing}
@@ -61,15 +54,6 @@ stood c ds x k a = record { stands = go }
     go zero f h = none-stands c (drawn_in x) ds f h.is
     go (suc i) f h = let e : 1 + i ≡ suc i = omega arith in rw e at (nth-stands k.drawn a i f h.is)
 
--- ---- its groups have room
-
-roomed : (c : Class) (ds : List Chain) → AcceptsFrom (role_of c) 1 ds → AllRoomed (role_of c) ds
-unfolding floating unlocated
-roomed c ds a = record { each = λ sn d e. go (role_of c sn) d (fine-at [] ds (role_of c) a sn d e).sound }
-  where
-    go : (r : Role) (d : Chain) → Sound d → Roomed r d
-    go r d s = record { groups = (groups-table r d s).1; floats = omega (arith, length-only (λ g. eqb g.pos 0) d.groups, s.within.groups) }
-
 -- ---- the tail
 
 tail_of : (c : Class) (t : List ℕ) (ds : List Chain) (k : ℕ) → Accepted c t ds → (has_tail c ≡ true → is_tail t ≡ true) → k ≡ atoms_of_tail t → has_tail c ≡ true → TailOf t k
@@ -85,7 +69,6 @@ pub ready : (c : Class) (t : List ℕ) (ds : List Chain) (k : ℕ) (x : Chains) 
 ready c t ds k x a h d e =
     record {
       own = record { tail = tail_of c t ds k a h e; stood = stood c ds x d a.chains; fits = fits-class c t ds a.chains (λ q. (tail-fits t (a.tail q)).few) };
-      roomed = roomed c ds a.chains;
       told = told c t ds a;
       tokens = d.few;
       few = omega (arith, places-most c t ds a, d.counted);

@@ -88,7 +88,7 @@ pub ample : {t : List ℕ} {k count : ℕ} {ns : List Shape} {r n m : ℕ} → C
 ample {t} {n = n} {m} h e f =
     record {
       long = λ c swap l ds w.
-          long-enough c swap t ds n m (omega (arith, f, h.covers c swap ds l w.own.tail w.own.stood w.roomed w.told)) (omega (arith, e, index-length c t ds, w.index, w.tokens));
+          long-enough c swap t ds n m (omega (arith, f, h.covers c swap ds l w.own.tail w.own.stood w.told)) (omega (arith, e, index-length c t ds, w.index, w.tokens));
     }
 
 -- for any with chains of which none is long

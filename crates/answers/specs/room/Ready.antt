@@ -6,20 +6,17 @@ use Rattle.drawn_chain.specs.declared.rooms.Lists.{Lists}
 use Rattle.drawn_chain.specs.drawable.Chains.{Chains}
 use Rattle.request_chains.specs.chain_shapes.Shapes.{chains_kept}
 use Rattle.template_rules.specs.declared.Class.{Class}
-use Rattle.template_rules.specs.Template.{role_of}
 use Rattle.template_rules.specs.Drawn.{placed}
 use Rattle.template_rules.specs.Written.{indices_of}
 use Rattle.chain_rules.specs.chain.Lists.{Each}
 use Rattle.placement.specs.chain_notes.Fragment.{rows_of, gathered, Told}
 use Rattle.class_templates.specs.Classes.{InClass}
-use Rattle.class_lines.specs.longest.Covered.{AllRoomed}
 use Rattle.answers.specs.answer.Answer.{short}
 
--- the chains ds of a class are x, with their tail of k atoms, and have no more groups than their lists have room for; there are no more of them
--- than tokens, with at most so many floating groups, and no more indices than carbons
+-- the chains ds of a class are x, with their tail of k atoms; there are no more of them than tokens, with at most so many floating groups, and no
+-- more indices than carbons
 pub record Ready (c : Class) (t : List ℕ) (k : ℕ) (x : Chains) (ds : List Chain) : Type 0 where
   pub own : InClass c t k x ds
-  pub roomed : AllRoomed (role_of c) ds
   pub told : Each Told (placed c t ds)
   pub tokens : x.count ≤ 4
   pub few : length (placed c t ds) ≤ x.count

@@ -6,7 +6,7 @@ use mathlib.Core.Path.{◌≡◌, refl, sym, ap}
 use mathlib.Core.Bool.{Bool, true, false}
 use mathlib.Core.Option.{Option, none, some}
 use mathlib.Core.List.{List, [], ◌∷◌}
-use lib.ListN.{length, take, drop, get_or, length-take}
+use lib.ListN.{length, take, drop, get_or}
 use lib.Dec.{ltb}
 use borrow.Author.Tests.{ltb-true, ltb-false}
 use Rattle.std.proofs.lemmas.List.{get_or_past}
@@ -22,6 +22,7 @@ use Rattle.drawn_chain.specs.declared.rooms.Lists.{Lists}
 use Rattle.drawn_chain.specs.declared.rooms.TheConstants.{NO_LISTS}
 use Rattle.drawn_chain.specs.drawable.Drawn.{Drawn, drawn_of}
 use Rattle.drawn_chain.specs.drawable.Chains.{drawn_in, items_of}
+use Rattle.drawn_chain.proofs.drawable.Parts.{groups-few, floats-few}
 use Rattle.request_chains.specs.chain_shapes.Shapes.{no_shape, chains_kept}
 use Rattle.template_rules.specs.declared.Class.{Class}
 use Rattle.template_rules.specs.Template.{Element, fixed, tail, slot, chain, elements, role_of, has_tail}
@@ -34,7 +35,7 @@ use Rattle.placement.specs.chain_notes.Fragment.{Carries, Stood}
 use Rattle.class_templates.specs.Templates.{TailOf}
 use Rattle.class_templates.specs.Classes.{StoodIn}
 use Rattle.class_lines.specs.longest.Longest.{text_most, drawn_most, sites_most, numbers_most, chain_most, chain_most_of, most_at, line_most}
-use Rattle.class_lines.specs.longest.Covered.{Roomed, AllRoomed, shape_most, ChainCovered, Covered, SlightShape, SlightAt, Slight, SlightCovered}
+use Rattle.class_lines.specs.longest.Covered.{shape_most, ChainCovered, Covered, SlightShape, SlightAt, Slight, SlightCovered}
 use Rattle.class_lines.proofs.longest.Chains.{Modest}
 use Rattle.class_lines.proofs.longest.Line.{line-most}
 
@@ -46,16 +47,19 @@ numbers_more c u g f q g' f' q' a b e = omega (arith, mul-le-mul_right (14 + 6 *
 
 -- ---- a chain by its numbers
 
-module _ (r : Role) (d : Chain) (x : Shape) (l : Lists) (h : Carries r d (drawn_of x l)) (g : Roomed r d) where
-  floats-few : length (floating d) ≤ min x.float_count 18
-  floats-few = omega (arith, ap length h.draws.floats, g.floats, length-take x.float_count l.floats)
+module _ (r : Role) (d : Chain) (x : Shape) (l : Lists) (h : Carries r d (drawn_of x l)) where
+  groups-held : length (groups_on r d) ≤ 18
+  groups-held = omega (arith, ap length h.draws.groups, groups-few x l)
+
+  floats-held : length (floating d) ≤ min x.float_count 18
+  floats-held = omega (arith, ap length h.draws.floats, floats-few x l)
 
   modest : Modest r d
   modest =
       record {
         drawn = h.drawn;
-        groups = g.groups;
-        floats = g.floats;
+        groups = groups-held;
+        floats = omega (arith, floats-held);
         unlocated = h.bonds;
         carbon = omega (arith, h.readable.carbons);
       }
@@ -64,7 +68,7 @@ module _ (r : Role) (d : Chain) (x : Shape) (l : Lists) (h : Carries r d (drawn_
   unfolding chain_most shape_most
   chain-covered =
       rw (h.draws.carbon, h.draws.unlocated)
-      (numbers_more d.carbon d.unlocated (length (groups_on r d)) (length (floating d)) (length d.rings) 18 (min x.float_count 18) 8 g.groups floats-few h.rings)
+      (numbers_more d.carbon d.unlocated (length (groups_on r d)) (length (floating d)) (length d.rings) 18 (min x.float_count 18) 8 groups-held floats-held h.rings)
 
 -- ---- the chain of an sn
 
@@ -91,7 +95,7 @@ record Numbered (ns : List Shape) (count i : ℕ) (r : Role) (d : Chain) : Type 
   covered : chain_most r d ≤ shape_most (get_or ns i no_shape)
   carbon : d.carbon ≡ (get_or ns i no_shape).carbon
 
-module _ (ρ : ℕ → Role) (ds : List Chain) (count : ℕ) (ns : List Shape) (l : List Lists) (h : Stood ρ ds (chains_kept count ns l)) (room : AllRoomed ρ ds) where
+module _ (ρ : ℕ → Role) (ds : List Chain) (count : ℕ) (ns : List Shape) (l : List Lists) (h : Stood ρ ds (chains_kept count ns l)) where
   told : (i : ℕ) (d : Chain) → nonempty (suc i) ds ≡ some d → Numbered ns count i (ρ (suc i)) d
   unfolding drawn_in
   told i d e = go (drawn_at (suc i) (take count (items_of ns l))) refl (picked ns count i l)
@@ -109,7 +113,7 @@ module _ (ρ : ℕ → Role) (ds : List Chain) (count : ℕ) (ns : List Shape) (
       go (some y) q p =
           let x = get_or ns i no_shape in
           let z : Carries r d (drawn_of x p.1.0) = carried (drawn_of x p.1.0) (rw q (sym p.1.1)) in
-          record { counted = p.0; modest = modest r d x p.1.0 z (room.each (suc i) d e); covered = chain-covered r d x p.1.0 z (room.each (suc i) d e); carbon = sym z.draws.carbon }
+          record { counted = p.0; modest = modest r d x p.1.0 z; covered = chain-covered r d x p.1.0 z; carbon = sym z.draws.carbon }
 
   -- an sn is never 0
   no-chain : (ds : List Chain) (d : Chain) → nonempty zero ds ≡ some d → ⊥
@@ -129,11 +133,11 @@ module _ (ρ : ℕ → Role) (ds : List Chain) (count : ℕ) (ns : List Shape) (
 
 -- a number no less than what the shape at a place adds, if it counts
 shape-covered : (count i r : ℕ) (ns : List Shape) → r ≤ 30000000 → (i < count → shape_most (get_or ns i no_shape) ≤ r) → ChainCovered count ns i r
-shape-covered count i r ns f g = record { few = f; covers = λ ρ ds l h w. go ρ ds l h w (nonempty (suc i) ds) refl }
+shape-covered count i r ns f g = record { few = f; covers = λ ρ ds l h. go ρ ds l h (nonempty (suc i) ds) refl }
   where
-    go : (ρ : ℕ → Role) (ds : List Chain) (l : List Lists) → Stood ρ ds (chains_kept count ns l) → AllRoomed ρ ds → (o : Option Chain) → nonempty (suc i) ds ≡ o → chain_most_of (ρ (suc i)) o ≤ r
-    go ρ ds l h w none q = omega arith
-    go ρ ds l h w (some d) q = let z = told ρ ds count ns l h w i d q in omega (arith, z.covered, g z.counted)
+    go : (ρ : ℕ → Role) (ds : List Chain) (l : List Lists) → Stood ρ ds (chains_kept count ns l) → (o : Option Chain) → nonempty (suc i) ds ≡ o → chain_most_of (ρ (suc i)) o ≤ r
+    go ρ ds l h none q = omega arith
+    go ρ ds l h (some d) q = let z = told ρ ds count ns l h i d q in omega (arith, z.covered, g z.counted)
 
 -- past the chains that count
 pub past-covered : (count i : ℕ) (ns : List Shape) → count ≤ i → ChainCovered count ns i 0
@@ -149,16 +153,16 @@ pub line-covered : (t : List ℕ) (k count : ℕ) (ns : List Shape) (a b c d : �
 unfolding line_most most_at
 line-covered t k count ns a b c d p q r s = record { covers = go }
   where
-    go : (x : Class) (swap : Bool) (ds : List Chain) (l : List Lists) → (has_tail x ≡ true → TailOf t k) → StoodIn x ds (chains_kept count ns l) → AllRoomed (role_of x) ds → Each fragment.Told (placed x t ds)
+    go : (x : Class) (swap : Bool) (ds : List Chain) (l : List Lists) → (has_tail x ≡ true → TailOf t k) → StoodIn x ds (chains_kept count ns l) → Each fragment.Told (placed x t ds)
         → length (line_of x swap t ds) ≤ 120 + length t + k + (a + b + c + d)
-    go x swap ds l h g w m =
+    go x swap ds l h g m =
         omega (
           arith,
-          line-most x swap t k ds h m (all-modest (role_of x) ds count ns l g w),
-          p.covers (role_of x) ds l g w,
-          q.covers (role_of x) ds l g w,
-          r.covers (role_of x) ds l g w,
-          s.covers (role_of x) ds l g w,
+          line-most x swap t k ds h m (all-modest (role_of x) ds count ns l g),
+          p.covers (role_of x) ds l g,
+          q.covers (role_of x) ds l g,
+          r.covers (role_of x) ds l g,
+          s.covers (role_of x) ds l g,
         )
 
 -- ---- chains of which none is long
@@ -220,7 +224,7 @@ slight-from m t ds h n v (chain sn r ∷ es) =
     all_append (λ p. p.chain.carbon ≤ m) (place sn r (site_of r n) n v (nonempty sn ds)) _ (slight-place m sn r (site_of r n) n v (nonempty sn ds) (h sn))
     (slight-from m t ds h (atoms_after r n (nonempty sn ds)) (variables_after v (nonempty sn ds)) es)
 
-pub slight-placed : (m : ℕ) (c : Class) (t : List ℕ) (ds : List Chain) (count : ℕ) (ns : List Shape) (l : List Lists) → StoodIn c ds (chains_kept count ns l) → AllRoomed (role_of c) ds → Slight m count ns
+pub slight-placed : (m : ℕ) (c : Class) (t : List ℕ) (ds : List Chain) (count : ℕ) (ns : List Shape) (l : List Lists) → StoodIn c ds (chains_kept count ns l) → Slight m count ns
     → All (λ p. p.chain.carbon ≤ m) (placed c t ds)
 unfolding placed
-slight-placed m c t ds count ns l h w g = slight-from m t ds (all-slight (role_of c) ds count ns l h w m g) 0 0 (elements c)
+slight-placed m c t ds count ns l h g = slight-from m t ds (all-slight (role_of c) ds count ns l h m g) 0 0 (elements c)

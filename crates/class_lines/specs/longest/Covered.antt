@@ -1,14 +1,12 @@
 -- What the contracts of `longest` cite: a number that no line of some chains is longer than. Assumes nothing.
 use Rattle.std.specs.Prelude.{ℕ, suc, ◌≤◌, ◌<◌, min, ◌≡◌, Bool, true, List, length, get_or}
-use Rattle.std.proofs.Math.Option.{some}
 use Rattle.chain_record.specs.plain.Chain.{Chain}
 use Rattle.chain_rules.specs.declared.chain.Role.{Role}
-use Rattle.chain_rules.specs.chain.Features.{groups_on, floating}
 use Rattle.drawn_chain.specs.declared.drawable.Shape.{Shape}
 use Rattle.drawn_chain.specs.declared.rooms.Lists.{Lists}
 use Rattle.request_chains.specs.chain_shapes.Shapes.{no_shape, chains_kept}
 use Rattle.template_rules.specs.declared.Class.{Class}
-use Rattle.template_rules.specs.Template.{role_of, has_tail}
+use Rattle.template_rules.specs.Template.{has_tail}
 use Rattle.template_rules.specs.Drawn.{nonempty, placed}
 use Rattle.template_rules.specs.Written.{line_of}
 use Rattle.chain_rules.specs.chain.Lists.{Each}
@@ -27,24 +25,15 @@ pub record Bounded (m n r : ℕ) : Type 0 where
   pub is : r ≡ n
   pub few : r ≤ m
 
--- a chain has no more groups than its lists have room for
-pub record Roomed (r : Role) (d : Chain) : Type 0 where
-  pub groups : length (groups_on r d) ≤ 18
-  pub floats : length (floating d) ≤ 18
-
--- so has every chain of a request, each in its role
-pub record AllRoomed (ρ : ℕ → Role) (ds : List Chain) : Type 0 where
-  pub each : (sn : ℕ) (d : Chain) → nonempty sn ds ≡ some d → Roomed (ρ sn) d
-
 -- r is no less than what the chain at a place adds to the line of any chains that have these shapes; its sn is one more than its place
 pub record ChainCovered (count : ℕ) (xs : List Shape) (i r : ℕ) : Type 0 where
   pub few : r ≤ 30000000
-  pub covers : (ρ : ℕ → Role) (ds : List Chain) (l : List Lists) → Stood ρ ds (chains_kept count xs l) → AllRoomed ρ ds → chain_most_of (ρ (suc i)) (nonempty (suc i) ds) ≤ r
+  pub covers : (ρ : ℕ → Role) (ds : List Chain) (l : List Lists) → Stood ρ ds (chains_kept count xs l) → chain_most_of (ρ (suc i)) (nonempty (suc i) ds) ≤ r
 
 -- r is no less than the length of the line of any such chains, with a tail t of k atoms
 pub record Covered (t : List ℕ) (k count : ℕ) (xs : List Shape) (r : ℕ) : Type 0 where
   pub covers : (c : Class) (swap : Bool) (ds : List Chain) (l : List Lists) → (has_tail c ≡ true → TailOf t k) → StoodIn c ds (chains_kept count xs l)
-      → AllRoomed (role_of c) ds → Each Told (placed c t ds) → length (line_of c swap t ds) ≤ r
+      → Each Told (placed c t ds) → length (line_of c swap t ds) ≤ r
 
 -- a chain has at most m carbons, and at most m double bonds without a position
 pub record SlightShape (m : ℕ) (x : Shape) : Type 0 where

@@ -287,6 +287,11 @@ pub located-short : (xs : List Mod) (n m : ℕ) → n ≡ min m 16 → length (l
 unfolding located
 located-short xs n m e = omega (arith, length-only (λ g. not (eqb g.pos 0)) (groups_in n xs), length-take n xs)
 
+-- and no more have none
+pub floating-short : (xs : List Mod) (n m : ℕ) → n ≡ min m 16 → length (unlocated (groups_in n xs)) ≤ 16
+unfolding unlocated
+floating-short xs n m e = omega (arith, length-only (λ g. eqb g.pos 0) (groups_in n xs), length-take n xs)
+
 pub bonds-drawn : (r : Role) (d : Chain) (p : Pieces) (k n : ℕ) (ys : List DbPos) → k ≡ length (alkenyl_bond r p.prefix) → n ≡ min p.bond_count 32
     → bonds_in (k + n) ys ≡ take k (alkenyl ∷ []) ++ bonds_in n p.bonds → bonds_in (k + n) ys ≡ doubles r (pieces_as d p)
 unfolding doubles

@@ -5,7 +5,7 @@ use native.Mathlib.Omega.{arith}
 use mathlib.Core.Path.{◌≡◌, refl, ap, ◌∙◌}
 use mathlib.Core.Bool.{Bool, false}
 use mathlib.Core.List.{List, [], ◌∷◌, ◌++◌}
-use lib.ListN.{length, take}
+use lib.ListN.{length, take, length-take}
 use Rattle.chain_record.specs.declared.plain.ChainPrefix.{ChainPrefix}
 use Rattle.chain_record.specs.declared.plain.ChainPrefix.TheVariants as prefix
 use Rattle.chain_record.specs.declared.plain.DbPos.{DbPos}
@@ -18,7 +18,8 @@ use Rattle.chain_rules.specs.chain.Features.{first_drawn, is_acyl, alkenyl_bond,
 use Rattle.chain_rules.specs.chain.Refusals.{is_ether_base}
 use Rattle.drawn_chain.specs.drawable.Drawn.{Drawn, bonds_in, groups_in, drawn_of, Draws}
 use Rattle.drawn_chain.specs.fitted.Fitted.{alkenyl, Parts, Pieces, pieces, pieces_as, Fits}
-use Rattle.drawn_chain.proofs.fitted.Drawing.{bonds-drawn, located-short, plain-groups, groups-drawn, floats-drawn, rings-drawn}
+use Rattle.drawn_chain.proofs.drawable.Held.{held_cut}
+use Rattle.drawn_chain.proofs.fitted.Drawing.{bonds-drawn, located-short, floating-short, plain-groups, groups-drawn, floats-drawn, rings-drawn}
 
 -- ---- the chain with lists that are laid out, its rings those that stood there
 
@@ -38,8 +39,8 @@ module _ (p : ChainPrefix) (carbon unlocated' nb ng nr : ℕ) (ws : List DbPos) 
               ether = h₀;
               unlocated = refl;
               bonds = bonds-drawn r d q added n bs h₄ h₁ h₅;
-              groups = groups-drawn r d q m (located (groups_in m vs)) (groups_in g gs) h₂ refl h₆;
-              floats = floats-drawn d q m (groups_in f fs) h₂ h₇;
+              groups = held_cut g 18 gs (omega (arith, ap length h₆, length-take 18 (located (groups_in m vs) ++ base_oxygens r p (located (groups_in m vs))))) ∙ groups-drawn r d q m (located (groups_in m vs)) (groups_in g gs) h₂ refl h₆;
+              floats = held_cut f 18 fs (omega (arith, ap length h₇, floating-short vs m ng h₂)) ∙ floats-drawn d q m (groups_in f fs) h₂ h₇;
               rings = rings-drawn d q k h₃;
             };
       }

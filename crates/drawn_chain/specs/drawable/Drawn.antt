@@ -69,10 +69,14 @@ pub record Drawn : Type 0 where
   pub floats : List Mod
   pub rings : List Ring
 
--- the drawn chain that numbers and lists of the code say
+-- 01, 31: 16 groups, and a base's own O's
+abbrev pub group_room : ℕ
+group_room = 18
+
+-- the drawn chain that numbers and lists of the code say: of its groups, as many of each sort as there is room for
 abbrev pub drawn_of : Shape → Lists → Drawn
 drawn_of x l =
-    record { first = x.first; carbon = x.carbon; acyl = x.acyl; ether_base = x.ether_base; unlocated = x.unlocated; bond_count = x.bond_count; group_count = x.group_count; float_count = x.float_count; ring_count = x.ring_count; bonds = l.bonds; groups = l.groups; floats = l.floats; rings = l.rings }
+    record { first = x.first; carbon = x.carbon; acyl = x.acyl; ether_base = x.ether_base; unlocated = x.unlocated; bond_count = x.bond_count; group_count = x.group_count; float_count = x.float_count; ring_count = x.ring_count; bonds = l.bonds; groups = take group_room l.groups; floats = take group_room l.floats; rings = l.rings }
 
 -- the lists of a drawn chain
 abbrev pub bonds_drawn : Drawn → List DbPos

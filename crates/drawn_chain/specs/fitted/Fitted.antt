@@ -7,11 +7,8 @@ use Rattle.chain_record.specs.declared.plain.Mod.{Mod}
 use Rattle.chain_record.specs.declared.plain.Ring.{Ring}
 use Rattle.chain_record.specs.plain.Chain.{Chain, max_bonds, max_groups, max_rings}
 use Rattle.chain_rules.specs.declared.chain.Role.{Role}
+pub use Rattle.drawn_chain.specs.drawable.Drawn.{group_room}
 use Rattle.drawn_chain.specs.drawable.Drawn.{Drawn, bonds_in, groups_in, rings_in, Draws}
-
--- 01, 31: 16 groups, and a base's own O's
-abbrev pub group_room : ℕ
-group_room = 18
 
 -- the double bond that `P-` adds
 abbrev pub alkenyl : DbPos
