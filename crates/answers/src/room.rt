@@ -25,11 +25,11 @@ fn is_ample(line: &[u8], index: &[u16], tail: &[u8], tail_atoms: u16, chains: Ch
         return false;
     }
     if class_lines::slight_most(tail, tail_atoms) <= line.len() {
-        if class_lines::are_slight(chains) {
+        if class_lines::are_slight(chains.count, chains.shapes) {
             return true;
         }
     }
-    class_lines::line_most(tail, tail_atoms, chains) <= line.len()
+    class_lines::line_most(tail, tail_atoms, chains.count, chains.shapes) <= line.len()
 }
 
 // Whether a slice is too short, by building the line without room for its text.

@@ -4,8 +4,7 @@ ghost use Rattle.std.specs.Prelude.{◌≡◌, true, ◌≤◌, min};
 ghost use Rattle.class_lines.specs.longest.Longest.{drawn_most, text_most, sites_most};
 ghost use Rattle.class_lines.specs.longest.Covered.{shape_most, Bounded, ChainCovered, Covered, SlightAt, Slight, SlightCovered};
 
-use drawn_chain::Shape;
-use request_chains::Chains;
+use drawn_chain::{MAX_CHAINS, Shape};
 
 // The most groups with a position that a chain has room for, and the most without one.
 const GROUP_ROOM: usize = 18;
@@ -56,13 +55,13 @@ fn shape_most(x: Shape) -> usize
 }
 
 // The chain at a place; one past those that count adds nothing.
-fn chain_most(chains: Chains, i: usize) -> usize
-    ensures { ChainCovered chains.entry.count chains.entry.shapes.now i result }
+fn chain_most(count: usize, i: usize, shapes: &[Shape; MAX_CHAINS]) -> usize
+    ensures { ChainCovered count shapes.now i result }
 {
-    if chains.count <= i {
+    if count <= i {
         return 0;
     }
-    shape_most(request_chains::shape_in(chains.shapes, i))
+    shape_most(request_chains::shape_in(shapes, i))
 }
 
 // A chain with more carbons than this, or more double bonds without a position, is long.
@@ -72,25 +71,24 @@ pub const SLIGHT_CARBONS: u16 = 30;
 const SLIGHT_MOST: usize = 50688;
 
 // Whether the chain at a place is not long; one past those that count is none.
-fn slight_at(chains: Chains, i: usize) -> bool
-    ensures { result ≡ true → SlightAt 30 chains.entry.count chains.entry.shapes.now i }
+fn slight_at(count: usize, i: usize, shapes: &[Shape; MAX_CHAINS]) -> bool
+    ensures { result ≡ true → SlightAt 30 count shapes.now i }
 {
-    if chains.count <= i {
+    if count <= i {
         return true;
     }
-    let x = request_chains::shape_in(chains.shapes, i);
+    let x = request_chains::shape_in(shapes, i);
     x.carbon <= SLIGHT_CARBONS && x.unlocated <= SLIGHT_CARBONS
 }
 
 // Whether no chain is long, as in nearly every request: then little room is needed for their indices, and `slight_most` bounds the line.
-pub fn are_slight(chains: Chains) -> bool
-    ensures { result ≡ true → Slight 30 chains.entry.count chains.entry.shapes.now }
+pub fn are_slight(count: usize, shapes: &[Shape; MAX_CHAINS]) -> bool
+    ensures { result ≡ true → Slight 30 count shapes.now }
 {
     // As a slice, whose length the proof knows.
-    let kept = chains.shapes;
-    let shapes: &[Shape] = kept;
-    for i in 0..shapes.len() {
-        if !slight_at(chains, i) {
+    let kept: &[Shape] = shapes;
+    for i in 0..kept.len() {
+        if !slight_at(count, i, shapes) {
             return false;
         }
     }
@@ -98,13 +96,13 @@ pub fn are_slight(chains: Chains) -> bool
 }
 
 // A line of any class: the tail and its atoms, what the templates have of their own, and the chains.
-pub fn line_most(tail: &[u8], tail_atoms: u16, chains: Chains) -> usize
-    ensures { Covered tail.now tail_atoms chains.entry.count chains.entry.shapes.now result }
+pub fn line_most(tail: &[u8], tail_atoms: u16, count: usize, shapes: &[Shape; MAX_CHAINS]) -> usize
+    ensures { Covered tail.now tail_atoms count shapes.now result }
 {
-    let a = chain_most(chains, 0);
-    let b = chain_most(chains, 1);
-    let c = chain_most(chains, 2);
-    let d = chain_most(chains, 3);
+    let a = chain_most(count, 0, shapes);
+    let b = chain_most(count, 1, shapes);
+    let c = chain_most(count, 2, shapes);
+    let d = chain_most(count, 3, shapes);
     120 + tail.len() + tail_atoms as usize + (a + b + c + d)
 }
 

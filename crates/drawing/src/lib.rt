@@ -164,7 +164,7 @@ pub fn draw_chains(
     if chains.count == 1 {
         return draw_one(line, index, class, swap, tail, tail_atoms, chains);
     }
-    if class_lines::are_slight(chains) {
+    if class_lines::are_slight(chains.count, chains.shapes) {
         return draw_slight(line, index, class, swap, tail, tail_atoms, chains);
     }
     draw_long(line, index, class, swap, tail, tail_atoms, chains)

@@ -67,6 +67,5 @@ pub fn cell_under<'a>(
     requires { Cut row.now starts.now count }
     ensures { result.now ≡ cell_of plan column row.now }
 {
-    let place = plan.places[column.index()];
-    cell_in(row, count, starts, place)
+    cell_of(plan, row, count, starts, column.index())
 }

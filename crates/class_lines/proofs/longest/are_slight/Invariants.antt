@@ -3,4 +3,4 @@ use Rattle.class_lines.specs.longest.Covered.{SlightAt}
 use Rattle.class_lines.proofs.longest.are_slight.Given as goal
 
 abbrev pub invariant-loop-i : goal.invariant-loop-i
-invariant-loop-i l = (k : ℕ) → k < l.i → SlightAt 30 l.chains.count l.chains.shapes.now k
+invariant-loop-i l = (k : ℕ) → k < l.i → SlightAt 30 l.count l.shapes k
