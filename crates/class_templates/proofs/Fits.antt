@@ -30,7 +30,8 @@ module _ (t : List ℕ) (ds : List Chain) where
   own : (b : List ℕ) → atoms_of_pieces (fixed_pieces b) ≤ 255 → Small t ds (fixed b)
   own b h = small-fixed t ds b h
 
-  fine-at : (ρ : ℕ → Role) → AcceptsFrom ρ 1 ds → (sn : ℕ) (d : Chain) → nonempty sn ds ≡ some d → Drawable (ρ sn) d
+  -- a chain that is accepted can be drawn in its role
+  pub fine-at : (ρ : ℕ → Role) → AcceptsFrom ρ 1 ds → (sn : ℕ) (d : Chain) → nonempty sn ds ≡ some d → Drawable (ρ sn) d
   unfolding nonempty
   fine-at ρ z sn d e = go (chain_at sn ds) refl e
     where

@@ -102,23 +102,27 @@ module _ {A : Type 0} {limit : ℕ} {xs : List A} {n : ℕ} {l : List A} (k : Ke
 
 -- ---- one feature more on a chain
 
-pub bond-grows : (room xs ys us : List DbPos) (n m : ℕ) (v : DbPos) → xs ≡ take 32 room → Adds 32 (first n xs) (first m ys) v → Grows bonds_as (first n room) (first m (ys ++ us)) (with_bond v)
+pub bond-grows : (xs ys : List DbPos) (n m : ℕ) (v : DbPos) → Adds 32 (first n xs) (first m ys) v → Grows bonds_as (first n xs) (first m ys) (with_bond v)
 unfolding with_bond
-bond-grows room xs ys us n m v e a =
-    let w = adds-first 32 room xs ys us n m v e a in
-    record { takes = λ x. record { holds = λ d k. record { prefix = k.prefix; written = k.written; carbon = k.carbon; branched = k.branched; unlocated = k.unlocated; oxygens = k.oxygens; bonds = w.keeps d.bonds k.bonds; groups = k.groups; rings = k.rings } } }
+bond-grows xs ys n m v a = record { takes = λ x. record { holds = λ d k. record { prefix = k.prefix; written = k.written; carbon = k.carbon; branched = k.branched; unlocated = k.unlocated; oxygens = k.oxygens; bonds = a.keeps d.bonds k.bonds; groups = k.groups; rings = k.rings } } }
 
-pub group-grows : (room xs ys us : List Mod) (n m : ℕ) (v : Mod) → xs ≡ take 16 room → Adds 16 (first n xs) (first m ys) v → Grows groups_as (first n room) (first m (ys ++ us)) (with_group v)
+pub group-grows : (xs ys : List Mod) (n m : ℕ) (v : Mod) → Adds 16 (first n xs) (first m ys) v → Grows groups_as (first n xs) (first m ys) (with_group v)
 unfolding with_group
-group-grows room xs ys us n m v e a =
-    let w = adds-first 16 room xs ys us n m v e a in
-    record { takes = λ x. record { holds = λ d k. record { prefix = k.prefix; written = k.written; carbon = k.carbon; branched = k.branched; unlocated = k.unlocated; oxygens = k.oxygens; bonds = k.bonds; groups = w.keeps d.groups k.groups; rings = k.rings } } }
+group-grows xs ys n m v a = record { takes = λ x. record { holds = λ d k. record { prefix = k.prefix; written = k.written; carbon = k.carbon; branched = k.branched; unlocated = k.unlocated; oxygens = k.oxygens; bonds = k.bonds; groups = a.keeps d.groups k.groups; rings = k.rings } } }
 
-pub ring-grows : (room xs ys us : List Ring) (n m : ℕ) (v : Ring) → xs ≡ take 8 room → Adds 8 (first n xs) (first m ys) v → Grows rings_as (first n room) (first m (ys ++ us)) (with_ring v)
+pub ring-grows : (xs ys : List Ring) (n m : ℕ) (v : Ring) → Adds 8 (first n xs) (first m ys) v → Grows rings_as (first n xs) (first m ys) (with_ring v)
 unfolding with_ring
-ring-grows room xs ys us n m v e a =
-    let w = adds-first 8 room xs ys us n m v e a in
-    record { takes = λ x. record { holds = λ d k. record { prefix = k.prefix; written = k.written; carbon = k.carbon; branched = k.branched; unlocated = k.unlocated; oxygens = k.oxygens; bonds = k.bonds; groups = k.groups; rings = w.keeps d.rings k.rings } } }
+ring-grows xs ys n m v a = record { takes = λ x. record { holds = λ d k. record { prefix = k.prefix; written = k.written; carbon = k.carbon; branched = k.branched; unlocated = k.unlocated; oxygens = k.oxygens; bonds = k.bonds; groups = k.groups; rings = a.keeps d.rings k.rings } } }
+
+-- the same where the element is added in the first places of an array with more room
+pub bond-grows-in : (room xs ys us : List DbPos) (n m : ℕ) (v : DbPos) → xs ≡ take 32 room → Adds 32 (first n xs) (first m ys) v → Grows bonds_as (first n room) (first m (ys ++ us)) (with_bond v)
+bond-grows-in room xs ys us n m v e a = bond-grows room (ys ++ us) n m v (adds-first 32 room xs ys us n m v e a)
+
+pub group-grows-in : (room xs ys us : List Mod) (n m : ℕ) (v : Mod) → xs ≡ take 16 room → Adds 16 (first n xs) (first m ys) v → Grows groups_as (first n room) (first m (ys ++ us)) (with_group v)
+group-grows-in room xs ys us n m v e a = group-grows room (ys ++ us) n m v (adds-first 16 room xs ys us n m v e a)
+
+pub ring-grows-in : (room xs ys us : List Ring) (n m : ℕ) (v : Ring) → xs ≡ take 8 room → Adds 8 (first n xs) (first m ys) v → Grows rings_as (first n room) (first m (ys ++ us)) (with_ring v)
+ring-grows-in room xs ys us n m v e a = ring-grows room (ys ++ us) n m v (adds-first 8 room xs ys us n m v e a)
 
 -- nothing on it yet, whatever the arrays are
 pub holds-none : (p : ChainPrefix) (w c : ℕ) (b : Bool) (bs : List DbPos) (gs : List Mod) (rs : List Ring)

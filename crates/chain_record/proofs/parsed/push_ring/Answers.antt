@@ -1,5 +1,5 @@
-use Rattle.chain_record.proofs.parsed.Laws.{ring-grows}
+use Rattle.chain_record.proofs.parsed.Laws.{ring-grows-in}
 use Rattle.chain_record.proofs.parsed.push_ring.Goals as goal
 
 pub returns : goal.returns
-returns c = search (ring-grows, c.in-Some.ensures)
+returns c = search (ring-grows-in, c.in-Some.ensures)
